@@ -1,6 +1,6 @@
-# What ./quic-run and ./quic-peer share, each of which sources this and calls run_program: a proved
-# build of a program is used where there is one of the present sources, made where it is asked for,
-# and else the program is run as it stands, unproved.
+# What ./quic-run and ./quic-peer share, each of which sources this and calls run_program: a build of
+# a program is used where there is one of the present sources, a proved one before a native one, or
+# made where it is asked for; else the program is run as it stands, unproved.
 #
 # It needs `top`, the top of the repository; `command`, the name of the script; `program`, the crate
 # of the program; and `input`, the name of the file that the program reads.
@@ -21,41 +21,36 @@ help() {
   sed -n '2,/^[^#]/s/^# \{0,1\}//p' "$top/$command"
 }
 
-# ---- proved builds
-
-# The digest of each source.
-source_digests() {
-  {
-    echo crates.txt
-    find crates -name out -prune -o -type f \( -name '*.rt' -o -name '*.antt' \) -print
-  } | LC_ALL=C sort | tr '\n' '\0' | xargs -0 sha256sum
+# Says what is missing on the PATH, if something is, and ends.
+need_tools() {
+  local tool
+  for tool in rt python3; do
+    if ! command -v "$tool" > /dev/null; then
+      say "there is no $tool on the PATH: the toolchain is needed, and Python 3"
+      exit 127
+    fi
+  done
 }
 
-# A digest of everything that the program is made of, the toolchain and the sources. It is empty
-# where one of them can't be read.
+# ---- builds
+
+# Sets what a proved build of the present sources is known by, and what a native one is: nothing
+# where these can't be digested.
 digest() {
-  local toolchain sources
-  cd "$top" && toolchain=$(rt version < /dev/null) && sources=$(source_digests) || return 1
-  printf '%s\n' "$toolchain" "$sources" | sha256sum | cut -d ' ' -f 1
+  local digests
+  digests=$(python3 "$top/native/sources.py" "$top/crates/$program") || digests=''
+  of_proved=${digests%%$'\n'*}
+  of_native=${digests##*$'\n'}
 }
 
-# is_kept DIGEST: whether there is a proved build with this digest. An empty one is none.
+# is_kept BUILD DIGEST: whether there is this build, with this digest. An empty one is none.
 is_kept() {
-  [ -n "$1" ] && [ -x "$kept" ] && [ "$(cat "$kept.digest" 2>/dev/null)" = "$1" ]
+  [ -n "$2" ] && [ -x "$1" ] && [ "$(head -n 1 "$1.digest" 2>/dev/null)" = "$2" ]
 }
 
 # Of how many crates of the repository the program is made, itself among them.
 count_crates() {
-  awk -v root="$program" '
-    function visit(name,   i, n, below) {
-      if (name in seen || !(name in needs)) return
-      seen[name]
-      count++
-      n = split(needs[name], below, " ")
-      for (i = 1; i <= n; i++) visit(below[i])
-    }
-    /^[a-z]/ { i = index($0, ":"); needs[substr($0, 1, i - 1)] = substr($0, i + 1) }
-    END { visit(root); print count }' "$top/crates.txt"
+  python3 "$top/native/sources.py" --crates "$top/crates/$program"
 }
 
 # Says to which crate the proof has come, of how many at most: crates that an earlier run kept are
@@ -100,20 +95,25 @@ prove() {
   fi
 }
 
-# build DIGEST: proves and builds the program, and keeps it under this digest if it is the same
-# behind the proof.
-build() {
-  local begun=$SECONDS
-  [ -n "$1" ] || refuse "the sources and the toolchain can't be digested"
+# Proves and builds the program, and keeps it if the sources are the same behind the proof.
+build_proved() {
+  local begun=$SECONDS before=$of_proved
+  [ -n "$before" ] || refuse "the sources and the toolchain can't be digested"
   say "proving the program and the $(($(count_crates) - 1)) crates below it: up to an hour the first time"
   prove
-  mkdir -p "$top/out" && cp "$top/crates/$program/out/$program" "$kept.new" || exit 1
-  if [ "$(digest)" != "$1" ]; then
-    rm -f "$kept.new"
+  mkdir -p "$top/out" && cp "$top/crates/$program/out/$program" "$proved.new" || exit 1
+  digest
+  if [ "$of_proved" != "$before" ]; then
+    rm -f "$proved.new"
     refuse 'a source or the toolchain changed during the proof, so the build is not kept'
   fi
-  rm -f "$kept.digest" && mv "$kept.new" "$kept" && echo "$1" > "$kept.digest" || exit 1
+  rm -f "$proved.digest" && mv "$proved.new" "$proved" && echo "$before" > "$proved.digest" || exit 1
   say "proved and built in $((SECONDS - begun)) seconds"
+}
+
+# Builds the program without proof, and keeps it.
+build_native() {
+  "$top/native/build" "$top/crates/$program" "$native" || refuse 'there is no native build'
 }
 
 # ---- runs
@@ -128,11 +128,11 @@ explain() {
   fi
 }
 
-# Runs the proved build on standard input. Of one that isn't a file ./quic-run keeps a copy as it is
-# read, to explain a bad command: what the program reads stands there before. ./quic-peer keeps none,
-# as programs drive it.
+# run_kept BUILD: runs a build on standard input. Of one that isn't a file ./quic-run keeps a copy as
+# it is read, to explain a bad command: what the program reads stands there before. ./quic-peer keeps
+# none, as programs drive it.
 run_kept() {
-  local copying status
+  local kept=$1 copying status
   if [ -n "$file" ]; then
     "$kept" 2> "$work/said"
     status=$?
@@ -160,14 +160,14 @@ tell_limit() {
   if grep -q 'wrote more than' "$work/said"; then
     limit='prints more than 1 MiB'
   fi
-  say "too long for an unproved run: it $limit. These are its last answers till then; --proved sets no limit"
+  say "too long for an unproved run: it $limit. These are its last answers till then; with --native and --proved there is no limit"
   sed -n 's/^| //p' "$work/said" >&2
 }
 
 # Runs the program unproved on standard input, without what the runner itself says at the end.
 try() {
   local status
-  say 'running unproved, which takes about a minute of processor time; answers come at its end (--proved proves it first)'
+  say 'running unproved, which takes about a minute of processor time; answers come at its end (--native builds it first, --proved proves it)'
   if [ -z "$file" ]; then
     file=$work/input
     cat > "$file"
@@ -200,36 +200,47 @@ open_input() {
   fi
 }
 
-# run_program [--proved] [FILE], run_program --is-proved, run_program --help: what the script does.
+# run_program [--native | --proved] [FILE], and with --is-proved, --is-built or --help alone: what the
+# script does.
 run_program() {
-  local now proved=no file='' kept=$top/out/$program
+  local asked='' file='' proved=$top/out/$program native=$top/out/$program.native of_proved of_native
   case ${1-} in
     -h | --help)
       help
       exit
       ;;
-    --is-proved)
-      is_kept "$(digest)"
+    --is-proved | --is-built)
+      need_tools
+      digest
+      is_kept "$proved" "$of_proved" || { [ "$1" = --is-built ] && is_kept "$native" "$of_native"; }
       exit
       ;;
-    --proved)
-      proved=yes
+    --native | --proved)
+      asked=${1#--}
       shift
       ;;
   esac
   if [ $# -gt 1 ] || [[ ${1-} == -?* ]]; then
-    echo "usage: $command [--proved] [$input], or $command --help" >&2
+    echo "usage: $command [--native | --proved] [$input], or $command --help" >&2
     exit 1
   fi
+  need_tools
   open_input "$@"
-  now=$(digest)
+  digest
   work=$(mktemp -d) || exit 1
   trap 'rm -rf "$work"' EXIT
-  if [ "$proved" = yes ] && ! is_kept "$now"; then
-    build "$now"
+  if is_kept "$proved" "$of_proved"; then
+    run_kept "$proved"
+  elif [ "$asked" = proved ]; then
+    build_proved
+    run_kept "$proved"
   fi
-  if is_kept "$now"; then
-    run_kept
+  if [ "$asked" = native ] && ! is_kept "$native" "$of_native"; then
+    build_native
+  fi
+  if is_kept "$native" "$of_native"; then
+    say "$(sed -n 2p "$native.digest") (--proved proves it, in up to an hour)"
+    run_kept "$native"
   fi
   try
 }

@@ -183,6 +183,8 @@ def script_line(words):
     """Takes a line of a script: why it may be refused nevertheless."""
     if words[0] == "settle":
         behind("settle", [("T", natural)], words[1:])
+    elif words[0] in (*CALLS, *OF_SCRIPTS, "set"):
+        raise Bad(f"`{words[0]}` stands behind c or s, the endpoint that it is for")
     else:
         one_of("c", "s", "settle")(words[0])
         call({**CALLS, **OF_SCRIPTS}, words[1:])

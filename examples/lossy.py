@@ -1,11 +1,11 @@
 #!/usr/bin/env python3
 """Moves a file as transfer.py does, through a proxy that loses datagrams and changes their order.
 
-    ./quic-peer --proved < /dev/null    # once: proves and builds the program, in up to an hour
-    python3 examples/lossy.py FILE [SEED]
+    python3 examples/lossy.py [--native] FILE [SEED]
 
 The proxy stands between the two endpoints, in this same program. Of the datagrams that pass it, it
-loses some, and delays some, so that later ones overtake them. Which ones, the seed says.
+loses some, and delays some, so that later ones overtake them. Which ones, the seed says. With
+--native it first builds the program of the endpoints, as transfer.py does.
 """
 import random
 import sys

@@ -1,8 +1,8 @@
 #!/usr/bin/env python3
 """Prints a script and its answers as qlog, which qvis (https://qvis.quictools.info) draws.
 
-    python3 examples/qlog.py SCRIPT            runs the script by ./quic-run
-    python3 examples/qlog.py SCRIPT ANSWERS    takes what ./quic-run printed of it
+    python3 examples/qlog.py [--native] SCRIPT   runs the script by ./quic-run, with this option
+    python3 examples/qlog.py SCRIPT ANSWERS      takes what ./quic-run printed of it
 
 A trace for each endpoint has the datagrams that it sent and received, with their frames, its calls
 of streams, and what its application was told. The stand-in keys leave payloads to be read by
@@ -192,12 +192,12 @@ def showing(text):
         yield from (f"{side} show {index}" for index in range(polls + more))
 
 
-def run(text):
+def run(text, options):
     """Runs a script, with its datagrams shown behind it: that script, and its answers."""
     shown = text if text.endswith("\n") or not text else text + "\n"
     shown += "".join(line + "\n" for line in showing(text))
     ran = subprocess.run(
-        [os.path.join(TOP, "quic-run")],
+        [os.path.join(TOP, "quic-run"), *options],
         input=shown.encode(errors="surrogateescape"),
         stdout=subprocess.PIPE,
     )
@@ -378,12 +378,14 @@ def main():
     if words in (["-h"], ["--help"]):
         print(__doc__.strip())
         return 0
-    if len(words) not in (1, 2):
+    options = [word for word in words[:1] if word == "--native"]
+    words = words[len(options) :]
+    if len(words) not in (1, 2) or options and len(words) == 2:
         print(__doc__.strip(), file=sys.stderr)
         return 2
     try:
         text = contents(words[0])
-        text, answers = (text, contents(words[1])) if len(words) == 2 else run(text)
+        text, answers = (text, contents(words[1])) if len(words) == 2 else run(text, options)
         found = told(text, [line for line in answers.split("\n") if line])
     except Failed as failed:
         print(f"qlog.py: {failed}", file=sys.stderr)

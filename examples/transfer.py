@@ -1,8 +1,10 @@
 #!/usr/bin/env python3
 """Moves a file between the two endpoints of a connection over UDP on loopback, there and back.
 
-    ./quic-peer --proved < /dev/null    # once: proves and builds the program, in up to an hour
-    python3 examples/transfer.py FILE
+    python3 examples/transfer.py [--native] FILE
+
+With --native it first builds the program of the endpoints, if there is no build: in about two
+minutes of processor time, unproved. `./quic-peer --proved < /dev/null` proves it, in up to an hour.
 
 Each endpoint is a `quic-peer` process with a socket of its own, driven by the lines of
 docs/PEER.md. The client writes the file to a stream, and the server sends back what it read there;
@@ -67,6 +69,7 @@ class Endpoint:
         self.notice = self.process.stdout.readline().decode().strip()
         self.socket = bound_socket()
         self.id = secrets.token_hex(8)
+        self.ask("set", "pcg", secrets.randbits(64))  # Else all IDs that it draws are alike.
         self.ask("set", "idle", IDLE)
         (self.parameters,) = self.ask("params")
         self.peer = None  # Where datagrams go.
@@ -126,7 +129,7 @@ class Endpoint:
             if event == ["none"]:
                 return
             if event[0] == "lost":
-                self.part(event[1])
+                self.part(*event[1:])
             if event[0] == "opened":
                 self.readable.update(self.ask("accept", event[1]))
             if event[0] == "readable":
@@ -134,11 +137,13 @@ class Endpoint:
             if event[0] == "writable":
                 self.writable.add(event[1])
 
-    def part(self, reason):
-        """The connection is lost for this reason, which is a fault unless it is to be closed."""
+    def part(self, reason, *said):
+        """The connection is lost for this reason, which is a fault unless it is to be closed. A peer
+        that closed it said by which kind of close, with which code and with which text."""
         self.lost = reason
         if not self.parting:
-            raise Failed(f"endpoint {self.side} lost the connection: {LOST.get(reason, reason)}")
+            why = " ".join([LOST.get(reason, reason), *said])
+            raise Failed(f"endpoint {self.side} lost the connection: {why}")
 
     def send(self):
         """Sends the datagrams that are ready: whether there may be more."""
@@ -251,12 +256,24 @@ def contents(path):
         raise Failed(f"{path}: {error.strerror}")
 
 
+def need_build():
+    """The program of the endpoints has to be built: with --native it is, where it isn't yet."""
+    status = subprocess.run([PROGRAM, "--is-built"]).returncode
+    if status == 1 and sys.argv[1:2] == ["--native"]:
+        quiet = {"stdin": subprocess.DEVNULL, "stdout": subprocess.DEVNULL}
+        status = subprocess.run([PROGRAM, "--native"], **quiet).returncode
+    elif status == 1:
+        raise Failed(
+            "there is no build: --native makes one, unproved, in about two minutes; "
+            "./quic-peer --proved < /dev/null proves it, in up to an hour"
+        )
+    if status != 0:
+        sys.exit(status)
+
+
 def two_endpoints():
     """A client and a server, which aren't made yet."""
-    if subprocess.run([PROGRAM, "--is-proved"]).returncode != 0:
-        raise Failed(
-            "there is no proved build: first run ./quic-peer --proved < /dev/null, which takes up to an hour"
-        )
+    need_build()
     client, server = Endpoint("c"), Endpoint("s")
     print(client.notice)
     return client, server
@@ -293,6 +310,8 @@ def main(name, usage, least, most, act):
     if words in (["-h"], ["--help"]):
         print(usage.strip())
         return 0
+    if words[:1] == ["--native"]:
+        del words[0]
     if not least <= len(words) <= most:
         print(usage.strip(), file=sys.stderr)
         return 2

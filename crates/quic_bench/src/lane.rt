@@ -10,9 +10,8 @@ pub const ONE_WAY: u64 = 10_000_000;
 /// How long a late one is.
 const LATE: u64 = 13_000_000;
 
-/// The most bytes of a datagram that goes through; a longer one is lost. It is the room of a buffer
-/// too.
-pub const LANE_MTU: u16 = 1200;
+/// How many bytes of a datagram every lane carries.
+pub const LEAST_MTU: u16 = 1200;
 
 /// The most buffers that are kept to be used again.
 const MAX_SPARE: usize = 4096;
@@ -32,6 +31,8 @@ pub struct Datagram {
 #[derive(Drop)]
 pub struct Lane {
     alloc: Global,
+    /// The most bytes of a datagram that goes through; a longer one is lost.
+    mtu: u16,
     /// The state of the generator that says what happens to a datagram.
     random: u64,
     /// How many of 1000 datagrams are lost.
@@ -49,10 +50,11 @@ pub struct Lane {
 }
 
 impl Lane {
-    /// A lane without loss.
-    pub fn new(alloc: Global) -> Self {
+    /// A lane without loss, which carries datagrams of so many bytes.
+    pub fn new(alloc: Global, mtu: u16) -> Self {
         Lane {
             alloc,
+            mtu,
             random: 0,
             loss: 0,
             late_share: 0,
@@ -70,6 +72,11 @@ impl Lane {
         self.random = seed;
         self.loss = loss;
         self.late_share = late_share;
+    }
+
+    /// From now on it carries datagrams of so many bytes. What is under way arrives.
+    pub fn shrink(&mut self, mtu: u16) {
+        self.mtu = mtu;
     }
 
     /// A datagram came too late for its end to tell whether it came before: it counts as lost.
@@ -100,7 +107,7 @@ impl Lane {
     pub fn buffer(&mut self) -> Result<Vec<u8>, AllocError> {
         match self.spare.pop() {
             Some(buffer) => Ok(buffer),
-            None => Vec::with_capacity(self.alloc, usize::from(LANE_MTU)),
+            None => Vec::with_capacity(self.alloc, usize::from(self.mtu)),
         }
     }
 
@@ -126,7 +133,7 @@ impl Lane {
     ) -> Result<(), AllocError> {
         let word = self.draw();
         self.sent = self.sent.wrapping_add(1);
-        if word % 1000 < self.loss || bytes.len() > usize::from(LANE_MTU) {
+        if word % 1000 < self.loss || bytes.len() > usize::from(self.mtu) {
             self.lost = self.lost.wrapping_add(1);
             self.give_back(bytes);
         } else if (word >> 32) % 1000 < self.late_share {

@@ -12,6 +12,11 @@
 //! - `unread`, with the same names: nothing is read before all is acknowledged.
 //! - `duplex bytes=`: so many bytes go each way at the same time.
 //! - `growth bytes= times=`: as `bulk`, so many times on one connection, a line for each.
+//! - `shrink bytes= back= first= then=`: so many bytes go on one stream, to the client if `back`
+//!   isn't 0, by ends that look for a larger path MTU by the default settings. The lanes carry
+//!   datagrams of `first` bytes (1452 unless it is said), and of `then` bytes (1200) once half of
+//!   the bytes have arrived. A line in front of the figures says which size the end that writes
+//!   has by then, and how many black holes it found.
 //! - `streams count= size= open= idle=`: so many streams of so many bytes, `open` at once, beside
 //!   `idle` that stay open.
 //! - `idle count=`: so many streams are opened, have a byte each, and stay open.
@@ -55,6 +60,7 @@ mod messages;
 mod pair;
 mod requests;
 mod sender;
+mod shrink;
 mod streams;
 mod task;
 
@@ -73,7 +79,7 @@ use std::time::CpuClock;
 
 /// What `check` does: each line is a task. With 17,000 streams beside an idle one, its id falls out
 /// of the ring in which the others stand.
-const CHECKS: [&str; 41] = [
+const CHECKS: [&str; 49] = [
     "bulk bytes=300001 verify=1",
     "bulk bytes=300001 verify=1 loss=50 reorder=50 seed=7",
     "bulk bytes=300001 verify=1 threshold=9",
@@ -81,6 +87,14 @@ const CHECKS: [&str; 41] = [
     "unread bytes=100000 window=100000",
     "duplex bytes=100000",
     "growth bytes=100000 times=2 batch=32",
+    "shrink first=1200",
+    "shrink",
+    "shrink first=1200 back=1",
+    "shrink back=1",
+    "shrink first=1200 loss=20 seed=1",
+    "shrink loss=20 seed=1",
+    "shrink first=1200 loss=20 seed=1 back=1",
+    "shrink loss=20 seed=1 back=1",
     "streams count=200 size=100 open=10",
     "streams count=200 size=100 open=10 idle=200",
     "streams count=17000 size=1 open=100 idle=1",
@@ -148,6 +162,7 @@ fn work<R: Runtime + CpuClock + AllocGlobal>(
     match workload {
         Workload::Bulk { plan } => bulk::run(rt, pair, &plan),
         Workload::Growth { bytes, .. } => bulk::run(rt, pair, &Plan::of(bytes)),
+        Workload::Shrink { plan } => shrink::run(rt, pair, &plan),
         Workload::Streams {
             count,
             size,

@@ -4,7 +4,7 @@
 //! until it gives nothing. Then the next moment is the least of timers and arrivals.
 use crate::fault::Fault;
 use crate::figures::{Figures, Watch};
-use crate::lane::{Datagram, LANE_MTU, Lane, ONE_WAY, earlier};
+use crate::lane::{Datagram, LEAST_MTU, Lane, ONE_WAY, earlier};
 use quic_connection::{
     AckFrequencyConfig, Config, ConfigError, Connection, DropReason, EcnCodepoint, Ends, Instant,
     Making, NewReno, NewRenoConfig, Received, TransportConfig,
@@ -48,6 +48,10 @@ pub struct Limits {
     /// How many packets that ask for an acknowledgement the peer is asked to take without one; none
     /// where it isn't asked.
     pub threshold: Option<VarInt>,
+    /// Whether each end looks for a larger path MTU, by the default settings.
+    pub searches: bool,
+    /// How many bytes of a datagram the lanes carry at first.
+    pub mtu: u16,
 }
 
 impl Limits {
@@ -57,6 +61,8 @@ impl Limits {
             streams: self.streams,
             window: self.window,
             threshold: self.threshold,
+            searches: self.searches,
+            mtu: self.mtu,
         }
     }
 }
@@ -132,13 +138,15 @@ fn id_of(side: Side) -> ConnectionId {
     }
 }
 
-/// The settings of an end. Datagrams keep the size of the lanes, and no idle timeout runs, so that
-/// both ends can rest.
+/// The settings of an end. Datagrams keep the size that every lane carries, unless a larger one is
+/// looked for, and no idle timeout runs, so that both ends can rest.
 fn transport(limits: &Limits) -> TransportConfig {
     let mut transport = TransportConfig::default();
-    transport.initial_mtu(LANE_MTU);
-    transport.min_mtu(LANE_MTU);
-    transport.mtu_discovery_config(None);
+    transport.initial_mtu(LEAST_MTU);
+    transport.min_mtu(LEAST_MTU);
+    if !limits.searches {
+        transport.mtu_discovery_config(None);
+    }
     transport.max_idle_timeout(None);
     transport.max_concurrent_uni_streams(limits.streams);
     transport.max_concurrent_bidi_streams(limits.streams);
@@ -187,8 +195,8 @@ impl Pair {
         let ends = boxed(alloc, new_ends(alloc, limits)?)?;
         Ok(Pair {
             ends,
-            up: Lane::new(alloc),
-            down: Lane::new(alloc),
+            up: Lane::new(alloc, limits.mtu),
+            down: Lane::new(alloc, limits.mtu),
             limits: limits.copied(),
             batch,
             now: 0,
@@ -229,6 +237,12 @@ impl Pair {
         } = network;
         self.up.disturb(seed, loss, reorder);
         self.down.disturb(!seed, loss, reorder);
+    }
+
+    /// Both lanes carry datagrams of so many bytes from now on.
+    pub fn shrink(&mut self, mtu: u16) {
+        self.up.shrink(mtu);
+        self.down.shrink(mtu);
     }
 
     /// Begins to count anew.

@@ -2,7 +2,9 @@
 use crate::application::PATTERN;
 use crate::bulk::Plan;
 use crate::hostile::attack::{self, Attack};
+use crate::lane::LEAST_MTU;
 use crate::pair::{Limits, Network};
+use crate::shrink;
 use anyhow::Result;
 use quic_wire_core::VarInt;
 use std::alloc::{AllocError, Global};
@@ -11,6 +13,9 @@ use std::str::SplitWhitespace;
 
 /// How many bytes may come of a stream before any is read, unless it is said.
 const DEFAULT_WINDOW: u64 = 1_250_000;
+
+/// The largest path MTU that an end looks for by its default settings.
+const FOUND_MTU: u16 = 1452;
 
 /// A workload, with its values.
 #[derive(Clone, Copy)]
@@ -23,6 +28,10 @@ pub enum Workload {
     Growth {
         bytes: u64,
         times: u64,
+    },
+    /// Bytes on one stream, and a path that shrinks.
+    Shrink {
+        plan: shrink::Plan,
     },
     /// So many streams of so many bytes, so many open at once, beside so many that stay open.
     Streams {
@@ -108,6 +117,13 @@ impl Values {
         self.given.remove(name).unwrap_or(default)
     }
 
+    /// The size of a datagram of this name, which is no less than every lane carries, or another
+    /// where it isn't given.
+    fn size(&mut self, name: &str, default: u16) -> u16 {
+        let size = self.take(name, u64::from(default));
+        u16::try_from(size).unwrap_or(u16::MAX).max(LEAST_MTU)
+    }
+
     /// How one stream goes of this many bytes, unless they say another number.
     fn plan(&mut self, bytes: u64, waits: bool) -> Plan {
         Plan {
@@ -117,6 +133,18 @@ impl Values {
             read: self.take("read", u64::MAX) as usize,
             waits,
             idle: self.take("idle", 0),
+        }
+    }
+
+    /// A path that shrinks, as they say.
+    fn shrink(&mut self) -> Workload {
+        Workload::Shrink {
+            plan: shrink::Plan {
+                bytes: self.take("bytes", 4 << 20),
+                goes_back: self.take("back", 0) != 0,
+                first: self.size("first", FOUND_MTU),
+                then: self.size("then", LEAST_MTU),
+            },
         }
     }
 
@@ -177,6 +205,7 @@ impl Values {
                 bytes: self.take("bytes", 16 << 20),
                 times: self.take("times", 4),
             },
+            "shrink" => self.shrink(),
             "streams" => self.streams(),
             "messages" => Workload::Messages {
                 count: self.take("count", 1_000_000),
@@ -274,7 +303,17 @@ impl Task {
                 Some(threshold) => Some(VarInt::from_u64(threshold)?),
                 None => None,
             },
+            searches: matches!(self.workload, Workload::Shrink { .. }),
+            mtu: self.mtu(),
         })
+    }
+
+    /// How many bytes of a datagram the lanes carry at first.
+    fn mtu(&self) -> u16 {
+        match self.workload {
+            Workload::Shrink { plan } => plan.first,
+            _ => LEAST_MTU,
+        }
     }
 
     /// How many streams of each kind an end lets the other have open at once. Beside idle ones it
@@ -308,6 +347,7 @@ impl Task {
             Workload::Idle { .. } => "idle",
             Workload::Connections { .. } => "connections",
             Workload::Growth { .. } => "growth",
+            Workload::Shrink { .. } => "shrink",
             Workload::Streams { .. } => "streams",
             Workload::Messages { .. } => "messages",
             Workload::Hostile { plan } => plan.attack.name(),

@@ -7,9 +7,9 @@ abbrev pub max_udp_payload : ℕ
 max_udp_payload = 65527
 
 -- how many ids of its peer an end keeps (RFC 9000, section 18.2, active_connection_id_limit: at
--- least two; five are our choice)
+-- least two; eight are our choice)
 abbrev pub ids_kept : ℕ
-ids_kept = 5
+ids_kept = 8
 
 -- a search again after the interval, up to the bound, after a black hole when it has cooled down,
 -- in steps of at least the least change

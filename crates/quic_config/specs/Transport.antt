@@ -175,7 +175,7 @@ told_frame_size (Some size) = min size 65535
 -- what the peer is told of the settings (RFC 9000, section 18.2): every stream has the same window.
 -- The rest is the same for every end: it takes UDP payloads of any size, shifts delays by 3 bits,
 -- holds acknowledgements back for at most 25 ms and, where it can be asked when to acknowledge, for
--- 1000 microseconds at least, and keeps 5 ids
+-- 1000 microseconds at least, and keeps 8 ids
 abbrev pub parameters_of : Settings → ParameterValues
 parameters_of s = record {
   max_idle_timeout = told_timeout s.max_idle_timeout;

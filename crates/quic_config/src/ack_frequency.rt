@@ -6,8 +6,8 @@ use quic_time::Duration;
 use quic_wire_core::VarInt;
 use std::marker::Model;
 
-/// How an end asks its peer to acknowledge (QUIC Acknowledgement Frequency; quinn-proto's
-/// `AckFrequencyConfig`).
+/// What an endpoint requests of its peer's acknowledgements (QUIC Acknowledgement Frequency;
+/// quinn-proto's `AckFrequencyConfig`).
 #[derive(Clone, Copy, Debug)]
 pub struct AckFrequencyConfig {
     ack_eliciting_threshold: VarInt,
@@ -67,7 +67,7 @@ impl AckFrequencyConfig {
         self
     }
 
-    /// How many packets that ask for an acknowledgement the peer may take before it sends one.
+    /// How many ack-eliciting packets the peer may take before it sends an acknowledgement.
     pub fn threshold(&self) -> VarInt
         ensures { result ≡ self.now.threshold }
     {
@@ -92,7 +92,7 @@ impl AckFrequencyConfig {
 impl Default for AckFrequencyConfig {
     ghost is_default = { λ c. c ≡ default_frequency };
 
-    /// More than one packet that asks, the peer's own delay, two packets out of order.
+    /// More than one ack-eliciting packet, the peer's own delay, two packets out of order.
     fn default() -> AckFrequencyConfig {
         AckFrequencyConfig {
             ack_eliciting_threshold: VarInt::from_u32(1),

@@ -8,8 +8,8 @@ use std::marker::Model;
 /// The greatest size that a UDP payload may have here, in bytes.
 pub const MAX_UDP_PAYLOAD: u16 = 65527;
 
-/// How an end looks for the greatest size of a datagram that its path carries (RFC 8899;
-/// quinn-proto's `MtuDiscoveryConfig`).
+/// How path MTU discovery probes for the greatest size of a datagram that the path carries (RFC
+/// 8899; quinn-proto's `MtuDiscoveryConfig`).
 #[derive(Clone, Copy, Debug)]
 pub struct MtuDiscoveryConfig {
     interval: Duration,
@@ -42,14 +42,14 @@ impl Model for MtuDiscoveryConfig {
 }
 
 impl MtuDiscoveryConfig {
-    /// How long after the end of a search the next one begins.
+    /// How long after a search is complete the next one begins.
     pub fn search_interval(&self) -> Duration
         ensures { result ≡ self.now.interval }
     {
         self.interval
     }
 
-    /// The greatest size that is looked for, in bytes.
+    /// The greatest size that is probed, in bytes.
     pub fn size_bound(&self) -> u16
         ensures value { result ≡ self.now.upper_bound }
         ensures bound { result ≤ max_udp_payload }
@@ -72,7 +72,7 @@ impl MtuDiscoveryConfig {
         self.minimum_change
     }
 
-    /// The same, of which the steps are seen.
+    /// These settings, of which the prover sees that the least change is 2 bytes or more.
     pub(crate) fn stepped(self) -> Self
         ensures same { result ≡ self }
         ensures steps { 2 ≤ self.least_change }
@@ -80,7 +80,7 @@ impl MtuDiscoveryConfig {
         self
     }
 
-    /// How long after the end of a search the next one begins, a [`Duration`]. The default is 600
+    /// How long after a search is complete the next one begins, a [`Duration`]. The default is 600
     /// seconds.
     pub fn interval(&mut self, value: Duration) -> &mut Self
         ensures same_reference { result.ghost_name ≡ self.entry.ghost_name }
@@ -90,8 +90,8 @@ impl MtuDiscoveryConfig {
         self
     }
 
-    /// The greatest size that is looked for, in bytes. More than 65527 is cut to 65527. The default
-    /// is 1452 bytes.
+    /// The greatest size that is probed, in bytes. More than 65527 is cut to 65527. The default is
+    /// 1452 bytes.
     pub fn upper_bound(&mut self, value: u16) -> &mut Self
         ensures same_reference { result.ghost_name ≡ self.entry.ghost_name }
         ensures value { result.now ≡ record self.old { upper_bound = min value max_udp_payload } }

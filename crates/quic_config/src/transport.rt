@@ -15,7 +15,7 @@ const INITIAL_MTU: u16 = 1200;
 
 /// How many ids an end keeps of its peer: as many as it allows it (RFC 9000, section 18.2,
 /// active_connection_id_limit).
-pub const IDS_KEPT: u32 = 5;
+pub const IDS_KEPT: u32 = 8;
 
 /// How long a connection may be without a packet, in milliseconds (RFC 9000, section 10.1;
 /// quinn-proto's `IdleTimeout`). Contracts see the number.
@@ -62,8 +62,8 @@ impl TryFrom<Duration> for IdleTimeout {
     }
 }
 
-/// The settings of an end's transport (quinn-proto's `TransportConfig`). Contracts see the record
-/// of the settings.
+/// The settings of an endpoint's transport (quinn-proto's `TransportConfig`). Contracts see the
+/// record of the settings.
 #[derive(Clone, Copy, Debug)]
 pub struct TransportConfig {
     receive_window: VarInt,
@@ -207,8 +207,8 @@ impl TransportConfig {
         self
     }
 
-    /// How many bytes of messages may wait unread; `None` takes no messages (RFC 9221, section 3).
-    /// The default is 1250000 bytes. The peer is told of at most 65535 as its
+    /// How many bytes of messages may be kept unread; `None` takes no messages (RFC 9221, section
+    /// 3). The default is 1250000 bytes. At most 65535 is advertised to the peer as
     /// max_datagram_frame_size.
     pub fn datagram_receive_buffer_size(&mut self, value: Option<usize>) -> &mut Self
         ensures same_reference { result.ghost_name ≡ self.entry.ghost_name }
@@ -247,7 +247,7 @@ impl TransportConfig {
         self
     }
 
-    /// After what part of a round trip a packet is lost, where a later one was acknowledged:
+    /// After which fraction of a round trip a packet is lost, once a later one was acknowledged:
     /// `numerator / denominator` (RFC 9002, section 6.1.2). The denominator has to be above 0. The
     /// default is 9/8.
     pub fn time_threshold(&mut self, numerator: u32, denominator: u32) -> &mut Self
@@ -291,9 +291,9 @@ impl TransportConfig {
         self
     }
 
-    /// How path MTU discovery looks for a larger size of datagrams; `None` looks for none (RFC
-    /// 9000, section 14.3). The default is [`MtuDiscoveryConfig::default`], which looks for sizes
-    /// of up to 1452 bytes; none above the peer's max_udp_payload_size ever is looked for.
+    /// How path MTU discovery probes for a larger size of datagrams; `None` probes for none (RFC
+    /// 9000, section 14.3). The default is [`MtuDiscoveryConfig::default`], which probes sizes of
+    /// up to 1452 bytes; none above the peer's max_udp_payload_size ever is probed.
     pub fn mtu_discovery_config(&mut self, value: Option<MtuDiscoveryConfig>) -> &mut Self
         ensures same_reference { result.ghost_name ≡ self.entry.ghost_name }
         ensures value { result.now ≡ record self.old { mtu_discovery_config = value } }
@@ -312,8 +312,9 @@ impl TransportConfig {
         self
     }
 
-    /// How the peer is to be asked to acknowledge; `None` doesn't ask (QUIC Acknowledgement
-    /// Frequency). The default is `None`. A peer that advertised no min_ack_delay isn't asked.
+    /// What is requested of the peer's acknowledgements; `None` requests nothing (QUIC
+    /// Acknowledgement Frequency). The default is `None`. A peer that advertised no min_ack_delay
+    /// gets no request.
     pub fn ack_frequency_config(&mut self, value: Option<AckFrequencyConfig>) -> &mut Self
         ensures same_reference { result.ghost_name ≡ self.entry.ghost_name }
         ensures value { result.now ≡ record self.old { ack_frequency_config = value } }
@@ -365,7 +366,7 @@ impl TransportConfig {
         self.send_window
     }
 
-    /// How many two-way streams the peer may have open at a time, at most 2^60.
+    /// How many bidirectional streams the peer may have open at a time, at most 2^60.
     pub fn get_max_concurrent_bidi_streams(&self) -> VarInt
         ensures value { result ≡ self.now.max_bidi }
         ensures bound { self.now.max_bidi ≤ 2 ^ 60 }
@@ -373,7 +374,7 @@ impl TransportConfig {
         self.max_concurrent_bidi_streams
     }
 
-    /// How many one-way streams the peer may have open at a time, at most 2^60.
+    /// How many unidirectional streams the peer may have open at a time, at most 2^60.
     pub fn get_max_concurrent_uni_streams(&self) -> VarInt
         ensures value { result ≡ self.now.max_uni }
         ensures bound { self.now.max_uni ≤ 2 ^ 60 }
@@ -381,22 +382,22 @@ impl TransportConfig {
         self.max_concurrent_uni_streams
     }
 
-    /// How long the connection may be without a packet before the end drops it; `None` is without
-    /// end.
+    /// How long the connection may be without a packet before the endpoint drops it; `None` is
+    /// without limit.
     pub fn get_max_idle_timeout(&self) -> Option<IdleTimeout>
         ensures { result ≡ self.now.max_idle_timeout }
     {
         self.max_idle_timeout
     }
 
-    /// How many bytes of messages may wait unread; `None` takes no messages.
+    /// How many bytes of messages may be kept unread; `None` takes no messages.
     pub fn get_datagram_receive_buffer_size(&self) -> Option<usize>
         ensures { result ≡ self.now.datagram_receive_buffer_size }
     {
         self.datagram_receive_buffer_size
     }
 
-    /// How many bytes of messages may wait to be sent.
+    /// How many bytes of messages may be queued to be sent.
     pub fn get_datagram_send_buffer_size(&self) -> usize
         ensures { result ≡ self.now.datagram_send_buffer_size }
     {
@@ -417,7 +418,8 @@ impl TransportConfig {
         self.packet_threshold
     }
 
-    /// After what part of a round trip a packet is lost: a numerator, and a denominator above 0.
+    /// After which fraction of a round trip a packet is lost: a numerator, and a denominator above
+    /// 0.
     pub fn get_time_threshold(&self) -> (u32, u32)
         ensures value { result ≡ self.now.time_threshold }
         ensures divides { 0 < self.now.time_threshold.1 }
@@ -448,7 +450,7 @@ impl TransportConfig {
         self.min_mtu
     }
 
-    /// How a greater size of datagrams is looked for; `None` looks for none.
+    /// How path MTU discovery probes for a greater size; `None` probes for none.
     pub fn get_mtu_discovery_config(&self) -> Option<MtuDiscoveryConfig>
         ensures value { result ≡ self.now.mtu_discovery_config }
         ensures steps { IfSome result (λ search. 2 ≤ search.least_change) }
@@ -456,14 +458,14 @@ impl TransportConfig {
         self.mtu_discovery_config
     }
 
-    /// Whether a datagram that asks for an acknowledgement is filled up to the path's size.
+    /// Whether an ack-eliciting datagram is filled up to the path's size.
     pub fn get_pad_to_mtu(&self) -> bool
         ensures { result ≡ self.now.pad_to_mtu }
     {
         self.pad_to_mtu
     }
 
-    /// How the peer is asked to acknowledge; `None` doesn't ask.
+    /// What is requested of the peer's acknowledgements; `None` requests nothing.
     pub fn get_ack_frequency_config(&self) -> Option<AckFrequencyConfig>
         ensures { result ≡ self.now.ack_frequency_config }
     {
@@ -489,8 +491,8 @@ impl TransportConfig {
     ghost use Rattle.quic_parameters.specs.Parameters.{AreInRange};
     ghost use Rattle.quic_config.specs.Transport.{settings_with, parameters_of, IsInRange};
 
-    /// What the peer is told of these settings by an end that can be asked when to acknowledge (RFC
-    /// 9000, section 18.2).
+    /// The transport parameters that advertise these settings, of an endpoint that takes
+    /// ACK_FREQUENCY (RFC 9000, section 18.2).
     pub fn transport_parameters(&self) -> TransportParameters
         ensures value { result ≡ parameters_of (settings_with self.now true) }
         ensures in_range { AreInRange (parameters_of (settings_with self.now true)) }
@@ -515,7 +517,7 @@ impl TransportConfig {
     }
 }
 
-/// The value, of which the bound is seen.
+/// The value, of which the prover sees the bound.
 fn bounded(value: VarInt) -> VarInt
     ensures same { result ≡ value }
     ensures bound { value < 2 ^ 62 }
@@ -523,7 +525,7 @@ fn bounded(value: VarInt) -> VarInt
     VarInt::from_u64_unchecked(value.into_inner())
 }
 
-/// The timeout as the peer is told it: 0 is none.
+/// The timeout as it is advertised: 0 is none.
 fn milliseconds(timeout: Option<IdleTimeout>) -> VarInt
     ensures same { result ≡ told_timeout timeout }
     ensures bound { told_timeout timeout < 2 ^ 62 }
@@ -534,7 +536,7 @@ fn milliseconds(timeout: Option<IdleTimeout>) -> VarInt
     }
 }
 
-/// The greatest DATAGRAM frame as the peer is told it: 0 is none, and 65535 bytes are the most.
+/// The greatest DATAGRAM frame as it is advertised: 0 is none, and 65535 bytes are the most.
 fn frame_size(buffer: Option<usize>) -> VarInt
     ensures { result ≡ told_frame_size buffer }
 {
@@ -559,9 +561,8 @@ impl Default for TransportConfig {
     /// 10000000 bytes to send, 1250000 bytes of unread messages and 1048576 to send, and 30 seconds
     /// without a packet. Streams take turns. A packet is lost 3 numbers below an acknowledged one
     /// or after 9/8 of a round trip, which is 333 ms at first, and congestion is persistent after 3
-    /// probe timeouts. Datagrams have 1200 bytes at first and aren't filled, and a greater size is
-    /// looked for. The peer isn't asked when to acknowledge, and nothing keeps the connection
-    /// alive.
+    /// probe timeouts. Datagrams have 1200 bytes at first and aren't filled, and path MTU discovery
+    /// is on. No ACK_FREQUENCY is sent, and nothing keeps the connection alive.
     fn default() -> TransportConfig {
         TransportConfig {
             receive_window: VarInt::MAX,

@@ -5,8 +5,8 @@ use Rattle.quic_machine.specs.declared.run.Call.{Call}
 use Rattle.quic_machine.specs.declared.run.Answer.{Answer}
 use Rattle.quic_machine.specs.Policy.{Policy}
 use Rattle.quic_machine.specs.Machine.{reads_window, gives}
-use Rattle.quic_headline.specs.Alone.{Lone, IsLoneStep, FollowsAlone}
-use Rattle.quic_connection.specs.Lone.{GivesAlone, AddsAlone}
+use Rattle.quic_headline.specs.Alone.{Lone, IsLoneStep, FollowsAlone, GivesAlone}
+use Rattle.quic_connection.specs.Lone.{AddsAlone}
 
 -- calls that give something may be answered so
 pub gives_follow : (p : Policy) (theirs : List (List ℕ)) (x : Lone) (made : List Call) (told : List Answer) (ds : List (List ℕ)) (left : Lone) → GivesAlone p theirs x made told ds left → FollowsAlone p theirs x made told left

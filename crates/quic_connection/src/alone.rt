@@ -1,11 +1,15 @@
 //! Calls at one end, one behind another, whatever datagrams its peer hands to it.
-ghost use Rattle.std.specs.Prelude.{◌≡◌, ◌++◌, ◌<◌, take, length, vec_len, vec_capacity, IfOk, OnOk, OnErr, true, false};
+ghost use Rattle.std.specs.Prelude.{◌≡◌, ◌++◌, ◌+◌, ◌*◌, ◌<◌, ◌≤◌, take, drop, length, sum_by, vec_len, vec_capacity, IfOk, OnOk, OnErr, true, false};
 ghost use Rattle.quic_machine.specs.End.{policy_of};
 ghost use Rattle.std.specs.List.{list_any};
 ghost use Rattle.quic_machine.specs.Machine.{gives, reads_window, fails};
 ghost use Rattle.quic_headline.specs.Alone.{IsLoneStep, IsNew, FollowsAlone, BytesCame, MessagesCame};
 ghost use Rattle.quic_headline.specs.Keeping.{KeepsWithin};
 ghost use Rattle.quic_headline.specs.FewEvents.{EventsAreFew};
+ghost use Rattle.quic_headline.specs.Amplification.{BeginsAlone, bytes_in};
+ghost use Rattle.quic_headline.specs.LoneCloses.{ClosedForCause, DrainedForCause};
+ghost use Rattle.quic_headline.specs.FewCloses.{IsClosing, CloseFew};
+ghost use Rattle.quic_headline.specs.Nonces.{SealedOnce};
 ghost use Rattle.quic_connection_parts.specs.Telling.{windows_of};
 ghost use Rattle.quic_connection_parts.specs.Drawn.{words_of};
 ghost use Rattle.quic_connection.specs.Ends.{GoesOn};
@@ -20,29 +24,44 @@ use quic_packet::crypto::{HeaderKey, PacketKey};
 use rand_core::Rng;
 use std::alloc::{AllocError, Global};
 
-/// What comes of calls at one end.
+/// What comes of calls at one endpoint.
 #[derive(Drop)]
 pub struct Alone {
     /// The answer to each call.
     pub answers: Vec<Answer>,
-    /// Whether memory lacked beside the end's own: the next call then has no answer, and wasn't
-    /// made.
+    /// Whether memory beside the endpoint's own ran out: the next call then has no answer, and
+    /// wasn't made.
     pub cut_short: bool,
 }
 
-/// Makes these calls at one end whose peer is elsewhere, one behind another, and appends the
-/// datagrams that it gives. [`Call::Deliver`] hands in one of `theirs`, by its index: any bytes,
-/// of a peer that may have the keys and lie (RFC 9000, section 21).
+/// Makes these calls in turn at one endpoint whose peer is elsewhere, and appends the datagrams
+/// that it gives. [`Call::Deliver`] hands in one of `theirs`, by its index: any bytes, of a peer
+/// that may have the keys and lie (RFC 9000, section 21).
 ///
 /// Whatever that peer sent, each byte that a read gives stood at its offset in a STREAM frame of a
-/// datagram that was handed in before and opened, and each message that is received in a DATAGRAM
-/// frame of one: at an end as [`Connection::new`] makes it, as long as it hasn't failed for want
-/// of memory. And such an end keeps no more of it than its settings let come: bytes within the
-/// windows, streams within their counts, messages within the receive buffer, 64 ranges of numbers
-/// to acknowledge, and five connection IDs of the peer (RFC 9000, sections 4.1, 4.6, 5.1.1 and
-/// 13.2.3; RFC 9221, section 3). Its application is told something no more often than bytes came
-/// in datagrams that weren't dropped and writes were blocked, beside that each stream is finished,
-/// and the end lost, once.
+/// datagram that was handed in before and opened. Each message that is received stood in a DATAGRAM
+/// frame of one. This holds at an endpoint as [`Connection::new`] makes it, as long as it hasn't
+/// failed for want of memory.
+///
+/// Such an endpoint keeps no more of it than its settings let come: bytes within the windows,
+/// streams within their counts, messages within the receive buffer, 64 ranges of numbers to
+/// acknowledge, and eight connection IDs of the peer (RFC 9000, sections 4.1, 4.6, 5.1.1 and
+/// 13.2.3; RFC 9221, section 3). Its application gets no more events than bytes came in datagrams
+/// that weren't dropped and writes were blocked, beside one for each stream that is finished, and
+/// one for the loss of the connection.
+///
+/// While it shows its peer's address as not validated, it gave at most three times the bytes that
+/// were handed in (RFC 9000, section 8.1): this and the bounds hold as long as it hasn't failed.
+///
+/// Where it isn't open any more, one of the calls closed it, for the reason that it has: a close of
+/// the application's, a close of the peer's that came, a packet that was refused, the idle timer,
+/// or a limit of keys or numbers. It is drained only by a close that came, or by a timeout at which
+/// the idle or the Close timer had expired (RFC 9000, section 10). Any endpoint that is closing
+/// gives no more datagrams than came since that opened under new numbers, and one (section 10.2.1).
+///
+/// Whoever the peer is, and also where memory runs out, such an endpoint seals each datagram under
+/// a packet number above those before, and no more than [`PacketKey::confidentiality_limit`] lets
+/// it: no nonce is used twice (RFC 9000, section 12.3; RFC 9001, sections 5.3 and 6.6).
 pub fn run_alone<H: HeaderKey + Drop, K: PacketKey + Drop, R: Rng + Drop, C: Controller>(
     alloc: Global,
     end: &mut Connection<H, K, R, C>,
@@ -67,12 +86,31 @@ pub fn run_alone<H: HeaderKey + Drop, K: PacketKey + Drop, R: Rng + Drop, C: Con
         (take (length result.answers.items) calls.now) result.answers.items }
     ensures bounded { (new : IsNew end.old.end) → list_any fails result.answers.items ≡ false → KeepsWithin new.settings end.new.end }
     ensures few_events { IsNew end.old.end → EventsAreFew theirs.now (take (length result.answers.items) calls.now) result.answers.items }
+    ensures threefold { BeginsAlone (lone_of (windows_of C.steps C.window_of) end.old) → list_any fails result.answers.items ≡ false → end.new.end.path.validated ≡ false
+        → sum_by length given.new.items ≤ sum_by length given.old.items + 3 * bytes_in theirs.now (take (length result.answers.items) calls.now) result.answers.items }
+    ensures closed_for_cause { IsNew end.old.end
+        → ClosedForCause (policy_of H.protection K.aead K.seal_limit K.refusal_limit (words_of R.stream) end.old) theirs.now
+        (lone_of (windows_of C.steps C.window_of) end.old) (take (length result.answers.items) calls.now) result.answers.items
+        (lone_of (windows_of C.steps C.window_of) end.new) }
+    ensures drained_for_cause { IsNew end.old.end
+        → DrainedForCause (policy_of H.protection K.aead K.seal_limit K.refusal_limit (words_of R.stream) end.old) theirs.now
+        (lone_of (windows_of C.steps C.window_of) end.old) (take (length result.answers.items) calls.now) result.answers.items
+        (lone_of (windows_of C.steps C.window_of) end.new) }
+    ensures closes_few { IsClosing end.old.end → CloseFew (take (length result.answers.items) calls.now) result.answers.items }
+    ensures seals_once { IsNew end.old.end
+        → SealedOnce (policy_of H.protection K.aead K.seal_limit K.refusal_limit (words_of R.stream) end.old)
+        (drop (length given.old.items) given.new.items) }
 {
     // What the machine keeps at one end alone: laws, which do nothing.
     headline::bytes_come();
     headline::messages_come();
     headline::keeps_within();
     headline::tells_few();
+    headline::stays_threefold();
+    headline::closed_for_cause();
+    headline::drained_for_cause();
+    headline::closes_few();
+    headline::seals_once();
     make_calls(alloc, end, given, theirs, calls)
 }
 
@@ -107,8 +145,8 @@ fn make_calls<H: HeaderKey + Drop, K: PacketKey + Drop, R: Rng + Drop, C: Contro
     }
 }
 
-/// Makes the next call, where there is room for its answer. An error is want of memory, with no
-/// call made and nothing changed.
+/// Makes the next call, if there is room for its answer. Fails if out of memory: no call is made
+/// then, and nothing changes.
 fn next_answer<H: HeaderKey + Drop, K: PacketKey + Drop, R: Rng + Drop, C: Controller>(
     alloc: Global,
     end: &mut Connection<H, K, R, C>,

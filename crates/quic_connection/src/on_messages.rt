@@ -5,7 +5,7 @@ use bytes::Bytes;
 use quic_machine::{Answer, Call};
 use quic_messages::{DatagramLimits, DatagramState, Datagrams};
 
-/// A message is sent, for which older ones that wait may go or not.
+/// Sends a message, for which older pending ones may be dropped or not.
 pub(crate) fn send(
     datagrams: &mut DatagramState,
     limits: DatagramLimits,
@@ -17,7 +17,7 @@ pub(crate) fn send(
     Answer::Send(Datagrams::new(datagrams, limits).send(message, makes_room))
 }
 
-/// A message is read, at an open end as at any other.
+/// Reads a message, whether the endpoint is open or not.
 pub(crate) fn recv(datagrams: &mut DatagramState, limits: DatagramLimits) -> Answer
     ensures { IsCallOn limits datagrams.old Call.Recv result datagrams.new }
 {

@@ -17,28 +17,28 @@ use quic_streams_handles::{Chunks, EndStreams, RecvStream, SendStream, Streams, 
 use quic_streams_parts::ReadError;
 use quic_wire_core::{Dir, StreamId, VarInt};
 
-/// A stream is opened.
+/// Opens a stream.
 pub(crate) fn open(streams: &mut EndStreams, is_open: bool, dir: Dir) -> Answer
     ensures { IsCallOn is_open streams.old (Call.Open dir) result streams.new }
 {
     Answer::Open(Streams::new(streams, is_open).open(dir))
 }
 
-/// A stream is accepted.
+/// Accepts a stream.
 pub(crate) fn accept(streams: &mut EndStreams, is_open: bool, dir: Dir) -> Answer
     ensures { IsCallOn is_open streams.old (Call.Accept dir) result streams.new }
 {
     Answer::Accept(Streams::new(streams, is_open).accept(dir))
 }
 
-/// Bytes are written.
+/// Writes bytes.
 pub(crate) fn write(streams: &mut EndStreams, is_open: bool, id: StreamId, bytes: &[u8]) -> Answer
     ensures { IsCallOn is_open streams.old (Call.Write id bytes.now) result streams.new }
 {
     Answer::Write(SendStream::new(id, streams, is_open).write(bytes))
 }
 
-/// Buffers are written.
+/// Writes buffers.
 pub(crate) fn write_chunks(
     streams: &mut EndStreams,
     is_open: bool,
@@ -50,21 +50,21 @@ pub(crate) fn write_chunks(
     Answer::WriteChunks(SendStream::new(id, streams, is_open).write_chunks(chunks.as_slice()))
 }
 
-/// A stream is finished.
+/// Finishes a stream.
 pub(crate) fn finish(streams: &mut EndStreams, is_open: bool, id: StreamId) -> Answer
     ensures { IsCallOn is_open streams.old (Call.Finish id) result streams.new }
 {
     Answer::Finish(SendStream::new(id, streams, is_open).finish())
 }
 
-/// A stream is reset.
+/// Resets a stream.
 pub(crate) fn reset(streams: &mut EndStreams, is_open: bool, id: StreamId, code: VarInt) -> Answer
     ensures { IsCallOn is_open streams.old (Call.Reset id code) result streams.new }
 {
     Answer::Reset(SendStream::new(id, streams, is_open).reset(code))
 }
 
-/// The priority of a stream is set.
+/// Sets the priority of a stream.
 pub(crate) fn set_priority(
     streams: &mut EndStreams,
     is_open: bool,
@@ -76,21 +76,21 @@ pub(crate) fn set_priority(
     Answer::SetPriority(SendStream::new(id, streams, is_open).set_priority(priority))
 }
 
-/// A stream is stopped, at an open end as at any other.
+/// Stops a stream, whether the endpoint is open or not.
 pub(crate) fn stop(streams: &mut EndStreams, id: StreamId, code: VarInt) -> Answer
     ensures { IsCallOn true streams.old (Call.Stop id code) result streams.new }
 {
     Answer::Stop(RecvStream::new(id, streams).stop(code))
 }
 
-/// Whether the peer reset a stream is asked, at an open end as at any other.
+/// Reads whether the peer reset a stream, whether the endpoint is open or not.
 pub(crate) fn received_reset(streams: &mut EndStreams, id: StreamId) -> Answer
     ensures { IsCallOn true streams.old (Call.ReceivedReset id) result streams.new }
 {
     Answer::ReceivedReset(RecvStream::new(id, streams).received_reset())
 }
 
-/// A stream is read, at an open end as at any other: each `next`, into room that is there, then
+/// Reads a stream, whether the endpoint is open or not: each `next`, into room that is there, then
 /// `finalize` or a drop.
 pub(crate) fn read(
     streams: &mut EndStreams,
@@ -140,7 +140,7 @@ fn read_each(
     }
 }
 
-/// The `next` of a read, of which the end and a reset are told again.
+/// The `next` of a read. FIN and a reset are answered again by each later one.
 fn next(chunks: &mut Chunks<'_>, max_length: usize) -> Result<Option<Chunk>, ReadError>
     ensures same_reference { chunks.new.streams.ghost_name ≡ chunks.old.streams.ghost_name }
     ensures same_stream { chunks.new.id ≡ chunks.old.id }
@@ -163,7 +163,7 @@ fn next(chunks: &mut Chunks<'_>, max_length: usize) -> Result<Option<Chunk>, Rea
     }
 }
 
-/// What a read tells again, once it told more than bytes.
+/// What a read answers again, once it has answered FIN or a reset.
 fn told_again(told: &Told) -> Option<Result<Option<Chunk>, ReadError>>
     ensures again { IfSome result (λ again.
         (h : Option RecvHalf) (most : ℕ) → again ≡ next_at (told_of told.now) h most) }

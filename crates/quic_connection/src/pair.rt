@@ -27,14 +27,15 @@ use std::alloc::{AllocError, Global};
 /// What an endpoint is made of, but for what it knows of its peer.
 #[derive(Drop)]
 pub struct Making<F, H, K, R> {
-    /// The configuration, which the peer is told but for what makes the congestion controller.
+    /// The configuration. What the peer has to know of it is advertised to the peer; the factory of
+    /// the congestion controller isn't.
     pub config: Config<F>,
     /// The first connection ID of this endpoint, of eight bytes.
     pub id: ConnectionId,
     /// Its keys: what the `local` ones seal, the peer's `remote` ones open, and the other way
     /// round.
     pub keys: Keys<H, K>,
-    /// Its random source, of which a word is drawn at once, three for each id that is issued, and
+    /// Its random source, of which a `u64` is drawn at once, three for each ID that is issued, and
     /// one more where the peer's address isn't validated.
     pub random: R,
     /// Whether the peer's address is validated already.
@@ -62,7 +63,7 @@ impl<
     R: Rng + Drop,
     C: Controller,
 > Making<F, H, K, R> {
-    /// An endpoint of this side that is made at this time, for a peer that wrote these transport
+    /// Makes an endpoint of this side at this time, for a peer that wrote these transport
     /// parameters (`Config::write_parameters`) and has this first connection ID. It is what
     /// [`Connection::new`] makes of the same values, but no two arguments have the same type, so
     /// that the two connection IDs can't be swapped.
@@ -127,9 +128,9 @@ impl<
 }
 
 impl<H: HeaderKey + Drop, K: PacketKey + Drop, R: Rng + Drop, C: Controller> Ends<H, K, R, C> {
-    /// A client and a server that are made at this moment, each from the other's parameters and
-    /// first id. They meet what the promises on runs ask of the ends; where the keys of both are
-    /// mates in both directions, of keys too. The client is made before the server.
+    /// Makes a client and a server at this time, each from the other's parameters and first ID.
+    /// They meet what the promises on runs require of the endpoints, if the keys of both are mates
+    /// in both directions. The client is made before the server.
     ///
     /// # Errors
     ///

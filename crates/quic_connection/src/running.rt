@@ -3,7 +3,7 @@ ghost use Rattle.std.specs.Prelude.{◌≡◌, [], length, ◌<◌, vec_len, vec
 ghost use Rattle.quic_machine.specs.Machine.{Follows};
 ghost use Rattle.quic_machine.specs.Start.{AreStarted};
 ghost use Rattle.quic_headline.specs.Headline.{CodeIsSmall, AreCodes, LossTimersFollow, AckTimersFollow};
-ghost use Rattle.quic_headline.specs.Promises.{Delivers, Streams, Limits, Waits, Messages, Tells, Acknowledges, Loses, Paces, Sizes, Numbers, Identifies, Validates, Causes, Closes, Times, Rests, Isolates};
+ghost use Rattle.quic_headline.specs.Promises.{Promises, Isolates};
 ghost use Rattle.quic_wire_core.specs.declared.stream_id.Side.TheVariants.{Client, Server};
 ghost use Rattle.quic_connection_parts.specs.Telling.{windows_of};
 ghost use Rattle.quic_connection.specs.Rooms.{HasRoomBehind};
@@ -19,7 +19,7 @@ use quic_packet::crypto::{HeaderKey, PacketKey};
 use rand_core::Rng;
 use std::alloc::{AllocError, Global};
 
-/// Two ends of a connection.
+/// Two endpoints of a connection.
 #[derive(Drop)]
 pub struct Ends<H, K, R, C: Controller> {
     /// The client.
@@ -28,7 +28,7 @@ pub struct Ends<H, K, R, C: Controller> {
     pub server: Connection<H, K, R, C>,
 }
 
-/// The datagrams that each end gave out, in their order.
+/// The datagrams that each endpoint gave out, in their order.
 #[derive(Drop)]
 pub struct Given {
     /// Those of the client.
@@ -55,75 +55,26 @@ impl Given {
 pub struct Outcome<H, K, R, C: Controller> {
     /// The answer to each event.
     pub answers: Vec<Answer>,
-    /// What was seen of both ends after each event.
+    /// What was seen of both endpoints after each event.
     pub views: Vec<View>,
-    /// The datagrams that the ends gave out.
+    /// The datagrams that the endpoints gave out.
     pub given: Given,
-    /// The ends.
+    /// The endpoints.
     pub ends: Ends<H, K, R, C>,
-    /// Whether memory lacked in the run itself: the next event then has no answer and no view, and
+    /// Whether memory ran out in the run itself: the next event then has no answer and no view, and
     /// no call was made.
     pub cut_short: bool,
 }
 
-/// Makes each event's call in turn, once: one answer and one view for each, until memory lacks in
-/// the run itself. The ends keep their keys, and draw the words of their random sources in turn.
+/// Makes each event's call in turn, once: one answer and one view for each, until memory runs out
+/// in the run itself. The endpoints keep their keys, and draw from their random sources in turn.
 ///
-/// Where a client and a server were made for one another, with keys that are mates, and
-/// applications use their own streams (`IsHonest`), it holds at each place up to which no delivery,
-/// no poll and no timeout met want of memory: what is read of a stream in order is a prefix of what
-/// was written on it, each chunk that is read stands at its offset in that, no byte comes twice,
-/// the end comes only behind all, a read is blocked only where no byte that it may give stood in a
-/// packet that was taken, each stream that a frame of such a packet opened is there to be accepted,
-/// a stream is told to be finished only where the other end took all of it, an acknowledgement that
-/// came names only what the other end took, and packet numbers rise, one or two at a time. No end
-/// closes for a rule that the other one broke, for its application but where that closed it, for
-/// its peer but where that had closed, for being idle but where its idle timer expired, for too
-/// many runs of a stream that wait to be read but where these are more than 2048, or for used-up
-/// numbers or keys but where they are, and each packet of the other end that comes is taken whole,
-/// but for such runs; each datagram with a number above all that the other end took opens there as
-/// it was sent; each goes to an id that its giver was told and hadn't retired, and none that comes
-/// to an open end is dropped for its id unless the peer retired that; `use_next_id` is refused only
-/// where the peer told of no further id, or more than 50 retirements would wait; while an end shows
-/// its peer's address as not validated, all that it gave has at most three times the bytes that
-/// were handed to it; and an open end keeps to the limits in the bytes of its peer's parameters and
-/// in the frames that came. No stream is told to be finished twice, and where an open end has
-/// nothing left to tell, each was that is wholly acknowledged and wasn't reset, and no other; all
-/// that was written waits to go, is under way, or arrived, and so does each limit that was said; a
-/// limit that grew waits to be said; a write at an open end takes what the peer's limits and the
-/// send window leave; a message is received at most as often as the other end sent it; a poll of an
-/// open end gives what waits, of streams and of messages, unless the congestion window is full, or
-/// the pacer names a later moment, to which its timer is set, or nothing more may go to an address
-/// that isn't validated, and gives nothing that window and pacer hold back but probes; no datagram
-/// has more bytes than the current size but an MTU probe, and that size grows only by one that was
-/// acknowledged; the window that a view shows is that of the controller behind all that it was
-/// told; what the pacer holds follows from the polls up to there and the bytes that went, where the
-/// search for a greater size goes in steps of three bytes at least; and an open end tracks exactly
-/// the datagrams that it gave and that are neither acknowledged, nor lost by number or by time, nor
-/// forgotten, shows its loss timer set to the moment that is due for them and its own round trips,
-/// and not set once all that ask were named, and its timer of acknowledgements to one that is due
-/// for a packet that it took and hasn't acknowledged since. An end rests where its last call was a
-/// poll that gave nothing, and it is open, its path validated, and none of its timers of losses, of
-/// acknowledgements and of the pacer set: then all that it wrote, on streams that it didn't reset,
-/// has arrived, and it owes no acknowledgement, where the controllers keep their law and their
-/// windows hold two datagrams at first (`HaveRoom`), as those of [`Ends::new`] do.
-///
-/// Nor is a stream opened or accepted twice, or accepted where no frame opened it; a reset is told
-/// only with the code that the other end's application gave; each view shows why an end isn't open,
-/// unless it failed; and what is answered of timers, of the state and of whether the peer's address
-/// is validated is what views show of them.
-///
-/// At each place, also where memory lacks, and with any keys, an open end of two that were made for
-/// one another has its loss timer set exactly where it tracks a datagram that asks; and one that
-/// began so has its timer of acknowledgements set only where a packet that asks came since the last
-/// acknowledgement went. And the run less any of its injections, and any deliveries that an end
-/// dropped while it wasn't closing, is a run again, with the same answers, views and datagrams, and
-/// the same ends but for what these count, where the addresses of both peers are validated from the
-/// start, and no end closes since its peer's key refused as many packets as it may: what doesn't
-/// open, and what came before, changes nothing else (RFC 9000, sections 5.2, 12.2 and 12.3).
-///
-/// The contract says all that in families: each is a record whose fields are its clauses
-/// (`Promises` in `specs/` of `quic_headline`).
+/// The contract holds the promises on two endpoints. Most are one clause: a record of families,
+/// whose fields are their clauses (`Promises` in `specs/` of `quic_headline`). They hold where a
+/// client and a server were made for one another, with keys that are mates, and applications use
+/// their own streams (`IsHonest`), up to where a delivery, a poll or a timeout first ran out of
+/// memory.
+/// docs/THEOREM.md says them in plain sentences, and docs/PROMISES.md what each doesn't say.
 pub fn run<H: HeaderKey + Drop, K: PacketKey + Drop, R: Rng + Drop, C: Controller>(
     alloc: Global,
     ends: Ends<H, K, R, C>,
@@ -135,23 +86,7 @@ pub fn run<H: HeaderKey + Drop, K: PacketKey + Drop, R: Rng + Drop, C: Controlle
     ensures whole { result.cut_short ≡ false → length result.answers.items ≡ length events.now }
     ensures stopped { result.cut_short ≡ true → length result.answers.items < length events.now }
     ensures goes_on { GoOn R.stream ends result.ends }
-    ensures delivers { OnHonest H.protection K.aead K.seal_limit K.refusal_limit R.stream (windows_of C.steps C.window_of) ends events.now result Delivers }
-    ensures streams { OnHonest H.protection K.aead K.seal_limit K.refusal_limit R.stream (windows_of C.steps C.window_of) ends events.now result Streams }
-    ensures limits { OnHonest H.protection K.aead K.seal_limit K.refusal_limit R.stream (windows_of C.steps C.window_of) ends events.now result Limits }
-    ensures waits { OnHonest H.protection K.aead K.seal_limit K.refusal_limit R.stream (windows_of C.steps C.window_of) ends events.now result Waits }
-    ensures messages { OnHonest H.protection K.aead K.seal_limit K.refusal_limit R.stream (windows_of C.steps C.window_of) ends events.now result Messages }
-    ensures tells { OnHonest H.protection K.aead K.seal_limit K.refusal_limit R.stream (windows_of C.steps C.window_of) ends events.now result Tells }
-    ensures acknowledges { OnHonest H.protection K.aead K.seal_limit K.refusal_limit R.stream (windows_of C.steps C.window_of) ends events.now result Acknowledges }
-    ensures loses { OnHonest H.protection K.aead K.seal_limit K.refusal_limit R.stream (windows_of C.steps C.window_of) ends events.now result Loses }
-    ensures paces { OnHonest H.protection K.aead K.seal_limit K.refusal_limit R.stream (windows_of C.steps C.window_of) ends events.now result Paces }
-    ensures sizes { OnHonest H.protection K.aead K.seal_limit K.refusal_limit R.stream (windows_of C.steps C.window_of) ends events.now result Sizes }
-    ensures numbers { OnHonest H.protection K.aead K.seal_limit K.refusal_limit R.stream (windows_of C.steps C.window_of) ends events.now result Numbers }
-    ensures identifies { OnHonest H.protection K.aead K.seal_limit K.refusal_limit R.stream (windows_of C.steps C.window_of) ends events.now result Identifies }
-    ensures validates { OnHonest H.protection K.aead K.seal_limit K.refusal_limit R.stream (windows_of C.steps C.window_of) ends events.now result Validates }
-    ensures causes { OnHonest H.protection K.aead K.seal_limit K.refusal_limit R.stream (windows_of C.steps C.window_of) ends events.now result Causes }
-    ensures closes { OnHonest H.protection K.aead K.seal_limit K.refusal_limit R.stream (windows_of C.steps C.window_of) ends events.now result Closes }
-    ensures times { OnHonest H.protection K.aead K.seal_limit K.refusal_limit R.stream (windows_of C.steps C.window_of) ends events.now result Times }
-    ensures rests { OnHonest H.protection K.aead K.seal_limit K.refusal_limit R.stream (windows_of C.steps C.window_of) ends events.now result Rests }
+    ensures promises { OnHonest H.protection K.aead K.seal_limit K.refusal_limit R.stream (windows_of C.steps C.window_of) ends events.now result Promises }
     ensures loss_timers_follow { AtEachPlace H.protection K.aead K.seal_limit K.refusal_limit R.stream (windows_of C.steps C.window_of) ends events.now result
         AreStarted LossTimersFollow }
     ensures ack_timers_follow { AtEachPlace H.protection K.aead K.seal_limit K.refusal_limit R.stream (windows_of C.steps C.window_of) ends events.now result
@@ -159,110 +94,17 @@ pub fn run<H: HeaderKey + Drop, K: PacketKey + Drop, R: Rng + Drop, C: Controlle
     ensures isolates { OnRun H.protection K.aead K.seal_limit K.refusal_limit R.stream (windows_of C.steps C.window_of) ends events.now result Isolates }
 {
     // What every run of the machine keeps: laws, which do nothing.
-    headline::ordered_prefix();
-    headline::slices();
-    headline::once();
-    headline::end_after_all();
-    headline::blocked_only_without_bytes();
-    headline::accepts_all();
-    headline::ids_are_new();
-    headline::accepted_were_opened();
-    headline::resets_are_told();
-    headline::finished_means_arrived();
-    headline::finished_is_told();
-    headline::duties_stand();
-    headline::grown_limits_wait();
-    headline::messages_at_most_once();
-    headline::writes_take_what_limits_allow();
-    headline::polls_send_what_waits();
-    headline::polls_send_messages();
-    headline::pacer_sets_its_timer();
-    headline::asking_goes_where_let();
-    headline::datagrams_are_sized();
-    headline::probes_pass();
-    headline::probes_hasten();
-    headline::window_is_of_history();
-    headline::size_is_of_history();
-    headline::sizes_move();
-    headline::tracks_in_flight();
-    headline::loss_moments();
-    headline::ack_moments();
-    headline::acks_are_due();
-    headline::acknowledged_were_taken();
-    headline::names_were_taken();
-    headline::acks_name_all();
-    headline::acks_count_marks();
-    headline::requests_say();
-    headline::requests_go();
-    headline::opens_exactly();
-    headline::newest_opens();
-    headline::loss_timer_quiet();
-    headline::views_tell();
+    headline::honest_runs_keep_promises();
     headline::loss_timers_follow();
     headline::ack_timers_follow();
     headline::isolated();
     headline::isolated_by_answers();
     headline::isolated_by_lists();
-    headline::numbers_rise();
-    headline::ids_are_issued();
-    headline::ids_are_in_use();
-    headline::unknown_only_where_retired();
-    headline::told_ids_are_known();
-    headline::newest_opens_at_end();
-    headline::no_id_is_exact();
-    headline::too_many_is_exact();
-    headline::no_blame();
-    headline::closed_has_a_reason();
-    headline::too_many_pieces();
-    headline::application_closed();
-    headline::idle_expired();
-    headline::key_limited();
-    headline::keys_last();
-    headline::peer_closed();
-    headline::threefold();
-    headline::validated_by_answer();
-    headline::answers_validate();
-    headline::limits_are_the_peers();
-    headline::number_limit();
-    headline::taken_or_too_many();
-    headline::delivered_at_rest();
-    headline::nothing_owed_at_rest();
-    headline::blocked_only_for_unread();
-    headline::none_opened_only_for_undone();
-    headline::credit_is_bounded();
-    headline::counts_are_bounded();
-    headline::reads_are_allowed();
-    headline::reads_are_over();
-    headline::writes_are_allowed();
-    headline::resets_are_allowed();
-    headline::controllers_are_told();
-    headline::messages_go();
-    headline::messages_go_in_order();
-    headline::each_waited();
-    headline::pings_go();
-    headline::waiting_begins();
-    headline::pacer_is_of_history();
-    headline::messages_are_told();
-    headline::openings_are_told();
-    headline::readables_are_told();
-    headline::writables_are_told();
-    headline::idle_moments();
-    headline::alive_moments();
-    headline::path_moments();
-    headline::closed_timers();
-    headline::close_moments();
-    headline::close_moments_stay();
-    headline::drains_in_time();
-    headline::closes_say_why();
-    headline::peer_closes_come();
-    headline::closes_are_owed();
-    headline::owed_closes_go();
-    headline::drained_are_silent();
     show_codes(events);
     run_events(alloc, ends, events)
 }
 
-/// The codes of events are below 2^62: their type says so.
+/// Shows the prover that the codes of events are below 2^62: their type says so.
 fn show_codes(events: &[RunEvent])
     ensures { AreCodes events.now }
 {
@@ -271,7 +113,7 @@ fn show_codes(events: &[RunEvent])
     }
 }
 
-/// The same of one call.
+/// Shows the prover that the code of a call, if it has one, is below 2^62.
 fn show_code(call: &Call)
     ensures { CodeIsSmall call.now }
 {
@@ -288,8 +130,7 @@ fn show_code(call: &Call)
     }
 }
 
-/// Makes room for the answer to this event, and for what is seen behind it. An error is want of
-/// memory.
+/// Makes room for the answer to this event, and for the view after it. Fails if out of memory.
 fn make_room<H: HeaderKey + Drop, K: PacketKey + Drop, R: Rng + Drop, C: Controller>(
     alloc: Global,
     ends: &Ends<H, K, R, C>,

@@ -21,19 +21,19 @@ use quic_wire_core::Side;
 use rand_core::Rng;
 use std::alloc::{AllocError, Global};
 
-/// How many polls a talk has at most.
+/// The most polls that [`settle`] makes.
 const MOST_POLLS: u64 = 10_000;
 
-/// Lets two ends talk until both rest, from this moment on: each is polled until it gives nothing,
-/// the client first, and each datagram is delivered to the other one at once, without a mark, until
-/// a round of both gives no datagram. Where a timer of loss, of acknowledgements or of pacing is
-/// set then, the moment is the earliest of these, or stays if that came before, both ends handle
-/// it, and they go on.
+/// Lets two endpoints talk until both rest, from this time on. Each is polled until it gives
+/// nothing, the client first, and each datagram is delivered to the other at once, without an ECN
+/// codepoint, until a round of both gives no datagram. If a loss, acknowledgement or pacing timer
+/// is set then, time goes on to the earliest of them, or stays if that has passed, both endpoints
+/// handle it, and they go on.
 ///
-/// It answers the moment at which both rest: they are open, the last call at each was a poll that
-/// answered `None`, and none of these timers is set. Whether their paths are validated isn't asked.
-/// `None` says that it gave up: an end isn't open, or 10000 polls were made. All datagrams stand in
-/// `given`.
+/// The answer is the time at which both rest: they are open, the last call at each was a poll that
+/// answered `None`, and none of these timers is set. Whether their paths are validated isn't
+/// checked. `None` says that it gave up: an endpoint isn't open, or 10000 polls were made. All
+/// datagrams stand in `given`.
 ///
 /// # Errors
 ///
@@ -67,8 +67,8 @@ pub fn settle<H: HeaderKey + Drop, K: PacketKey + Drop, R: Rng + Drop, C: Contro
     }
 }
 
-/// Rounds at a moment until one gives no datagram: whether both ends are open then. It is `false`
-/// too where no poll is left.
+/// Makes rounds at one time until one gives no datagram. Returns whether both endpoints are open
+/// then, and `false` if no poll is left.
 fn talk<H: HeaderKey + Drop, K: PacketKey + Drop, R: Rng + Drop, C: Controller>(
     alloc: Global,
     ends: &mut Ends<H, K, R, C>,
@@ -102,8 +102,8 @@ fn talk<H: HeaderKey + Drop, K: PacketKey + Drop, R: Rng + Drop, C: Controller>(
     }
 }
 
-/// Polls the client until it gives nothing, and then the server: whether one gave a datagram. It is
-/// `None` where an end isn't open before a poll, or no poll is left.
+/// Polls the client until it gives nothing, and then the server: whether one gave a datagram.
+/// `None` if an endpoint isn't open before a poll, or no poll is left.
 fn round<H: HeaderKey + Drop, K: PacketKey + Drop, R: Rng + Drop, C: Controller>(
     alloc: Global,
     ends: &mut Ends<H, K, R, C>,
@@ -139,8 +139,8 @@ fn round<H: HeaderKey + Drop, K: PacketKey + Drop, R: Rng + Drop, C: Controller>
     Ok(Some(client || server))
 }
 
-/// Polls an end until it gives nothing: whether it gave a datagram. It is `None` where an end isn't
-/// open before a poll, or no poll is left.
+/// Polls an endpoint until it gives nothing: whether it gave a datagram. `None` if the endpoint
+/// isn't open before a poll, or no poll is left.
 fn poll_all<H: HeaderKey + Drop, K: PacketKey + Drop, R: Rng + Drop, C: Controller>(
     alloc: Global,
     ends: &mut Ends<H, K, R, C>,
@@ -181,7 +181,8 @@ fn poll_all<H: HeaderKey + Drop, K: PacketKey + Drop, R: Rng + Drop, C: Controll
     Ok(None)
 }
 
-/// Polls an end, and delivers the datagram that it gives to the other one: whether it gave one.
+/// Polls an endpoint, and delivers the datagram that it gives to the other one: whether it gave
+/// one.
 fn poll_once<H: HeaderKey + Drop, K: PacketKey + Drop, R: Rng + Drop, C: Controller>(
     alloc: Global,
     ends: &mut Ends<H, K, R, C>,
@@ -233,7 +234,7 @@ fn gave(answer: &Answer) -> bool
     matches!(answer, Answer::Poll(Ok(Some(_))))
 }
 
-/// Both ends handle a moment, the client first.
+/// Both endpoints handle this time, the client first.
 fn time_out<H: HeaderKey + Drop, K: PacketKey + Drop, R: Rng + Drop, C: Controller>(
     alloc: Global,
     ends: &mut Ends<H, K, R, C>,
@@ -263,7 +264,7 @@ fn time_out<H: HeaderKey + Drop, K: PacketKey + Drop, R: Rng + Drop, C: Controll
     Ok(())
 }
 
-/// How many datagrams an end gave.
+/// How many datagrams an endpoint gave.
 fn count_given(given: &Given, side: Side) -> usize
     ensures { (client server : End) (of_client of_server : Control) (client_heard server_heard : Heard) → result ≡ length (given_by side (record {
       client = client;
@@ -282,7 +283,7 @@ fn count_given(given: &Given, side: Side) -> usize
     }
 }
 
-/// Whether both ends are open.
+/// Whether both endpoints are open.
 fn are_open<H: HeaderKey + Drop, K: PacketKey + Drop, R: Rng + Drop, C: Controller>(
     ends: &Ends<H, K, R, C>,
 ) -> bool
@@ -292,7 +293,7 @@ fn are_open<H: HeaderKey + Drop, K: PacketKey + Drop, R: Rng + Drop, C: Controll
     !ends.client.is_closed() && !ends.server.is_closed()
 }
 
-/// The earliest moment for which either end waits.
+/// The earliest deadline of either endpoint.
 fn wakes<H: HeaderKey + Drop, K: PacketKey + Drop, R: Rng + Drop, C: Controller>(
     ends: &Ends<H, K, R, C>,
 ) -> Option<Instant>
@@ -301,7 +302,7 @@ fn wakes<H: HeaderKey + Drop, K: PacketKey + Drop, R: Rng + Drop, C: Controller>
     earlier(end_wakes(&ends.client), end_wakes(&ends.server))
 }
 
-/// The earliest moment for which an end waits.
+/// The earliest deadline of an endpoint.
 fn end_wakes<H: HeaderKey + Drop, K: PacketKey + Drop, R: Rng + Drop, C: Controller>(
     end: &Connection<H, K, R, C>,
 ) -> Option<Instant>
@@ -311,7 +312,7 @@ fn end_wakes<H: HeaderKey + Drop, K: PacketKey + Drop, R: Rng + Drop, C: Control
     earlier(end.timer(Timer::LossDetection), acks_or_pacing)
 }
 
-/// The earlier of two moments, or the one that there is.
+/// The earlier of two instants, or the one that there is.
 fn earlier(one: Option<Instant>, other: Option<Instant>) -> Option<Instant>
     ensures { result ≡ earlier one other }
 {

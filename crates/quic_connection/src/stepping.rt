@@ -21,9 +21,9 @@ use quic_wire_core::Side;
 use rand_core::Rng;
 use std::alloc::{AllocError, Global};
 
-/// Makes the call of one event, and appends a datagram that it gives. The ends keep their keys, and
-/// draw words of their random sources: policies that do what both did before (`AreOf`) do so still.
-/// The call answers that it is out of memory only where it allocates.
+/// Makes the call of one event, and appends a datagram that it gives. The endpoints keep their
+/// keys, and draw from their random sources: policies that do what both did before (`AreOf`) do so
+/// still. The call answers that it is out of memory only where it allocates.
 ///
 /// # Errors
 ///
@@ -50,7 +50,8 @@ pub fn step<H: HeaderKey + Drop, K: PacketKey + Drop, R: Rng + Drop, C: Controll
     make(alloc, ends, given, event)
 }
 
-/// The same, as the keys and the random sources of the ends have it.
+/// Makes the call of one event, for policies that are what the keys and the random sources of both
+/// endpoints do.
 fn make<H: HeaderKey + Drop, K: PacketKey + Drop, R: Rng + Drop, C: Controller>(
     alloc: Global,
     ends: &mut Ends<H, K, R, C>,
@@ -86,9 +87,9 @@ fn make<H: HeaderKey + Drop, K: PacketKey + Drop, R: Rng + Drop, C: Controller>(
     }
 }
 
-/// Makes one call at one end whose peer is elsewhere, and appends a datagram that it gives. The
-/// end keeps its keys, and draws words of its random source only at a poll, at a moment that comes
-/// or where a datagram does. A datagram of the peer is handed in by [`Connection::receive`]:
+/// Makes one call at one endpoint whose peer is elsewhere, and appends a datagram that it gives.
+/// The endpoint keeps its keys, and draws from its random source only at a poll, at a timeout or
+/// where a datagram comes. A datagram of the peer is handed in by [`Connection::receive`]:
 /// [`Call::Deliver`] finds none here.
 ///
 /// The call answers that it is out of memory only where it allocates.
@@ -134,7 +135,7 @@ pub fn call_at<H: HeaderKey + Drop, K: PacketKey + Drop, R: Rng + Drop, C: Contr
     at_end(alloc, end, given, &[], call)
 }
 
-/// Makes one call at one end; `theirs` are the datagrams of the other one.
+/// Makes one call at one endpoint; `theirs` are the datagrams of the other one.
 pub(crate) fn at_end<H: HeaderKey + Drop, K: PacketKey + Drop, R: Rng + Drop, C: Controller>(
     alloc: Global,
     end: &mut Connection<H, K, R, C>,
@@ -206,7 +207,7 @@ pub(crate) fn at_end<H: HeaderKey + Drop, K: PacketKey + Drop, R: Rng + Drop, C:
     }
 }
 
-/// A copy of a message is sent.
+/// Sends a copy of a message.
 fn send_at<H: HeaderKey + Drop, K: PacketKey + Drop, R: Rng + Drop, C: Controller>(
     alloc: Global,
     end: &mut Connection<H, K, R, C>,
@@ -239,7 +240,7 @@ fn send_at<H: HeaderKey + Drop, K: PacketKey + Drop, R: Rng + Drop, C: Controlle
     Ok(on_messages::send(end.datagrams_mut(), limits, copy, makes_room))
 }
 
-/// A message is read.
+/// Reads a message.
 fn recv_at<H: HeaderKey + Drop, K: PacketKey + Drop, R: Rng + Drop, C: Controller>(
     end: &mut Connection<H, K, R, C>,
 ) -> Answer
@@ -264,7 +265,7 @@ fn recv_at<H: HeaderKey + Drop, K: PacketKey + Drop, R: Rng + Drop, C: Controlle
     on_messages::recv(end.datagrams_mut(), limits)
 }
 
-/// A PING is asked for.
+/// Queues a PING.
 fn ping_at<H: HeaderKey + Drop, K: PacketKey + Drop, R: Rng + Drop, C: Controller>(
     end: &mut Connection<H, K, R, C>,
 ) -> Answer
@@ -289,7 +290,7 @@ fn ping_at<H: HeaderKey + Drop, K: PacketKey + Drop, R: Rng + Drop, C: Controlle
     Answer::Ping
 }
 
-/// The application closes, with a copy of its text.
+/// Closes for the application, with a copy of its text.
 fn close_at<H: HeaderKey + Drop, K: PacketKey + Drop, R: Rng + Drop, C: Controller>(
     alloc: Global,
     end: &mut Connection<H, K, R, C>,
@@ -321,7 +322,7 @@ fn close_at<H: HeaderKey + Drop, K: PacketKey + Drop, R: Rng + Drop, C: Controll
     Ok(Answer::Close)
 }
 
-/// The next id of the peer is used.
+/// Switches to the next connection ID of the peer.
 fn use_next_id_at<H: HeaderKey + Drop, K: PacketKey + Drop, R: Rng + Drop, C: Controller>(
     end: &mut Connection<H, K, R, C>,
 ) -> Answer
@@ -345,7 +346,7 @@ fn use_next_id_at<H: HeaderKey + Drop, K: PacketKey + Drop, R: Rng + Drop, C: Co
     Answer::UseNextId(end.use_next_id())
 }
 
-/// A poll, whose datagram is kept.
+/// Polls, and keeps the datagram.
 fn poll_at<H: HeaderKey + Drop, K: PacketKey + Drop, R: Rng + Drop, C: Controller>(
     alloc: Global,
     end: &mut Connection<H, K, R, C>,
@@ -393,7 +394,7 @@ fn keep(mine: &mut Vec<Datagram>, polled: &Result<Option<Transmit>, Failed>, byt
     }
 }
 
-/// The timers up to a moment expire.
+/// Lets the timers up to this time expire.
 fn timeout_at<H: HeaderKey + Drop, K: PacketKey + Drop, R: Rng + Drop, C: Controller>(
     end: &mut Connection<H, K, R, C>,
     now: Instant,
@@ -416,7 +417,7 @@ fn timeout_at<H: HeaderKey + Drop, K: PacketKey + Drop, R: Rng + Drop, C: Contro
     Answer::Timeout(end.handle_timeout(now))
 }
 
-/// The arrival of a datagram of the other end.
+/// Delivers a datagram of the other endpoint.
 fn deliver_at<H: HeaderKey + Drop, K: PacketKey + Drop, R: Rng + Drop, C: Controller>(
     alloc: Global,
     end: &mut Connection<H, K, R, C>,
@@ -453,7 +454,7 @@ fn deliver_at<H: HeaderKey + Drop, K: PacketKey + Drop, R: Rng + Drop, C: Contro
     }
 }
 
-/// The arrival of any bytes. Where they would open, no call is made.
+/// Hands in any bytes. If they would open, no call is made.
 fn inject_at<H: HeaderKey + Drop, K: PacketKey + Drop, R: Rng + Drop, C: Controller>(
     alloc: Global,
     end: &mut Connection<H, K, R, C>,

@@ -17,7 +17,7 @@ use quic_wire_core::Side;
 use rand_core::Rng;
 use std::alloc::{AllocError, Global};
 
-/// When each timer of an end expires, if it is set.
+/// When each timer of an endpoint expires, if it is set.
 fn timers<H: HeaderKey + Drop, K: PacketKey + Drop, R: Rng + Drop, C: Controller>(
     end: &Connection<H, K, R, C>,
 ) -> [Option<Instant>; 9]
@@ -36,7 +36,7 @@ fn timers<H: HeaderKey + Drop, K: PacketKey + Drop, R: Rng + Drop, C: Controller
     ]
 }
 
-/// Room for what is seen of both ends behind an event: for the texts with which each was closed by
+/// Room for the view of both endpoints after an event: for the texts with which each was closed by
 /// the other.
 #[derive(Drop)]
 pub(crate) struct Rooms {
@@ -44,7 +44,7 @@ pub(crate) struct Rooms {
     server: Vec<u8>,
 }
 
-/// Room for what is seen of both ends behind this event. An error is want of memory.
+/// Makes room for the view of both endpoints after this event. Fails if out of memory.
 pub(crate) fn rooms_behind<H: HeaderKey + Drop, K: PacketKey + Drop, R: Rng + Drop, C: Controller>(
     alloc: Global,
     ends: &Ends<H, K, R, C>,
@@ -75,8 +75,8 @@ pub(crate) fn rooms_behind<H: HeaderKey + Drop, K: PacketKey + Drop, R: Rng + Dr
     Ok(Rooms { client, server })
 }
 
-/// Room for the text with which an end may be closed by the other one, of which these are the
-/// datagrams, behind this event. An error is want of memory.
+/// Makes room for the text with which an endpoint may be closed by the other one, of which these
+/// are the datagrams, after this event. Fails if out of memory.
 fn room_behind<H: HeaderKey + Drop, K: PacketKey + Drop, R: Rng + Drop, C: Controller>(
     alloc: Global,
     end: &Connection<H, K, R, C>,
@@ -96,8 +96,8 @@ fn room_behind<H: HeaderKey + Drop, K: PacketKey + Drop, R: Rng + Drop, C: Contr
     Vec::with_capacity(alloc, text_len(end).max(coming))
 }
 
-/// How many bytes the datagram has that a call delivers, of these of the other end: no text with
-/// which that closes has more. 0 where it delivers none.
+/// How many bytes the datagram has that a call delivers, of these of the other endpoint: no text
+/// with which that closes has more. 0 if it delivers none.
 fn delivered_len(call: &Call, theirs: &[Datagram]) -> usize
     ensures { result ≡ handed_len theirs.now call.now }
 {
@@ -109,7 +109,7 @@ fn delivered_len(call: &Call, theirs: &[Datagram]) -> usize
     }
 }
 
-/// How many bytes the text has with which the peer closed an end; 0 where it didn't.
+/// How many bytes the text has with which the peer closed an endpoint; 0 if it didn't.
 fn text_len<H: HeaderKey + Drop, K: PacketKey + Drop, R: Rng + Drop, C: Controller>(
     end: &Connection<H, K, R, C>,
 ) -> usize
@@ -118,8 +118,8 @@ fn text_len<H: HeaderKey + Drop, K: PacketKey + Drop, R: Rng + Drop, C: Controll
     end.lost().map_or(0, LostReason::text_len)
 }
 
-/// What is seen of an end, where `room` is empty, and there is room in it for the text with which
-/// the peer closed the end.
+/// The view of an endpoint, if `room` is empty, and there is room in it for the text with which the
+/// peer closed the endpoint.
 fn end_view<H: HeaderKey + Drop, K: PacketKey + Drop, R: Rng + Drop, C: Controller>(
     end: &Connection<H, K, R, C>,
     room: Vec<u8>,
@@ -141,7 +141,7 @@ fn end_view<H: HeaderKey + Drop, K: PacketKey + Drop, R: Rng + Drop, C: Controll
     }
 }
 
-/// What is seen of both ends, whatever they gave, where there is room for it.
+/// The view of both endpoints, whatever they gave, if there is room for it.
 pub(crate) fn view<H: HeaderKey + Drop, K: PacketKey + Drop, R: Rng + Drop, C: Controller>(
     ends: &Ends<H, K, R, C>,
     rooms: Rooms,

@@ -13,12 +13,12 @@ use Rattle.quic_spaces.specs.Numbers.{Numbers, cut_against, can_number, may_give
 use Rattle.quic_spaces.specs.Filter.{Filter, allocated, is_skipped}
 use Rattle.quic_machine.specs.Policy.{Policy}
 use Rattle.quic_machine.specs.End.{End, number_of, words_drawn}
-use Rattle.quic_machine.specs.Tracking.{Carried, carried_in}
+use Rattle.quic_machine.specs.Tracking.{Tracking, Carried, carried_in}
 use Rattle.quic_config.specs.Transport.{TransportSettings}
 use Rattle.quic_machine.specs.Parts.{Path, Validation, current_mtu}
-use Rattle.quic_machine.specs.Poll.{Draft, Leaving, whole, alone, probe, closing, nothing, draft_left, least_by, least_left, most_of, number_width, overhead, least_size, zeros_behind, payload_of, datagram_of, datagram_size, asking, tracked}
-use Rattle.quic_machine.specs.DraftLaws.{MayGo, left_least}
-use Rattle.quic_connection_parts.specs.Leaving.{least_of, pads_left, beside, zeros_of}
+use Rattle.quic_machine.specs.Poll.{Draft, Leaving, whole, alone, probe, closing, nothing, draft_left, least_by, least_left, beside_frames, most_ordinary, most_of, number_width, overhead, least_size, zeros_behind, payload_of, datagram_of, datagram_size, asking, tracked}
+use Rattle.quic_machine.specs.DraftLaws.{MayGo, left_least, ordinary_within}
+use Rattle.quic_connection_parts.specs.Leaving.{least_of, pads_left, zeros_of}
 use Rattle.quic_connection_parts.specs.Frames.{tracked_as}
 use Rattle.quic_machine.specs.PollCases.{composes_left}
 
@@ -76,20 +76,28 @@ module _ (leaving : Leaving) (e : End) (due : MayGo leaving e) where
       ∙ ap (λ (i : Ids). sent p.header p.packet (number_of went.end) (cut_against went.end.numbers) i.peer.id payload) (sym same_ids)
 
   -- as many bytes stand beside its payload as the end says, and it has as many at least
-  pub same_overhead : overhead went ≡ beside e
+  pub same_overhead : overhead went ≡ beside_frames e
   same_overhead = ap (λ (i : Ids). 1 + length i.peer.id + number_width went + 16) same_ids ∙ ap (λ (k : ℕ). 1 + length e.ids.peer.id + k + 16) same_width
+
+  -- an ordinary one has as many at most
+  same_ordinary : most_ordinary went.end ≡ most_ordinary e
+  same_ordinary =
+      let c = composes_left leaving e due in
+      ap (λ (t : Tracking). most_ordinary (record went.end { tracking = t })) c.tracking
+      ∙ ap (λ (t : TransportSettings). most_ordinary (record went.end { tracking = e.tracking; transport = t })) c.transport
+      ∙ ap (λ (p : Path). most_ordinary (record e { path = p })) c.path
 
   pub same_least : least_size went ≡ least_at leaving (asking went.frames) e
   same_least =
-      ap (λ (t : TransportSettings). if t.pad_to_mtu && asking went.frames then max went.least (current_mtu went.end.path) else went.least) (composes_left leaving e due).transport
-      ∙ ap (λ (p : Path). if e.transport.pad_to_mtu && asking went.frames then max went.least (current_mtu p) else went.least) (composes_left leaving e due).path
-      ∙ ap (λ (n : ℕ). if e.transport.pad_to_mtu && asking went.frames then max n (current_mtu e.path) else n) (left_least leaving e ∙ sym (pads_least leaving e))
+      ap (λ (t : TransportSettings). if t.pad_to_mtu && asking went.frames then max went.least (most_ordinary went.end) else went.least) (composes_left leaving e due).transport
+      ∙ ap (λ (n : ℕ). if e.transport.pad_to_mtu && asking went.frames then max went.least n else went.least) same_ordinary
+      ∙ ap (λ (n : ℕ). if e.transport.pad_to_mtu && asking went.frames then max n (most_ordinary e) else n) (left_least leaving e ∙ sym (pads_least leaving e))
 
   -- so it has where its frames are taken already
   pub same_least_of : (pads asks : Bool) → least_of leaving pads asks went.end ≡ least_of leaving pads asks e
   same_least_of pads asks =
-      ap (λ (t : TransportSettings). if t.pad_to_mtu && asks then max (least_by leaving pads) (current_mtu went.end.path) else least_by leaving pads) (composes_left leaving e due).transport
-      ∙ ap (λ (p : Path). if e.transport.pad_to_mtu && asks then max (least_by leaving pads) (current_mtu p) else least_by leaving pads) (composes_left leaving e due).path
+      ap (λ (t : TransportSettings). if t.pad_to_mtu && asks then max (least_by leaving pads) (most_ordinary went.end) else least_by leaving pads) (composes_left leaving e due).transport
+      ∙ ap (λ (n : ℕ). if e.transport.pad_to_mtu && asks then max (least_by leaving pads) n else least_by leaving pads) same_ordinary
 
   -- so it is padded
   pub zeros_are : zeros_behind went ≡ zeros_of e (length went.bytes) (least_at leaving (asking went.frames) e)
@@ -112,29 +120,33 @@ module _ (leaving : Leaving) (e : End) (due : MayGo leaving e) where
       ap length payload_is ∙ length-append went.bytes (replicate pad 0) ∙ ap (λ (k : ℕ). length went.bytes + k) (length-replicate pad 0)
 
 -- it has no more at least than at most
-pub least_within : (leaving : Leaving) (pads asks : Bool) (e : End) → 1200 ≤ current_mtu e.path → least_of leaving pads asks e ≤ most_of leaving e
+pub least_within : (leaving : Leaving) (pads asks : Bool) (e : End) → 1200 ≤ most_ordinary e → least_of leaving pads asks e ≤ most_of leaving e
 least_within leaving pads asks e sized = by (e.transport.pad_to_mtu && asks) pads leaving
   where
-    by : (b p : Bool) (l : Leaving) → (if b then max (least_by l p) (current_mtu e.path) else least_by l p) ≤ most_of l e
-    by true true whole = omega arith
-    by true false whole = omega arith
-    by true p alone = omega arith
-    by true p (probe size) = omega arith
-    by true p (closing f) = omega arith
-    by true p (nothing held) = omega arith
-    by false true whole = omega arith
-    by false false whole = omega arith
+    within : most_ordinary e ≤ current_mtu e.path
+    within = ordinary_within e
+
+    by : (b p : Bool) (l : Leaving) → (if b then max (least_by l p) (most_ordinary e) else least_by l p) ≤ most_of l e
+    by true true whole = omega (arith, sized)
+    by true false whole = omega (arith, sized)
+    by true p alone = omega (arith, sized)
+    by true p (probe size) = omega (arith, within)
+    by true p (closing f) = omega (arith, within)
+    by true p (nothing held) = omega (arith, within)
+    by false true whole = omega (arith, sized)
+    by false false whole = omega (arith, sized)
     by false p alone = omega arith
     by false p (probe size) = omega arith
     by false p (closing f) = omega arith
     by false p (nothing held) = omega arith
 
-pub mtu_within : (leaving : Leaving) (e : End) → current_mtu e.path ≤ most_of leaving e
-mtu_within whole e = omega arith
-mtu_within alone e = omega arith
-mtu_within (probe size) e = omega arith
-mtu_within (closing f) e = omega arith
-mtu_within (nothing held) e = omega arith
+-- and no fewer at most than an ordinary one
+pub most_within : (leaving : Leaving) (e : End) → most_ordinary e ≤ most_of leaving e
+most_within whole e = omega arith
+most_within alone e = omega arith
+most_within (probe size) e = let within = ordinary_within e in omega (arith, within)
+most_within (closing f) e = ordinary_within e
+most_within (nothing held) e = ordinary_within e
 
 -- it is tracked as its parts say
 pub tracked_is : (d : Draft) (asks : Bool) (size : ℕ) (carried : Carried) → asks ≡ asking d.frames → size ≡ datagram_size d → carried ≡ carried_in d.frames → tracked_as asks size carried d.end ≡ tracked d

@@ -21,7 +21,7 @@ use Rattle.quic_machine.specs.End.{End, ConnectionValue, with_end, with_closing,
 use Rattle.quic_machine.specs.Control.{is_window_full, pacer_asked, Gated, lets, holds, with_pacing_timer}
 use Rattle.quic_machine.specs.Poll.{Polled, gives_nothing, gives_datagram, datagram_of, after_given, bounds, may_seal, close_to_go, closes_if, closes, probed, request_queued, asks_to_go, is_gated, gated, probe, most_of, Ready, leaves, leaves_unless, goes, goes_as, draft_left, draft_of, rests, sends, polled_if, polled_in, polled, told_polled_in, told_polled, told_if, told_draft, waits, IsSilent}
 use Rattle.quic_machine.specs.Poll as poll
-use Rattle.quic_machine.specs.DraftLaws.{MayGo, MayLeave}
+use Rattle.quic_machine.specs.DraftLaws.{MayGo, MayLeave, ordinary_within}
 use Rattle.quic_connection_parts.specs.declared.leaving.Leaving.{Leaving}
 use Rattle.quic_connection_parts.specs.declared.leaving.Leaving.TheVariants.{Whole, Alone, Probe}
 use Rattle.quic_connection_parts.specs.Leaving.{leaving_of, Leaves, rested_if, rested, IsLooked}
@@ -150,13 +150,13 @@ ready_sized least most e now sized = by_ready (request_queued (probed x)) (λ (r
 
 -- a datagram has fewer bytes than 16 bits count
 pub few_bytes : (l : Leaving) (e : End) → current_mtu e.path < 2 ^ 16 → IsLooked l e → most_of (leaving_of l) e < 2 ^ 16
-few_bytes Whole e few looked = few
-few_bytes Alone e few looked = few
+few_bytes Whole e few looked = let within = ordinary_within e in omega (arith, few, within)
+few_bytes Alone e few looked = let within = ordinary_within e in omega (arith, few, within)
 few_bytes (Probe n) e few looked = let most = (looked n refl).1 in omega (arith, few, most)
 
 within_payload : (l : Leaving) (e : End) (size : ℕ) → current_mtu e.path ≤ most_payload → IsLooked l e → size ≤ most_of (leaving_of l) e → size ≤ most_payload
-within_payload Whole e size few looked within = omega (arith, few, within)
-within_payload Alone e size few looked within = omega (arith, few, within)
+within_payload Whole e size few looked within = let most = ordinary_within e in omega (arith, few, within, most)
+within_payload Alone e size few looked within = let most = ordinary_within e in omega (arith, few, within, most)
 within_payload (Probe n) e size few looked within = let most = (looked n refl).1 in omega (arith, few, within, most)
 
 module _ {H K R C : Type 0} (w z : ConnectionValue H K R C) (now : ℕ) (left : z ≡ with_end w (rested (ready_at w.end now))) where

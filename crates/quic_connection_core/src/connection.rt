@@ -60,10 +60,10 @@ use rand_core::Rng;
 use std::alloc::{AllocError, Global};
 use std::marker::Model;
 
-/// One end of a connection: a deterministic state machine of datagrams, moments and application
+/// One endpoint of a connection: a deterministic state machine of datagrams, times and application
 /// calls (quinn-proto's `Connection`, without handshake and sockets).
 ///
-/// Contracts see its keys, its random source, its congestion controller, what it counted of
+/// Contracts see its keys, its random source, its congestion controller, its statistics of
 /// datagrams, and the record of its state.
 #[derive(Drop)]
 pub struct Connection<H, K, R, C: Controller> {
@@ -182,19 +182,23 @@ impl<H: HeaderKey + Drop, K: PacketKey + Drop, R: Rng + Drop, C: Controller> Con
     R,
     C,
 > {
-    /// An end that was made at a moment: its limits are the peer's transport parameters, as the
-    /// peer's `Config::write_parameters` wrote them. Both ids were exchanged before. What
+    /// Makes an endpoint at this time. Its limits are the peer's transport parameters, as the
+    /// peer's `Config::write_parameters` wrote them. Both IDs were exchanged before. What
     /// `keys.header.local` and `keys.packet.local` seal, the peer's `remote` ones open, and the
-    /// other way round. `validated` says whether the peer's address is validated already (RFC 9000,
-    /// section 8): where it isn't, the end sends no more than three times the bytes that come, and
-    /// a PATH_CHALLENGE waits, until the peer has answered one; [`Timer::PathValidation`] is set to
-    /// three probe timeouts later. `random` is the end's random source: a word of it says which
-    /// packet number is left out first, and each time that one is left out, another word says which
-    /// is next (RFC 9000, section 21.4); each PATH_CHALLENGE is a word of its own.
-    /// Each own id but the first takes three words, for itself and its token.
+    /// other way round.
     ///
-    /// The end issues ids at once, up to as many as the peer takes, the first one among them, and 5
-    /// at most (sections 5.1.1 and 18.2): the peer is told of them by its first datagrams.
+    /// `validated` says whether the peer's address is validated already (RFC 9000, section 8). If
+    /// it isn't, the endpoint sends no more than three times the bytes that come, and a
+    /// PATH_CHALLENGE is pending, until the peer has answered one; [`Timer::PathValidation`] is set
+    /// to three probe timeouts later.
+    ///
+    /// `random` is the endpoint's random source, of `u64` values. One says which packet number is
+    /// skipped first, and each time that one is skipped, another says which is next (RFC 9000,
+    /// section 21.4). The data of each PATH_CHALLENGE is one of its own. Each own ID but the first
+    /// takes three, for itself and its token.
+    ///
+    /// The endpoint issues IDs at once, up to as many as the peer takes, the first one among them,
+    /// and 8 at most (sections 5.1.1 and 18.2): its first datagrams carry them to the peer.
     ///
     /// The factory of the configuration makes the congestion controller, for the size of datagrams
     /// that the path begins with.
@@ -300,14 +304,16 @@ impl<H: HeaderKey + Drop, K: PacketKey + Drop, R: Rng + Drop, C: Controller> Con
         Ok(connection.validating())
     }
 
-    /// Whether the end is no longer open: it is closing, drained or failed (RFC 9000, section 10).
+    /// Whether the endpoint is no longer open: it is closing, drained or failed (RFC 9000, section
+    /// 10).
     pub fn is_closed(&self) -> bool
         ensures { IsTrue result ↔ (self.now.end.closing.state ≢ states.Open) }
     {
         self.closing.state() != State::Open
     }
 
-    /// Whether the end sends nothing more and drops what comes (RFC 9000, section 10.2.2).
+    /// Whether the endpoint is drained: it sends nothing more and drops what comes (RFC 9000,
+    /// section 10.2.2).
     pub fn is_drained(&self) -> bool
         ensures { IsTrue result ↔ (self.now.end.closing.state ≡ states.Drained) }
     {
@@ -322,8 +328,8 @@ impl<H: HeaderKey + Drop, K: PacketKey + Drop, R: Rng + Drop, C: Controller> Con
         self.closing.state() == State::Failed
     }
 
-    /// Whether the peer's address is validated (RFC 9000, section 8): it was as the end was made,
-    /// or the peer answered a PATH_CHALLENGE. It stays so.
+    /// Whether the peer's address is validated (RFC 9000, section 8): it was as the endpoint was
+    /// made, or the peer answered a PATH_CHALLENGE. It stays so.
     pub fn is_validated(&self) -> bool
         ensures { result ≡ self.now.end.path.validated }
     {
@@ -353,8 +359,8 @@ impl<H: HeaderKey + Drop, K: PacketKey + Drop, R: Rng + Drop, C: Controller> Con
         self.path.rtt.get()
     }
 
-    /// How many probe timeouts passed since an acknowledgement came (RFC 9002, section 6.2.1;
-    /// quinn-proto's `pto_count`). Each doubles the next one, the first 16 of them.
+    /// How many probe timeouts passed since an ACK came (RFC 9002, section 6.2.1; quinn-proto's
+    /// `pto_count`). Each doubles the next one, the first 16 of them.
     pub fn pto_count(&self) -> u64
         ensures { result ≡ self.now.end.tracking.timeouts }
     {
@@ -369,15 +375,15 @@ impl<H: HeaderKey + Drop, K: PacketKey + Drop, R: Rng + Drop, C: Controller> Con
         self.ids.destination()
     }
 
-    /// Why the end isn't open: what closed it, or none where nothing did. A failed end has no
-    /// reason, whether it had closed before or not.
+    /// Why the endpoint isn't open: what closed it, or `None` if nothing did. A failed endpoint has
+    /// no reason, whether it had closed before or not.
     pub fn lost(&self) -> Option<&LostReason>
         ensures { option_copied result ≡ self.now.end.closing.reason }
     {
         self.closing.reason()
     }
 
-    /// Whether the end is open, and else in which way it isn't (RFC 9000, section 10).
+    /// The state of the endpoint: open, or else in which way it isn't (RFC 9000, section 10).
     pub fn state(&self) -> State
         ensures state { result ≡ self.now.end.closing.state }
         ensures no_reason { self.now.end.closing.state ≡ states.Failed → self.now.end.closing.reason ≡ None }
@@ -385,14 +391,15 @@ impl<H: HeaderKey + Drop, K: PacketKey + Drop, R: Rng + Drop, C: Controller> Con
         self.closing.state()
     }
 
-    /// Takes a moment over.
+    /// Advances the endpoint's time to this one.
     fn tick(&mut self, now: Instant)
         ensures { self.new ≡ with_end self.old (with_closing self.old.end (ticked self.old.end.closing now)) }
     {
         self.closing.tick(now);
     }
 
-    /// A packet of this number opened: whether it came before, which changes nothing.
+    /// Notes that a packet of this number opened. Returns whether it is a duplicate, which changes
+    /// nothing.
     fn open_number(&mut self, number: u64) -> bool
         requires { number < 2 ^ 62 }
         ensures answer { result ≡ is_duplicate self.old.end.numbers.opened number }
@@ -401,9 +408,10 @@ impl<H: HeaderKey + Drop, K: PacketKey + Drop, R: Rng + Drop, C: Controller> Con
         self.space.numbers.open(number)
     }
 
-    /// The whole payload of a packet of this number was taken, which asks for an acknowledgement or
-    /// doesn't, and came with this mark: its number is to be acknowledged, and the times without a
-    /// packet begin anew. An error is want of memory, and nothing has changed.
+    /// Notes that the whole payload of a packet of this number was processed. `asks` says whether
+    /// the packet is ack-eliciting, and `ecn` with which codepoint it came. Its number is to be
+    /// acknowledged, and the idle and keep-alive times begin anew. Fails if out of memory; nothing
+    /// has changed then.
     fn take_number(
         &mut self,
         number: u64,
@@ -436,22 +444,22 @@ impl<H: HeaderKey + Drop, K: PacketKey + Drop, R: Rng + Drop, C: Controller> Con
         Ok(())
     }
 
-    /// How long the peer holds an acknowledgement back: as it told (RFC 9000, section 18.2), or was
-    /// asked, and acknowledged that.
+    /// The peer's max_ack_delay: as it advertised (RFC 9000, section 18.2), or as ACK_FREQUENCY
+    /// asked for, once that is acknowledged.
     fn peer_delay(&self) -> Duration
         ensures { result ≡ peer_delay self.now.end }
     {
         self.ack_frequency.peer_max_ack_delay()
     }
 
-    /// How long an acknowledgement is waited for before a probe goes (RFC 9002, section 6.2.1).
+    /// The probe timeout, without back-off (RFC 9002, section 6.2.1).
     fn probe_timeout(&self) -> Duration
         ensures { result ≡ probe_timeout self.now.end }
     {
         self.path.rtt.pto_base() + self.ack_frequency.max_ack_delay_for_pto()
     }
 
-    /// Sets the loss timer to where what is tracked puts it, or stops it.
+    /// Sets the loss timer to where the tracked packets put it, or stops it.
     fn set_loss_timer(&mut self)
         ensures { self.new ≡ with_end self.old (with_loss_timer self.old.end) }
     {
@@ -461,14 +469,14 @@ impl<H: HeaderKey + Drop, K: PacketKey + Drop, R: Rng + Drop, C: Controller> Con
         }
     }
 
-    /// A poll reads which window the congestion controller shows.
+    /// Stores the congestion controller's window, which the poll under way goes by.
     fn read_window(&mut self)
         ensures { self.new ≡ with_end self.old (with_window self.old.end (C.window_of self.old.control)) }
     {
         self.window = self.path.congestion.window();
     }
 
-    /// Asks for a PING, so that the peer acknowledges (RFC 9000, section 19.2). Two before it goes
+    /// Queues a PING, so that the peer acknowledges (RFC 9000, section 19.2). Two before it is sent
     /// are one.
     pub fn ping(&mut self)
         ensures { self.new ≡ with_end self.old (end_after_ping self.old.end) }
@@ -476,14 +484,14 @@ impl<H: HeaderKey + Drop, K: PacketKey + Drop, R: Rng + Drop, C: Controller> Con
         self.space.ping_pending = true;
     }
 
-    /// Whether the end is the client or the server (quinn-proto's `Connection::side`).
+    /// Whether the endpoint is the client or the server (quinn-proto's `Connection::side`).
     pub fn side(&self) -> Side
         ensures { result ≡ side_of self.now.end }
     {
         self.streams.state.side()
     }
 
-    /// Fails for good: no timer is set any more. The controller isn't told.
+    /// Fails for good: no timer is set any more. The controller isn't notified.
     fn fail(&mut self)
         ensures failed { HasFailed self.old self.new }
         ensures control { self.new.control ≡ self.old.control }
@@ -493,7 +501,7 @@ impl<H: HeaderKey + Drop, K: PacketKey + Drop, R: Rng + Drop, C: Controller> Con
         self.stop_timers();
     }
 
-    /// No timer is set any more.
+    /// Stops all timers.
     fn stop_timers(&mut self)
         ensures { self.new ≡ with_end self.old (record self.old.end { timers = no_timers }) }
     {
@@ -507,35 +515,36 @@ impl<H: HeaderKey + Drop, K: PacketKey + Drop, R: Rng + Drop, C: Controller> Con
         self.space.numbers.can_number()
     }
 
-    /// Whether something waits beside acknowledgements.
+    /// Whether something ack-eliciting is pending.
     fn asks_to_go(&self) -> bool
         ensures { result ≡ asks_to_go self.now.end }
     {
         self.signals_wait() || self.frames_wait()
     }
 
-    /// Whether PATH_CHALLENGE, PATH_RESPONSE, PING or IMMEDIATE_ACK waits.
+    /// Whether PATH_CHALLENGE, PATH_RESPONSE, PING or IMMEDIATE_ACK is pending.
     fn signals_wait(&self) -> bool
         ensures { result ≡ signals_wait self.now.end.waiting.signals }
     {
         self.path_frames_wait() || self.space.ping_pending || self.space.immediate_ack_pending
     }
 
-    /// The same beside PATH_CHALLENGE, PATH_RESPONSE, PING and IMMEDIATE_ACK.
+    /// Whether control frames of streams or IDs, messages or stream data are pending that may be
+    /// sent.
     fn frames_wait(&self) -> bool
         ensures { result ≡ (not (is_empty self.now.end.waiting.frames self.now.end.streams) || (message_waits self.now.end || can_send_stream_data self.now.end.streams)) }
     {
         !self.streams.pending.is_empty(&self.streams.state) || self.bytes_wait()
     }
 
-    /// Whether a message waits that a datagram takes, or bytes of streams.
+    /// Whether a message that fits a datagram is pending, or stream data.
     fn bytes_wait(&self) -> bool
         ensures { result ≡ (message_waits self.now.end || can_send_stream_data self.now.end.streams) }
     {
         self.message_waits() || self.streams.state.can_send_stream_data()
     }
 
-    /// A PING that waits is taken: whether one did.
+    /// Takes the pending PING, if there is one: whether there was.
     fn take_ping(&mut self) -> bool
         ensures waited { result ≡ self.old.end.waiting.signals.ping }
         ensures end { self.new ≡ with_end self.old (with_ping self.old.end false) }
@@ -545,7 +554,7 @@ impl<H: HeaderKey + Drop, K: PacketKey + Drop, R: Rng + Drop, C: Controller> Con
         waited
     }
 
-    /// An IMMEDIATE_ACK that waits is taken: whether one did.
+    /// Takes the pending IMMEDIATE_ACK, if there is one: whether there was.
     fn take_immediate_ack(&mut self) -> bool
         ensures waited { result ≡ self.old.end.waiting.signals.immediate }
         ensures end { self.new ≡ with_end self.old (with_immediate self.old.end false) }
@@ -563,7 +572,7 @@ impl<H, K, R, C: Controller> Connection<H, K, R, C> {
     ghost use Rattle.quic_streams_handles.specs.contracts.end_streams.EndStreams.{the_row as streams_row};
     ghost use Rattle.quic_connection_core.specs.Handed.{handed_back};
 
-    /// Whether the end sends and receives.
+    /// Whether the endpoint sends and receives.
     pub fn is_open(&self) -> bool
         ensures { result ≡ is_open self.now.end.closing.state }
     {
@@ -573,7 +582,7 @@ impl<H, K, R, C: Controller> Connection<H, K, R, C> {
         }
     }
 
-    /// All streams of the end, and what waits to be sent beside their bytes: what its handles
+    /// All streams of the endpoint, and the control frames that are pending: what its handles
     /// borrow.
     pub fn streams_mut(&mut self) -> &mut EndStreams
         ensures* writes_back { sem 𝓛 (follows (connection_row H.row K.row R.row C.row C.Controller) streams_row self.entry.ghost_name result.ghost_name (handed_back self.old)) }
@@ -583,7 +592,7 @@ impl<H, K, R, C: Controller> Connection<H, K, R, C> {
         &mut self.streams
     }
 
-    /// The streams of the end (quinn-proto's `Connection::streams`).
+    /// The streams of the endpoint (quinn-proto's `Connection::streams`).
     pub fn streams(&mut self) -> Streams<'_>
         ensures* writes_back { sem 𝓛 (follows (connection_row H.row K.row R.row C.row C.Controller) streams_row self.entry.ghost_name result.streams.ghost_name (handed_back self.old)) }
         ensures state { result.streams.now.state ≡ self.old.end.streams }
@@ -594,8 +603,7 @@ impl<H, K, R, C: Controller> Connection<H, K, R, C> {
         Streams::new(&mut self.streams, is_open)
     }
 
-    /// The sending half of a stream (quinn-proto's `Connection::send_stream`), which may be one
-    /// that there is not.
+    /// The send half of a stream (quinn-proto's `Connection::send_stream`), which needn't exist.
     pub fn send_stream(&mut self, id: StreamId) -> SendStream<'_>
         ensures* writes_back { sem 𝓛 (follows (connection_row H.row K.row R.row C.row C.Controller) streams_row self.entry.ghost_name result.streams.ghost_name (handed_back self.old)) }
         ensures state { result.streams.now.state ≡ self.old.end.streams }
@@ -607,8 +615,7 @@ impl<H, K, R, C: Controller> Connection<H, K, R, C> {
         SendStream::new(id, &mut self.streams, is_open)
     }
 
-    /// The receiving half of a stream (quinn-proto's `Connection::recv_stream`), which may be one
-    /// that there is not.
+    /// The receive half of a stream (quinn-proto's `Connection::recv_stream`), which needn't exist.
     pub fn recv_stream(&mut self, id: StreamId) -> RecvStream<'_>
         ensures* writes_back { sem 𝓛 (follows (connection_row H.row K.row R.row C.row C.Controller) streams_row self.entry.ghost_name result.streams.ghost_name (handed_back self.old)) }
         ensures state { result.streams.now.state ≡ self.old.end.streams }

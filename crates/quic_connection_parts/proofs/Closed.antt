@@ -20,10 +20,9 @@ use Rattle.quic_machine.specs.declared.answers.Failed.{Failed}
 use Rattle.quic_machine.specs.declared.answers.Transmit.{Transmit}
 use Rattle.quic_machine.specs.Policy.{Policy}
 use Rattle.quic_machine.specs.Ids.{destination}
-use Rattle.quic_machine.specs.Parts.{current_mtu}
 use Rattle.quic_machine.specs.End.{End, ConnectionValue, policy_of, with_closing, with_number_given, number_of}
 use Rattle.quic_machine.specs.Closing.{close_owed, close_given}
-use Rattle.quic_machine.specs.Poll.{Draft, closing, draft_as, datagram_of, payload_of, zeros_behind, number_width, frame_room, close_with, longest_fitting, fitted, close_to_go, may_close, can_close, after_close, Polled, gives_nothing, gives_datagram, mark_of, closes_if, closes}
+use Rattle.quic_machine.specs.Poll.{Draft, closing, draft_as, datagram_of, payload_of, zeros_behind, number_width, most_ordinary, close_room, close_with, longest_fitting, fitted, close_to_go, may_close, can_close, after_close, Polled, gives_nothing, gives_datagram, mark_of, closes_if, closes}
 use Rattle.quic_connection_parts.specs.Drawn.{words_of}
 use Rattle.quic_connection_parts.specs.Given.{given_bytes}
 use Rattle.quic_connection_parts.proofs.Drawing.{first_word}
@@ -47,17 +46,17 @@ close_payload e f none long = ap (λ (k : ℕ). spelling f ++ replicate k 0) zer
     d : Draft
     d = draft_as (closing f) e
 
-    least : (b : Bool) → (if b && (asks f || false) then max 0 (current_mtu e.path) else 0) ≡ 0
-    least true = ap (λ (a : Bool). if (a || false) then max 0 (current_mtu e.path) else 0) none
+    least : (b : Bool) → (if b && (asks f || false) then max 0 (most_ordinary e) else 0) ≡ 0
+    least true = ap (λ (a : Bool). if (a || false) then max 0 (most_ordinary e) else 0) none
     least false = refl
 
     zeros : zeros_behind d ≡ 0
     zeros =
         let some = width_some (number_of e - cut_against e.numbers) in
-        ap (λ (a : Bool). max (4 - (number_width d + length (spelling f))) ((if e.transport.pad_to_mtu && (a || false) then max 0 (current_mtu e.path) else 0) - (1 + length (destination e.ids) + number_width d + 16 + length (spelling f)))) none
+        ap (λ (a : Bool). max (4 - (number_width d + length (spelling f))) ((if e.transport.pad_to_mtu && (a || false) then max 0 (most_ordinary e) else 0) - (1 + length (destination e.ids) + number_width d + 16 + length (spelling f)))) none
         ∙ go e.transport.pad_to_mtu some
       where
-        go : (b : Bool) → 1 ≤ number_width d → max (4 - (number_width d + length (spelling f))) ((if b && false then max 0 (current_mtu e.path) else 0) - (1 + length (destination e.ids) + number_width d + 16 + length (spelling f))) ≡ 0
+        go : (b : Bool) → 1 ≤ number_width d → max (4 - (number_width d + length (spelling f))) ((if b && false then max 0 (most_ordinary e) else 0) - (1 + length (destination e.ids) + number_width d + 16 + length (spelling f))) ≡ 0
         go true some = omega (arith, some, long)
         go false some = omega (arith, some, long)
 
@@ -71,17 +70,17 @@ close_datagram p e f none long = ap (λ (z : List ℕ). sent p.header p.packet (
 pub close_gives_number : (p : Policy) (e : End) → IsSome (close_to_go p e) → may_give e.numbers (number_of e) ≡ true
 close_gives_number p e = go (may_close p e) refl
   where
-    go : (b : Bool) → may_close p e ≡ b → IsSome (if b then option_map (fitted (frame_room e)) (close_owed e.closing) else None) → may_give e.numbers (number_of e) ≡ true
+    go : (b : Bool) → may_close p e ≡ b → IsSome (if b then option_map (fitted (close_room e)) (close_owed e.closing) else None) → may_give e.numbers (number_of e) ≡ true
     go true is some =
         let parts = and_parts (not e.path.blocked) (can_close p e) is in
         (and_parts (may_give e.numbers (number_of e)) (nat_lt e.numbers.sealed p.seals) parts.1).0
     go false is some = let clash : ◌≡◌ {A = Bool} false true = some in absurd cc
 
 -- what goes is what is owed, cut so that it fits
-pub close_is : (p : Policy) (e : End) (P : FrameValue → Type 0) → IfSome (close_owed e.closing) (λ f. P (fitted (frame_room e) f)) → IfSome (close_to_go p e) P
+pub close_is : (p : Policy) (e : End) (P : FrameValue → Type 0) → IfSome (close_owed e.closing) (λ f. P (fitted (close_room e) f)) → IfSome (close_to_go p e) P
 close_is p e P = go (may_close p e) (close_owed e.closing)
   where
-    go : (b : Bool) (o : Option FrameValue) → IfSome o (λ f. P (fitted (frame_room e) f)) → IfSome (if b then option_map (fitted (frame_room e)) o else None) P
+    go : (b : Bool) (o : Option FrameValue) → IfSome o (λ f. P (fitted (close_room e) f)) → IfSome (if b then option_map (fitted (close_room e)) o else None) P
     go true (Some f) i = i
     go true None i = tt
     go false o i = tt
@@ -90,7 +89,7 @@ close_is p e P = go (may_close p e) (close_owed e.closing)
 pub close_owes : (p : Policy) (e : End) → IsSome (close_to_go p e) → IsSome (close_owed e.closing)
 close_owes p e = go (may_close p e) (close_owed e.closing)
   where
-    go : (b : Bool) (o : Option FrameValue) → IsSome (if b then option_map (fitted (frame_room e)) o else None) → IsSome o
+    go : (b : Bool) (o : Option FrameValue) → IsSome (if b then option_map (fitted (close_room e)) o else None) → IsSome o
     go true (Some f) some = refl
     go true None some = some
     go false (Some f) some = refl
@@ -120,7 +119,7 @@ some_is (Some x) is = refl
 pub goes_by : (p : Policy) (e : End) → is_some (close_to_go p e) ≡ (not e.path.blocked && (is_some (close_owed e.closing) && can_close p e))
 goes_by p e = go e.path.blocked (can_close p e) (close_owed e.closing)
   where
-    go : (b can : Bool) (o : Option FrameValue) → is_some (if not b && can then option_map (fitted (frame_room e)) o else None) ≡ (not b && (is_some o && can))
+    go : (b can : Bool) (o : Option FrameValue) → is_some (if not b && can then option_map (fitted (close_room e)) o else None) ≡ (not b && (is_some o && can))
     go true can o = refl
     go false true None = refl
     go false true (Some f) = refl

@@ -8,7 +8,7 @@ use Rattle.quic_spaces.specs.Numbers.{cut_against}
 use Rattle.quic_machine.specs.End.{End, number_of, most_payload}
 use Rattle.quic_machine.specs.Poll as poll
 use Rattle.quic_machine.specs.Validation.{path_waits}
-use Rattle.quic_machine.specs.Poll.{Ready, goes, goes_as, rests, least_by}
+use Rattle.quic_machine.specs.Poll.{Ready, goes, goes_as, rests, beside_frames, most_ordinary, least_by}
 
 -- something that leaves
 abbrev pub leaving_of : Leaving → poll.Leaving
@@ -40,14 +40,11 @@ pads_left poll.whole e = path_waits e
 pads_left leaving e = false
 
 -- how many bytes the datagram has at least, by what leaves, by whether it has a frame of path
--- validation, and by whether it asks: those that ask have the size of their path, where that is set
+-- validation, and by whether it asks: those that ask have as many as an ordinary datagram has at most,
+-- where that is set
 abbrev pub least_of : poll.Leaving → Bool → Bool → End → ℕ
-least_of leaving pads asks e = if e.transport.pad_to_mtu && asks then max (least_by leaving pads) (current_mtu e.path) else least_by leaving pads
-
--- how many bytes stand beside the payload of the next datagram: header, number and tag
-abbrev pub beside : End → ℕ
-beside e = 1 + length e.ids.peer.id + (truncated (number_of e) (cut_against e.numbers)).width + 16
+least_of leaving pads asks e = if e.transport.pad_to_mtu && asks then max (least_by leaving pads) (most_ordinary e) else least_by leaving pads
 
 -- how many bytes 0 stand behind frames of so many bytes, where the datagram has so many at least
 abbrev pub zeros_of : End → ℕ → ℕ → ℕ
-zeros_of e used least = max (4 - ((truncated (number_of e) (cut_against e.numbers)).width + used)) (least - (beside e + used))
+zeros_of e used least = max (4 - ((truncated (number_of e) (cut_against e.numbers)).width + used)) (least - (beside_frames e + used))

@@ -4,6 +4,7 @@ ghost use Rattle.quic_wire_core.specs.Varint.{shortest};
 ghost use Rattle.quic_wire.specs.Value.{connection_close, application_close};
 ghost use Rattle.quic_wire.specs.Close.{by_transport, by_application, transport_close, application_close_with};
 ghost use Rattle.quic_wire.specs.Writing.{spelling, frame_size};
+ghost use Rattle.quic_stats.specs.Stats.{counted};
 ghost use Rattle.quic_machine.specs.End.{End};
 ghost use Rattle.quic_machine.specs.Receive.{closed_by_peer, frame_named, take_close};
 ghost use Rattle.quic_machine.specs.Poll.{fitted};
@@ -148,7 +149,9 @@ fn longest_text(room: usize) -> usize
     short.max(middle).max(long)
 }
 
-/// A close frame goes.
-pub fn count_close_frame(stats: &mut FrameStats) {
+/// Counts a close frame that goes.
+pub fn count_close_frame(stats: &mut FrameStats)
+    ensures { stats.new ≡ record stats.old { connection_close = counted stats.old.connection_close } }
+{
     stats.connection_close = stats.connection_close.saturating_add(1);
 }

@@ -1,28 +1,16 @@
-//! Tests of one connection of `quic_connection`, through its public items: datagrams that a peer
-//! sealed, and what the connection gives. What a script can say is a case of `quic_run`.
+//! Tests of endpoints of `quic_connection`, one or two, through its public items: calls where
+//! memory lacks, runs, what is counted of frames, and the reasons of errors. What a script or a
+//! line can say is a case of `quic_run` or of `quic_peer`, and what is a value of a definition a
+//! law of `quic_connection_rows` or of `quic_worked`.
 #![tactic(auto)]
 
 #[cfg(test)]
-mod ack_frequency;
+mod counts;
 #[cfg(test)]
-mod closing;
-#[cfg(test)]
-mod config;
-#[cfg(test)]
-mod drops;
-#[cfg(test)]
-mod frames;
+mod ends;
 #[cfg(test)]
 mod lacking;
 #[cfg(test)]
-mod liars;
+mod reasons;
 #[cfg(test)]
-mod marks;
-#[cfg(test)]
-mod messages;
-#[cfg(test)]
-mod numbers;
-#[cfg(test)]
-mod obeying;
-#[cfg(test)]
-mod views;
+mod runs;

@@ -17,3 +17,12 @@ pub mod Told
 pub mod Finished
 pub mod Lost
 pub mod Few
+pub mod Sealing
+pub mod Lengths
+pub mod ShortIds
+pub mod Between
+pub mod ShortCloses
+pub mod Amplified
+pub mod Shut
+pub mod Closed
+pub mod FewCloses

@@ -21,3 +21,5 @@ pub mod Followed
 pub mod Turns
 pub mod Owed
 pub mod Said
+pub mod Unfailed
+pub mod Taken

@@ -4,4 +4,5 @@ pub mod Pings
 pub mod Drafts
 pub mod Group
 pub mod Urged
+pub mod Timers
 pub mod Clause

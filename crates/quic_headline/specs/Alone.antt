@@ -1,6 +1,6 @@
 -- What one end makes of any calls, whatever datagrams are handed to it: its peer may have the keys,
 -- and lie (RFC 9000, section 21).
-use Rattle.std.specs.Prelude.{ℕ, Bool, false, ◌+◌, ◌-◌, ◌≤◌, ◌≡◌, List, [], ◌∷◌, take, slice_get, Option, Some, None}
+use Rattle.std.specs.Prelude.{ℕ, Bool, false, ◌+◌, ◌-◌, ◌≤◌, ◌≡◌, List, [], ◌∷◌, ◌++◌, take, slice_get, Option, Some, None}
 use Rattle.std.specs.List.{list_any}
 use Rattle.quic_wire_core.specs.declared.stream_id.Side.{Side}
 use Rattle.quic_config.specs.Transport.{Settings}
@@ -17,7 +17,7 @@ use Rattle.quic_machine.specs.Control.{Control}
 use Rattle.quic_machine.specs.Heard.{Heard}
 use Rattle.quic_machine.specs.Parts.{Windows}
 use Rattle.quic_machine.specs.End.{End, MadeFrom}
-use Rattle.quic_machine.specs.Machine.{IsAnswer, IsLeft, IsTold, IsHeard, CountsOpenings, reads_window, fails}
+use Rattle.quic_machine.specs.Machine.{IsAnswer, IsLeft, IsTold, IsHeard, CountsOpenings, reads_window, gives, fails}
 use Rattle.quic_machine.specs.Lacking.{LacksWhere}
 use Rattle.quic_headline.specs.Runs.{In, chunks_of, frames_of, nexts_by, opens_by_key}
 
@@ -45,6 +45,14 @@ FollowsAlone p theirs x [] [] left = left ≡ x
 FollowsAlone p theirs x (call ∷ calls) (a ∷ answers) left = (next : Lone) × IsLoneStep p theirs x call a next × FollowsAlone p theirs next calls answers left
 FollowsAlone p theirs x [] (a ∷ answers) left = ⊥
 FollowsAlone p theirs x (call ∷ calls) [] left = ⊥
+
+-- and gives these datagrams
+abbrev pub GivesAlone : Policy → List (List ℕ) → Lone → List Call → List Answer → List (List ℕ) → Lone → Type 0
+GivesAlone p theirs x [] [] ds left = (ds ≡ []) × (left ≡ x)
+GivesAlone p theirs x (call ∷ calls) (a ∷ answers) ds left =
+    (next : Lone) × (more : List (List ℕ)) × IsLoneStep p theirs x call a next × (ds ≡ gives p (reads_window x.control x.heard call x.end) call a ++ more) × GivesAlone p theirs next calls answers more left
+GivesAlone p theirs x [] (a ∷ answers) ds left = ⊥
+GivesAlone p theirs x (call ∷ calls) [] ds left = ⊥
 
 -- An end as it was made, to which nothing came.
 pub record IsNew (e : End) : Type 0 where

@@ -97,12 +97,12 @@ NoIdIsExact r = (side : Side) (i : ℕ) (a : Answer) → AreServed r i → state
     → (a ≡ answers.UseNextId (Err next_errors.NoId)) ↔ (next_id r side i ≡ None)
 
 -- the next id would retire so many that, with those that wait at an end to be told, there are more
--- than 50
+-- than 80
 abbrev pub IsPastLimit : End → ℕ → ℕ → Type 0
 IsPastLimit e used next = most_retirements < length e.waiting.frames.retire_cids + (next - used)
 
 -- and for too many retirements exactly where there is a next id, and with those that wait at the
--- end to which the run leads there would be more than 50
+-- end to which the run leads there would be more than 80
 abbrev pub TooManyIsExact : Run → Type 0
 TooManyIsExact r = (side : Side) (i : ℕ) (a : Answer) (w : World) → AreServed r i → LeadsTo r i w → state_at r side i ≡ states.Open → IsAt r i side calls.UseNextId a
     → (a ≡ answers.UseNextId (Err next_errors.TooManyPending)) ↔ ((next : ℕ) × (next_id r side i ≡ Some next) × IsPastLimit (end_at side w) (in_use r side i) next)

@@ -38,8 +38,8 @@ pub record KeepsWithin (s : Settings) (e : End) : Type 0 where
   pub messages : WaitWithin s.datagram_receive_buffer_size e.messages.queues.incoming
   -- the numbers to acknowledge are 64 runs at most (section 13.2.3)
   pub numbers : length e.acknowledging.runs ≤ 64
-  -- of the peer's connection ids four are known beside the one in use (section 5.1.1)
-  pub ids : length e.ids.peer.later ≤ 4
+  -- of the peer's connection ids seven are known beside the one in use (section 5.1.1)
+  pub ids : length e.ids.peer.later ≤ 7
 
 -- So does an end that was made with these settings, behind any calls at it, whatever datagrams are
 -- handed in, as long as it doesn't fail.

@@ -39,7 +39,12 @@ pub mod PeerLimits
 pub mod Validated
 pub mod Expiring
 pub mod Closes
+pub mod Taken
 pub mod Alone
 pub mod Keeping
 pub mod FewEvents
+pub mod Nonces
+pub mod LoneCloses
+pub mod FewCloses
 pub mod Promises
+pub mod Amplification

@@ -17,7 +17,8 @@ use Rattle.quic_headline.specs.AcksDue.{AcksAreDue}
 use Rattle.quic_headline.specs.Resets.{ResetsAreTold}
 use Rattle.quic_headline.specs.Ids.{IdsAreNew, AcceptedWereOpened}
 use Rattle.quic_headline.specs.ConnectionIds.{NewestOpensAtEnd, IdsAreIssued, IdsAreInUse, UnknownOnlyWhereRetired, ToldIdsAreKnown, NoIdIsExact, TooManyIsExact}
-use Rattle.quic_headline.specs.Reasons.{ClosedHasAReason}
+use Rattle.quic_headline.specs.Taken.{TakenExactly}
+use Rattle.quic_headline.specs.Reasons.{ClosedHasAReason, NeverFails}
 use Rattle.quic_headline.specs.Views.{ViewsTell}
 use Rattle.quic_headline.specs.Isolated.{Isolated, IsolatedByAnswers, IsolatedByLists}
 use Rattle.quic_headline.specs.Sizes.{DatagramsAreSized, SizeIsOfHistory, SizesMove}
@@ -31,7 +32,7 @@ use Rattle.quic_headline.specs.Telling.{ControllersAreTold}
 use Rattle.quic_headline.specs.AckFrames.{AcksCountMarks, AcksNameAll}
 use Rattle.quic_headline.specs.Requests.{RequestsSay, RequestsGo}
 use Rattle.quic_headline.specs.Pings.{PingsGo, ProbesHasten}
-use Rattle.quic_headline.specs.Waited.{EachWaited}
+use Rattle.quic_headline.specs.Waited.{AckTimersAreSet, EachWaited}
 use Rattle.quic_headline.specs.Begins.{WaitingBegins}
 use Rattle.quic_headline.specs.Spread.{PacerIsOfHistory}
 use Rattle.quic_headline.specs.Threefold.{Threefold}
@@ -158,6 +159,9 @@ pub record Acknowledges (r : Run) : Type 0 where
   -- the timer of acknowledgements, where set, is set for the first packet that waits (section
   -- 13.2.1)
   pub ack_moments : AckMoments r
+  -- while no ACK frame is wanted it is set for the first packet that waits, where one does (section
+  -- 13.2.1)
+  pub ack_timers_are_set : AckTimersAreSet r
   -- an ACK_FREQUENCY frame goes only from an end that is configured so, whose peer takes one; it
   -- says how many went before it, asks for what is configured, and is the only one of its datagram
   -- (QUIC Acknowledgement Frequency, section 4)
@@ -197,7 +201,8 @@ pub record Paces (r : Run) : Type 0 where
 
 -- How many bytes datagrams have (RFC 9000, section 14; RFC 8899).
 pub record Sizes (r : Run) : Type 0 where
-  -- a datagram has at most the current size, or is an MTU probe of the size looked for (section 14)
+  -- a datagram has at most the current size, or is an MTU probe of the size looked for (section 14);
+  -- an ack-eliciting one has at most the least size while a PTO probe waits (RFC 8899, section 4.3)
   pub datagrams_are_sized : DatagramsAreSized r
   -- the size shown is the last that the controller was told of (RFC 8899, section 4.3)
   pub size_is_of_history : SizeIsOfHistory r
@@ -228,7 +233,7 @@ pub record Identifies (r : Run) : Type 0 where
   pub told_ids_are_known : ToldIdsAreKnown r
   -- `NoId` is answered exactly where the peer told of no further id (section 5.1.2)
   pub no_id_is_exact : NoIdIsExact r
-  -- `TooManyPending` exactly where it told of one, and over 50 retirements would wait (section
+  -- `TooManyPending` exactly where it told of one, and over 80 retirements would wait (section
   -- 5.1.2)
   pub too_many_is_exact : TooManyIsExact r
 
@@ -247,11 +252,16 @@ pub record Causes (r : Run) : Type 0 where
   pub no_blame : NoBlame r
   -- a packet that is no duplicate is taken whole, or comes to too many pieces (section 12.3)
   pub taken_or_too_many : TakenOrTooMany r
+  -- only what opens and is new is taken, and exactly what opens and isn't is a duplicate (section
+  -- 12.3)
+  pub taken_exactly : TakenExactly r
   -- an end closes for too many pieces only where over 2048 of a stream wait to be read (section
   -- 21.7)
   pub too_many_pieces : TooManyPieces r
   -- each view shows why an end isn't open, unless it failed (section 10)
   pub closed_has_a_reason : ClosedHasAReason r
+  -- an end fails only where a delivery, a poll or a timeout finds no memory
+  pub never_fails : NeverFails r
   -- an end closes for its application only where that closed it while it was open (section 10.2)
   pub application_closed : ApplicationClosed r
   -- for its peer only where a view shows why that had closed (section 10.2)
@@ -308,6 +318,26 @@ pub record Rests (r : Run) : Type 0 where
   pub blocked_only_for_unread : BlockedOnlyForUnread r
   -- no stream is opened only for those that aren't done (RFC 9000, section 4.6)
   pub none_opened_only_for_undone : NoneOpenedOnlyForUndone r
+
+-- All of it that stands on the honesty of both ends (IsHonest).
+pub record Promises (r : Run) : Type 0 where
+  pub delivers : Delivers r
+  pub streams : Streams r
+  pub limits : Limits r
+  pub waits : Waits r
+  pub messages : Messages r
+  pub tells : Tells r
+  pub acknowledges : Acknowledges r
+  pub loses : Loses r
+  pub paces : Paces r
+  pub sizes : Sizes r
+  pub numbers : Numbers r
+  pub identifies : Identifies r
+  pub validates : Validates r
+  pub causes : Causes r
+  pub closes : Closes r
+  pub times : Times r
+  pub rests : Rests r
 
 -- What changes nothing of a run, whatever the keys and the applications (RFC 9000, sections 5.2,
 -- 12.2 and 12.3).

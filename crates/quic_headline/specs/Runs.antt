@@ -253,10 +253,10 @@ abbrev pub expected_behind : List Packet → ℕ
 expected_behind [] = 0
 expected_behind (p ∷ ps) = max (p.number + 1) (expected_behind ps)
 
--- whether a number is a duplicate behind others: one of them, or 129 or more below one (RFC 9000,
--- section 12.3, which names no number: 129 is our choice)
+-- whether a number is a duplicate behind others: one of them, or 257 or more below one (RFC 9000,
+-- section 12.3, which names no number: 257 is our choice)
 abbrev pub is_again : ℕ → List ℕ → Bool
-is_again n numbers = list_any (λ m. (m == n) || nat_le (n + 129) m) numbers
+is_again n numbers = list_any (λ m. (m == n) || nat_le (n + 257) m) numbers
 
 -- the frames among the items of a payload
 abbrev pub frames_of : List (Result FrameValue InvalidFrame) → List FrameValue

@@ -1,7 +1,7 @@
 -- How many bytes the datagrams of an end have (RFC 9000, section 14; RFC 8899): no ordinary one
--- more than the current size, a probe exactly the size that is looked for; and how the current size
--- moves.
-use Rattle.std.specs.Prelude.{ℕ, suc, ◌<◌, ◌≤◌, ◌≡◌, ◌⊎◌, List, ◌∷◌, replicate, slice_get, Some}
+-- more than the current size, nor while a PTO probe waits more than the least size; a probe exactly
+-- the size that is looked for; and how the current size moves.
+use Rattle.std.specs.Prelude.{ℕ, suc, true, ◌<◌, ◌≤◌, ◌≡◌, ◌⊎◌, List, ◌∷◌, replicate, slice_get, Some}
 use Rattle.quic_wire_core.specs.declared.stream_id.Side.{Side}
 use Rattle.quic_wire.specs.Value.{ping, padding}
 use Rattle.quic_congestion.specs.Congestion as congestion
@@ -9,13 +9,17 @@ use Rattle.quic_machine.specs.declared.answers.State.TheVariants as states
 use Rattle.quic_machine.specs.declared.run.View.{View}
 use Rattle.quic_machine.specs.Machine.{World, end_at}
 use Rattle.quic_headline.specs.Runs.{Run, In, state_in, AreServed}
-use Rattle.quic_headline.specs.Observer.{Sent, acked_until}
+use Rattle.quic_headline.specs.Observer.{Sent, asks_of, watch, acked_until}
 use Rattle.quic_headline.specs.Polls.{flying, mtu_in, seen_at, search_at, GaveOne, IsHistory, IsSizeProbe}
 
 -- a datagram that an end gives has as many bytes as the answer says: at most the current size, as
--- it is seen before, or it is a probe of a size
+-- it is seen before, or it is a probe of a size; and one that asks for an acknowledgement while a
+-- PTO probe waits has no more than the least size that is configured for its path, which the path is
+-- taken to carry whatever was lost on it, so that a probe arrives where the path carries less than
+-- it did (RFC 8899, section 4.3; RFC 9000, section 14.3; RFC 9002, section 6.2.4)
 abbrev pub DatagramsAreSized : Run → Type 0
-DatagramsAreSized r = (side : Side) (i now : ℕ) (gave : GaveOne r side i now) → (gave.transmit.size ≡ gave.sent.size) × ((gave.sent.size ≤ (seen_at r side i).current_mtu) ⊎ IsSizeProbe r side i gave.sent)
+DatagramsAreSized r = (side : Side) (i now : ℕ) (gave : GaveOne r side i now)
+    → (gave.transmit.size ≡ gave.sent.size) × ((gave.sent.size ≤ (seen_at r side i).current_mtu) ⊎ IsSizeProbe r side i gave.sent) × (asks_of gave.sent ≡ true → 0 < (watch r side i).flight.probes → gave.sent.size ≤ (end_at side r.start).transport.min_mtu)
 
 -- the size that a view shows is the last that the controller of its end was told of, or that with
 -- which the path began: so it is told each that changed

@@ -1,18 +1,21 @@
 -- That each datagram carries something that waited to go (RFC 9000, sections 12.2, 13.2 and 13.3),
--- as an observer of a run's lists reckons it.
-use Rattle.std.specs.Prelude.{ℕ, ◌+◌, ◌<◌, ◌≤◌, ◌≡◌, ◌⊎◌, not, nat_lt, ◌||◌, ◌&&◌, Bool, true, false, if◌then◌else◌, List, [], ◌∷◌, ◌++◌, length, replicate, Option, None, option_map}
+-- and that the timer of acknowledgements is set while no ACK frame is wanted (section 13.2.1), as an
+-- observer of a run's lists reckons it.
+use Rattle.std.specs.Prelude.{ℕ, suc, ◌+◌, ◌<◌, ◌≤◌, ◌≡◌, ◌⊎◌, not, nat_lt, ◌||◌, ◌&&◌, Bool, true, false, if◌then◌else◌, List, [], ◌∷◌, ◌++◌, length, replicate, slice_get, Option, Some, None, option_map}
 use Rattle.std.specs.List.{list_any, count_by}
 use Rattle.quic_wire_core.specs.declared.stream_id.Side.{Side}
 use Rattle.quic_time.specs.Clocks.{saturated}
 use Rattle.quic_wire.specs.Value.{FrameValue, StreamValue, ping, immediate_ack, stream, max_data, max_streams, data_blocked, path_challenge, path_response, ack_frequency, padding, asks}
+use Rattle.quic_machine.specs.declared.answers.State.TheVariants as states
 use Rattle.quic_machine.specs.declared.run.Call.{Call}
 use Rattle.quic_machine.specs.declared.run.Call.TheVariants as calls
+use Rattle.quic_machine.specs.declared.run.View.{View}
 use Rattle.quic_machine.specs.CallCases.{is_poll}
 use Rattle.quic_machine.specs.Machine.{end_at}
-use Rattle.quic_headline.specs.Runs.{Run, Told, Packet, In, folded, until, given_of}
+use Rattle.quic_headline.specs.Runs.{Run, Told, Packet, In, state_in, AreServed, folded, until, given_of}
 use Rattle.quic_headline.specs.Observer.{Sent, HoldsOffset, asks_of, is_close, Watch, watch_from, watch, news, is_past, is_timely, Lens, watch_told, lens_of}
 use Rattle.quic_headline.specs.InFlight.{is_max_data, is_data_blocked, is_max_streams, is_ack_frequency}
-use Rattle.quic_headline.specs.Moments.{acknowledges, went}
+use Rattle.quic_headline.specs.Moments.{ack_timer, acknowledges, went, debt, first_deadline}
 use Rattle.quic_headline.specs.Polls.{GaveOne, IsSizeProbe}
 use Rattle.quic_headline.specs.AcksDue.{takes_marked, is_due}
 use Rattle.quic_headline.specs.Requests.{Asking, asking_at, wants_anew}
@@ -122,6 +125,13 @@ wants r side i = folded (wants_told (lens_of r side)) (until r side i) (no_wants
 -- went a packet bore the mark, or more than so many came that don't ask
 abbrev pub wants_ack : Run → Side → ℕ → Bool
 wants_ack r side i = is_due r side i || ((wants r side i).marked || nat_lt may_come (count_silent (wants r side i).packets))
+
+-- behind each event before which, and at which, no delivery, no poll and no timeout met want of
+-- memory: where no ACK frame is wanted of an open end, the view shows that its timer of
+-- acknowledgements is set to the deadline of the first packet that asks, and that was taken since
+-- the end gave an ACK frame; and that it isn't set where none was
+abbrev pub AckTimersAreSet : Run → Type 0
+AckTimersAreSet r = (side : Side) (i : ℕ) (v : View) → AreServed r (suc i) → slice_get r.views i ≡ Some v → state_in v side ≡ states.Open → wants_ack r side (suc i) ≡ false → ack_timer v side ≡ Some (first_deadline (debt r side (suc i)).deadlines)
 
 -- ---- what a datagram carries
 

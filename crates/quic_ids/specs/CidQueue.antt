@@ -26,7 +26,7 @@ abbrev pub AscendWithin : List IssuedCid → ℕ → ℕ → Type 0
 AscendWithin [] first end = Unit {0}
 AscendWithin (c ∷ cs) first end = (first ≤ c.sequence) × (c.sequence < end) × AscendWithin cs (c.sequence + 1) end
 
--- the other known numbers are above the one in use, and all together they are at most five
+-- the other known numbers are above the one in use, and all together they are at most eight
 -- consecutive ones
 abbrev pub IsWindow : PeerIds → Type 0
 IsWindow ids = AscendWithin ids.later (ids.active + 1) (ids.active + kept_ids)

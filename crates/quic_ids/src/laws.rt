@@ -12,5 +12,5 @@ use crate::cid_queue::CidQueue;
 /// choice).
 pub fn constants_are_these()
     ensures ids { CidQueue.LEN ≡ kept_ids }
-    ensures in_definitions { kept_ids ≡ 5 }
+    ensures in_definitions { kept_ids ≡ 8 }
 {}

@@ -1,5 +1,5 @@
 -- What holds of a draft, whichever frames go; and that a datagram has a frame.
-use Rattle.std.proofs.Common.{◌≡◌, ℕ, ◌+◌, ◌-◌, ◌<◌, ◌≤◌, ◌^◌, List, [], ◌∷◌, ◌++◌, Bool, true, false, ◌&&◌, ◌||◌, length, Option, Some, None, max, refl, sym, ap, ◌∙◌, subst, arith, nat_lt, inl, inr}
+use Rattle.std.proofs.Common.{◌≡◌, ℕ, ◌+◌, ◌-◌, ◌<◌, ◌≤◌, ◌^◌, List, [], ◌∷◌, ◌++◌, Bool, true, false, ◌&&◌, ◌||◌, length, Option, Some, None, max, min, refl, sym, ap, ◌∙◌, subst, arith, nat_lt, inl, inr}
 use Rattle.std.specs.Prelude.{if◌then◌else◌, map, ◌*◌}
 use Rattle.std.specs.List.{fold}
 use Rattle.std.specs.Option.{is_some}
@@ -26,7 +26,7 @@ use Rattle.quic_machine.specs.End.{End, number_of}
 use Rattle.quic_paths.specs.Responses.{Response}
 use Rattle.quic_machine.specs.Parts.{current_mtu, Signals, signals_wait}
 use Rattle.quic_machine.specs.Validation.{path_waits, path_frames_size, challenge_frame, response_frame}
-use Rattle.quic_machine.specs.Poll.{Draft, frame_room, fits, left, with_signal, challenge_if, response_if, ping_if, immediate_if, with_challenge_frame, with_response_frame, with_ping_frame, with_immediate_frame, request_if, with_frequency_frame, behind_control, with_control_frames, with_message, with_messages_of, with_message_frames, behind_stream, no_stream_frames, with_stream_frames, Kind, order, put, with_asking, no_frames, ack_of, with_ack, ack_fits, ack_if, composed_if, composed, lazied, lazied_as, Leaving, whole, alone, probe, closing, nothing, with_frame, least_by, least_left, with_signal_frames, draft_left, draft_as}
+use Rattle.quic_machine.specs.Poll.{Draft, most_ordinary, frame_room, close_room, fits, left, with_signal, challenge_if, response_if, ping_if, immediate_if, with_challenge_frame, with_response_frame, with_ping_frame, with_immediate_frame, request_if, with_frequency_frame, behind_control, with_control_frames, with_message, with_messages_of, with_message_frames, behind_stream, no_stream_frames, with_stream_frames, Kind, order, put, with_asking, no_frames, ack_of, with_ack, ack_fits, ack_if, composed_if, composed, lazied, lazied_as, Leaving, whole, alone, probe, closing, nothing, with_frame, least_by, least_left, with_signal_frames, draft_left, draft_as}
 use Rattle.quic_machine.specs.Poll as poll
 use Rattle.quic_machine.specs.Puts.{Put, after, May, MayClose, stream_room, without_entry, with_entry, with_half_frame}
 use Rattle.quic_machine.specs.Puts as puts
@@ -42,17 +42,40 @@ width_few n = go (nat_lt (2 * n) 256) (nat_lt (2 * n) 65536) (nat_lt (2 * n) 167
     go false false false = omega arith
 
 -- a datagram has room for frames: the id to which it goes has 20 bytes at most, and the path takes
--- 1200 (RFC 9000, sections 17.2 and 14)
+-- 1200, as it is taken to whatever is lost (RFC 9000, sections 17.2 and 14)
 abbrev pub HasRoom : End → Type 0
-HasRoom e = (length (destination e.ids) ≤ 20) × (1200 ≤ current_mtu e.path) × (current_mtu e.path < 2 ^ 16)
+HasRoom e = (length (destination e.ids) ≤ 20) × (1200 ≤ current_mtu e.path) × (current_mtu e.path < 2 ^ 16) × (1200 ≤ e.transport.min_mtu)
 
--- how many bytes it has for them at least
+-- an ordinary datagram has no more bytes than the path takes, and may have 1200
+pub ordinary_within : (e : End) → most_ordinary e ≤ current_mtu e.path
+ordinary_within e = go (nat_lt 0 e.tracking.probes)
+  where
+    go : (b : Bool) → (if b then min e.transport.min_mtu (current_mtu e.path) else current_mtu e.path) ≤ current_mtu e.path
+    go true = omega arith
+    go false = omega arith
+
+pub ordinary_most : (e : End) → 1200 ≤ current_mtu e.path → 1200 ≤ e.transport.min_mtu → 1200 ≤ most_ordinary e
+ordinary_most e size least = go (nat_lt 0 e.tracking.probes)
+  where
+    go : (b : Bool) → 1200 ≤ (if b then min e.transport.min_mtu (current_mtu e.path) else current_mtu e.path)
+    go true = omega arith
+    go false = omega arith
+
+-- how many bytes it has for frames at least
 pub room_most : (e : End) → HasRoom e → 1159 ≤ frame_room e
 room_most e room =
     let width = width_few (number_of e - cut_against e.numbers) in
     let short = room.0 in
+    let size = ordinary_most e room.1 room.3 in
+    omega (arith, width, short, size)
+
+-- and how many a close has
+pub close_most : (e : End) → HasRoom e → 1159 ≤ close_room e
+close_most e room =
+    let width = width_few (number_of e - cut_against e.numbers) in
+    let short = room.0 in
     let size = room.1 in
-    omega arith
+    omega (arith, width, short, size)
 
 -- ---- one frame of each kind
 

@@ -3,7 +3,7 @@
 use Rattle.std.specs.Prelude.{◌≡◌, ◌⊎◌, ℕ, Bool, true, false, nat_lt, ◌&&◌, if◌then◌else◌, List, [], ◌∷◌, ◌++◌, length, Option, Some, None, Result, Ok, Err}
 use Rattle.std.specs.declared.ops.Range.{Range}
 use Rattle.quic_wire.specs.Value.{NewConnectionIdValue}
-use Rattle.quic_retransmits.specs.Retransmits.{after_retire, can_retire}
+use Rattle.quic_retransmits.specs.Retransmits.{after_retire, can_retire, most_retirements}
 use Rattle.quic_machine.specs.declared.answers.NextIdError.{NextIdError}
 use Rattle.quic_machine.specs.declared.answers.NextIdError.TheVariants as next_errors
 use Rattle.quic_machine.specs.declared.run.Answer.{Answer}
@@ -42,7 +42,7 @@ issued_if false e = e
 -- where so many ids wait to be told, no other is issued: so the peer can't have them pile up by
 -- retirements (section 5.1.1 lets an end limit what it issues; the number is our choice)
 abbrev pub most_untold : ℕ
-most_untold = 50
+most_untold = most_retirements
 
 -- whether the next one is issued for one that is retired: it may be, and fewer wait
 abbrev pub issues_for : ℕ → End → Bool

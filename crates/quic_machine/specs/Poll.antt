@@ -74,9 +74,23 @@ mark_of false = None
 abbrev pub gives_datagram : List ℕ → End → Polled
 gives_datagram d e = record { answer = Ok (Some (record { size = length d; ecn = mark_of e.path.marking })); datagram = Some d; end = e }
 
--- how many bytes are left for frames: the datagram's less header, number and tag
+-- how many bytes stand beside the frames of the next datagram: header, number and tag
+abbrev pub beside_frames : End → ℕ
+beside_frames e = 1 + length (destination e.ids) + (truncated (number_of e) (cut_against e.numbers)).width + 16
+
+-- how many bytes an ordinary datagram has at most: the size of the path, and while a PTO probe waits
+-- no more than the least size that the path is taken to carry, so that a probe arrives where the
+-- path carries less than it did (RFC 8899, section 4.3; RFC 9000, section 14.3)
+abbrev pub most_ordinary : End → ℕ
+most_ordinary e = if nat_lt 0 e.tracking.probes then min e.transport.min_mtu (current_mtu e.path) else current_mtu e.path
+
+-- how many bytes it has left for frames
 abbrev pub frame_room : End → ℕ
-frame_room e = current_mtu e.path - (1 + length (destination e.ids) + (truncated (number_of e) (cut_against e.numbers)).width + 16)
+frame_room e = most_ordinary e - beside_frames e
+
+-- how many bytes a close has left for its frame: PTO probes that wait don't count for it
+abbrev pub close_room : End → ℕ
+close_room e = current_mtu e.path - beside_frames e
 
 -- whether a datagram with these frames asks for an acknowledgement (RFC 9000, section 13.2)
 abbrev pub asking : List FrameValue → Bool
@@ -317,10 +331,10 @@ number_width d = (truncated (number_of d.end) (cut_against d.end.numbers)).width
 abbrev pub overhead : Draft → ℕ
 overhead d = 1 + length (destination d.end.ids) + number_width d + 16
 
--- how many bytes the datagram has at least: those that ask have the size of their path, where that
--- is set
+-- how many bytes the datagram has at least: those that ask have as many as an ordinary datagram has
+-- at most, where that is set
 abbrev pub least_size : Draft → ℕ
-least_size d = if d.end.transport.pad_to_mtu && asking d.frames then max d.least (current_mtu d.end.path) else d.least
+least_size d = if d.end.transport.pad_to_mtu && asking d.frames then max d.least (most_ordinary d.end) else d.least
 
 -- how many bytes 0 stand behind the frames: number and payload have four bytes at least, so that
 -- the sample stands in the datagram (RFC 9001, section 5.4.2), and the datagram has its size
@@ -409,7 +423,7 @@ request_queued e = with_frames e (record e.waiting.frames { ack_frequency = asks
 -- how many bytes are left for frames at least, whichever number a datagram has: one takes four
 -- bytes at most
 abbrev pub least_room : End → ℕ
-least_room e = current_mtu e.path - (length (destination e.ids) + 21)
+least_room e = most_ordinary e - (length (destination e.ids) + 21)
 
 -- whether a message waits that a datagram takes
 abbrev pub message_waits : End → Bool
@@ -569,10 +583,11 @@ least_by (nothing held) pads = 0
 abbrev pub least_left : Leaving → End → ℕ
 least_left leaving e = least_by leaving (path_waits e)
 
--- how many bytes the datagram of what goes has at most: the size of the path, or that of a probe
+-- how many bytes the datagram of what goes has at most: as many as an ordinary one, those of a probe
+-- of a size, or the size of the path
 abbrev pub most_of : Leaving → End → ℕ
-most_of whole e = current_mtu e.path
-most_of alone e = current_mtu e.path
+most_of whole e = most_ordinary e
+most_of alone e = most_ordinary e
 most_of (probe size) e = max size (current_mtu e.path)
 most_of (closing f) e = current_mtu e.path
 most_of (nothing held) e = current_mtu e.path
@@ -630,7 +645,7 @@ closes_if (Some f) p e = gives_datagram (datagram_of p (draft_as (closing f) e))
 
 -- the close that goes: the one that is owed, where it may go
 abbrev pub close_to_go : Policy → End → Option FrameValue
-close_to_go p e = if may_close p e then option_map (fitted (frame_room e)) (close_owed e.closing) else None
+close_to_go p e = if may_close p e then option_map (fitted (close_room e)) (close_owed e.closing) else None
 
 -- what an end gives that closes or is closing
 abbrev pub closes : Policy → End → Polled

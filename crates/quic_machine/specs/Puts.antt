@@ -1,8 +1,9 @@
 -- What may be put into a draft, each a value: the frames that go, and what waits and is dropped.
 use Rattle.std.proofs.Common.{◌≡◌, ℕ, ◌≤◌, List, [], ◌∷◌, true, false, Some, None, ◌⊎◌}
+use Rattle.std.specs.Prelude.{nat_le}
 use Rattle.quic_wire.specs.Value.{FrameValue, ConnectionCloseValue, ApplicationCloseValue}
 use Rattle.quic_wire.specs.Value as values
-use Rattle.quic_wire.specs.Writing.{spelling, stream_spelling, Fits}
+use Rattle.quic_wire.specs.Writing.{spelling, stream_spelling, Fits, frame_size}
 use Rattle.quic_send_buffer.specs.Buffered.{writes_length}
 use Rattle.quic_streams_parts.specs.Table.{at}
 use Rattle.quic_streams_parts.specs.SendHalf.{SendHalf, frame_of, frame_counts}
@@ -16,7 +17,7 @@ use Rattle.quic_recovery_core.specs.PendingAcks.{is_filled}
 use Rattle.quic_paths.specs.Responses.{Response}
 use Rattle.quic_machine.specs.End.{with_streams}
 use Rattle.quic_machine.specs.Validation.{challenge_frame, response_frame}
-use Rattle.quic_machine.specs.Poll.{Draft, fits, with_frame, with_signal, with_least, left, with_request, with_message, no_stream_frames, ack_of, with_ack}
+use Rattle.quic_machine.specs.Poll.{Draft, close_room, fits, with_frame, with_signal, with_least, left, with_request, with_message, no_stream_frames, ack_of, with_ack}
 
 -- ---- one frame of each kind
 
@@ -41,7 +42,7 @@ with_half_frame d id h room =
 -- a close may go: it has a form, and there is room for it alone (RFC 9000, sections 10.2.3 and
 -- 19.19)
 abbrev pub MayClose : Draft → FrameValue → Type 0
-MayClose d f = (d.bytes ≡ []) × (fits d f ≡ true) × Fits f
+MayClose d f = (d.bytes ≡ []) × (nat_le (frame_size f) (close_room d.end) ≡ true) × Fits f
 
 -- an ACK may go: no frame went before it, or it fits
 abbrev pub MayAck : Draft → Type 0

@@ -210,7 +210,7 @@ pub enum NextIdError {
     /// No later id of the peer is known.
     #[error("no other id of the peer is known")]
     NoId,
-    /// More than 50 retirements would wait to be told.
+    /// More than 80 retirements would wait to be told.
     #[error("too many retired ids wait")]
     TooManyPending,
     /// Out of memory: an allocation failed.

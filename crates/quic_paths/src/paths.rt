@@ -203,7 +203,7 @@ impl<C> PathData<C> {
         self.challenge_pending = true;
     }
 
-    /// The word of the PATH_CHALLENGE that waits to be sent; none where none waits.
+    /// The data of the pending PATH_CHALLENGE, if one is pending.
     pub fn waiting_challenge(&self) -> Option<u64>
         ensures { result ≡ challenge_to_send self.now }
     {
@@ -214,7 +214,7 @@ impl<C> PathData<C> {
         }
     }
 
-    /// The same, which goes now.
+    /// Takes the pending PATH_CHALLENGE, which is sent now: its data, if one is pending.
     pub fn pop_challenge(&mut self) -> Option<u64>
         ensures word { result ≡ challenge_to_send self.old }
         ensures next { self.new ≡ path_after_challenge (challenge_to_send self.old) self.old }

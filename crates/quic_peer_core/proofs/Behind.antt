@@ -1,7 +1,7 @@
 -- Lines of which none was run, behind a text that was printed first.
 use Rattle.std.proofs.Common.{ℕ, List, [], ◌++◌, Option, Some, None, refl, append-nil}
 use Rattle.std.specs.Io.KnownBytes.{Appends}
-use Rattle.quic_run_core.specs.LineByLine.{Begins, RanSome}
+use Rattle.quic_lines.specs.LineByLine.{Begins, RanSome}
 use Rattle.quic_peer_core.specs.Peer.{first_stage, peer_rules}
 
 -- any lines begin with none

@@ -17,14 +17,14 @@ use Rattle.quic_connection_parts.specs.Drawn.{words_of, after_words}
 use Rattle.quic_connection_parts.specs.Telling.{windows_at}
 use Rattle.quic_keys.specs.declared.key.PlainHeaderKey.{PlainHeaderKey}
 use Rattle.quic_keys.specs.declared.key.PlainKey.{PlainKey}
-use Rattle.quic_run_core.specs.declared.options.Options.{Options}
+use Rattle.quic_lines.specs.declared.options.Options.{Options}
 use Rattle.quic_keys.specs.declared.words.Words.{Words}
 use Rattle.quic_keys.specs.KeysOf.{keys_with}
 use Rattle.quic_connection.specs.Ends.{in_order}
-use Rattle.quic_run_core.specs.Printed.{bytes_text}
-use Rattle.quic_run_core.specs.Scripts.{settings_of, first_windows, line_feed}
+use Rattle.quic_lines.specs.Options.{settings_of, first_windows}
+use Rattle.quic_lines.specs.Printed.{bytes_text, line_feed}
 use Rattle.quic_keys.specs.Words.{stream_from, source_stream}
-use Rattle.quic_run_core.proofs.Sources.{words_same}
+use Rattle.quic_lines.proofs.Sources.{words_same}
 use Rattle.quic_peer_core.specs.declared.command.NewEnd.{NewEnd}
 use Rattle.quic_peer_core.specs.Printed.{line_text, parameters_text, refusal_text}
 use Rattle.quic_peer_core.specs.Peer.{Held, IsNew, IsMaking, Stage, refusal, with_held}

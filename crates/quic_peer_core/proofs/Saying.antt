@@ -5,10 +5,10 @@ use Rattle.std.specs.Str.{is_utf8}
 use Rattle.quic_wire_core.specs.declared.shared.EcnCodepoint.{EcnCodepoint}
 use Rattle.quic_wire_core.specs.declared.stream_id.Side.{Side}
 use Rattle.quic_machine.specs.declared.run.Injection.{Injection}
-use Rattle.quic_run_core.specs.declared.script.LineError.{LineError}
-use Rattle.quic_run_core.specs.declared.script.LineError.TheVariants.{BadCommand, OutOfMemory}
-use Rattle.quic_run_core.specs.Named.{side_named, mark_named, bytes_named}
-use Rattle.quic_run_core.specs.Language.{Asked, injects, number_named, first, words, is_skipped, ends, both, three, Reads}
+use Rattle.quic_lines.specs.declared.script.LineError.{LineError}
+use Rattle.quic_lines.specs.declared.script.LineError.TheVariants.{BadCommand, OutOfMemory}
+use Rattle.quic_lines.specs.Named.{side_named, mark_named, bytes_named}
+use Rattle.quic_lines.specs.Language.{Asked, injects, number_named, first, words, is_skipped, ends, both, three, Reads}
 use Rattle.quic_peer_core.specs.declared.command.Line.{Line}
 use Rattle.quic_peer_core.specs.declared.command.NewEnd.{NewEnd}
 use Rattle.quic_peer_core.specs.Language.{Command, nothing, receives, id_named, new_end, joined, five, command_of, words_said, said}

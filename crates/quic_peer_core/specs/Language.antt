@@ -4,9 +4,9 @@ use Rattle.std.specs.Option.{option_map}
 use Rattle.std.specs.Str.{is_utf8}
 use Rattle.quic_wire_core.specs.declared.stream_id.Side.{Side}
 use Rattle.quic_wire_core.specs.declared.shared.EcnCodepoint.{EcnCodepoint}
-use Rattle.quic_run_core.specs.declared.script.Setting.{Setting}
-use Rattle.quic_run_core.specs.Named.{side_named, mark_named, bytes_named}
-use Rattle.quic_run_core.specs.Language.{Asked, words, is_word, is_skipped, number_named, ends, both, three, settings_said, call_said, asked_of}
+use Rattle.quic_lines.specs.declared.script.Setting.{Setting}
+use Rattle.quic_lines.specs.Named.{side_named, mark_named, bytes_named}
+use Rattle.quic_lines.specs.Language.{Asked, words, is_word, is_skipped, number_named, ends, both, three, settings_said, call_said, asked_of}
 use Rattle.quic_peer_core.specs.declared.command.Line.{Line}
 use Rattle.quic_peer_core.specs.declared.command.Line.TheVariants as lines
 use Rattle.quic_peer_core.specs.declared.command.NewEnd.{NewEnd}

@@ -1,7 +1,7 @@
 -- No line that is too long can be run.
 use Rattle.std.specs.Prelude.{◌≡◌, ◌<◌, ℕ, List, length, None, refl}
 use Rattle.std.proofs.lemmas.Bool.{lt-ltb}
-use Rattle.quic_run_core.specs.LineByLine.{RefusesLong}
+use Rattle.quic_lines.specs.LineByLine.{RefusesLong}
 use Rattle.quic_peer_core.specs.Language.{said}
 use Rattle.quic_peer_core.specs.Peer.{Stage, Does, peer_rules}
 

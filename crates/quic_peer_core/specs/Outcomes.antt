@@ -1,8 +1,8 @@
 -- How lines end: which of them were run, and what was printed of them, behind a text that came
 -- first. The bytes of the lines, and those that a writer holds, are there where they are known.
 use Rattle.std.specs.Prelude.{ℕ, List, Option}
-use Rattle.quic_run_core.specs.declared.error.ScriptError.{ScriptError}
-use Rattle.quic_run_core.specs.LineByLine as lines
+use Rattle.quic_lines.specs.declared.error.ScriptError.{ScriptError}
+use Rattle.quic_lines.specs.LineByLine as lines
 use Rattle.quic_peer_core.specs.Peer.{first_stage, peer_rules}
 
 -- all lines were run

@@ -22,14 +22,14 @@ use Rattle.quic_connection_parts.specs.Telling.{telling, KeepsKeys}
 use Rattle.quic_connection.specs.Ends.{GoesOn, may_move}
 use Rattle.quic_keys.specs.declared.key.PlainHeaderKey.{PlainHeaderKey}
 use Rattle.quic_keys.specs.declared.key.PlainKey.{PlainKey}
-use Rattle.quic_run_core.specs.declared.options.Options.{Options}
+use Rattle.quic_lines.specs.declared.options.Options.{Options}
 use Rattle.quic_keys.specs.declared.words.Words.{Words}
 use Rattle.quic_keys.specs.KeysOf.{keys_with}
-use Rattle.quic_run_core.specs.Language.{Asked, asked_of}
+use Rattle.quic_lines.specs.Language.{Asked, asked_of}
 use Rattle.quic_keys.specs.Plain.{plain_protection, plain_aead}
-use Rattle.quic_run_core.specs.LineByLine.{LineRules}
-use Rattle.quic_run_core.specs.Printed.{call_text, received_text}
-use Rattle.quic_run_core.specs.Scripts.{first_options, settings_of, with_setting, limits_in, first_windows}
+use Rattle.quic_lines.specs.LineByLine.{LineRules}
+use Rattle.quic_lines.specs.Options.{first_options, settings_of, with_setting, limits_in, first_windows}
+use Rattle.quic_lines.specs.Printed.{call_text, received_text}
 use Rattle.quic_keys.specs.Words.{stream_from, source_stream, words_from}
 use Rattle.quic_peer_core.specs.declared.command.NewEnd.{NewEnd}
 use Rattle.quic_peer_core.specs.Language.{Command, nothing, sets, tells, makes, receives, tells_window, tells_stats, asks, said}

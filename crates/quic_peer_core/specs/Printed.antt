@@ -5,16 +5,19 @@ use Rattle.quic_wire_core.specs.declared.shared.EcnCodepoint.{EcnCodepoint}
 use Rattle.quic_stats.specs.declared.connection.ConnectionStats.{ConnectionStats}
 use Rattle.quic_stats.specs.declared.drops.DropStats.{DropStats}
 use Rattle.quic_stats.specs.declared.path.PathStats.{PathStats}
+use Rattle.quic_wire.specs.Close.{CloseValue, by_transport, by_application}
 use Rattle.quic_parameters.specs.ParametersWritten.{written_parameters}
 use Rattle.quic_config.specs.Transport.{parameters_of}
 use Rattle.quic_machine.specs.declared.answers.ConfigError.{ConfigError}
 use Rattle.quic_machine.specs.declared.answers.ConfigError.TheVariants as config_errors
+use Rattle.quic_machine.specs.declared.answers.LostReason.TheVariants as losses
+use Rattle.quic_machine.specs.declared.answers.Event.TheVariants as events
 use Rattle.quic_machine.specs.declared.run.Answer.{Answer}
 use Rattle.quic_machine.specs.declared.run.Answer.TheVariants as answers
 use Rattle.quic_connection.specs.Ends.{in_order}
-use Rattle.quic_run_core.specs.declared.options.Options.{Options}
-use Rattle.quic_run_core.specs.Printed.{bytes_text, mark_text, answer_text}
-use Rattle.quic_run_core.specs.Scripts.{settings_of, line_feed}
+use Rattle.quic_lines.specs.declared.options.Options.{Options}
+use Rattle.quic_lines.specs.Options.{settings_of}
+use Rattle.quic_lines.specs.Printed.{bytes_text, line_feed, mark_text, answer_text}
 
 -- a line: a name, a blank and what is answered
 abbrev pub line_text : List ℕ → List ℕ → List ℕ
@@ -37,10 +40,20 @@ parameters_text options = bytes_text (written_parameters (parameters_of (setting
 abbrev pub datagram_text : Option EcnCodepoint → List ℕ → List ℕ
 datagram_text mark bytes = mark_text mark ++ (codes " " ++ bytes_text bytes)
 
+-- the peer closed the connection: by which kind of close, its code and its text
+abbrev pub close_text : List ℕ → ℕ → List ℕ → List ℕ
+close_text kind code reason = codes "lost peer " ++ (kind ++ (codes " " ++ (decimal code ++ (codes " " ++ bytes_text reason))))
+
+-- what it said, by an error of QUIC or as an application (RFC 9000, section 19.19)
+abbrev pub peer_close_text : CloseValue → List ℕ
+peer_close_text (by_transport c) = close_text (codes "transport") c.code c.reason
+peer_close_text (by_application c) = close_text (codes "application") c.code c.reason
+
 -- An answer of an end that gave these datagrams at the call: of a poll the first of them, if it
--- gave one.
+-- gave one, and of an event by which the peer closed all that it said.
 abbrev pub told_text : List (List ℕ) → Answer → List ℕ
 told_text (bytes ∷ more) (answers.Poll (Ok (Some transmit))) = datagram_text transmit.ecn bytes
+told_text given (answers.Event (Some (events.Lost (losses.Peer close)))) = peer_close_text close
 told_text given answer = answer_text 0 answer
 
 -- ---- figures

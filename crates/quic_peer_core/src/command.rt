@@ -1,13 +1,13 @@
 //! The language of one end: a line sets an option of it, makes it, hands a datagram in, asks for
 //! figures of it, or is a call.
 ghost use Rattle.std.specs.Prelude.{◌≡◌, ◌⊎◌, Some, None, MatchResult, drop, ok_or};
-ghost use Rattle.quic_run_core.specs.Named.{side_named, bytes_named};
-ghost use Rattle.quic_run_core.specs.Language.{number_named, first, words_left, Reads, words as words_of};
+ghost use Rattle.quic_lines.specs.Named.{side_named, bytes_named};
+ghost use Rattle.quic_lines.specs.Language.{number_named, first, words_left, Reads, words as words_of};
 ghost use Rattle.quic_peer_core.specs.Language.{id_named, five, new_end as new_end_of, command_said, words_said, said, command_of};
 
 use bytes::Bytes;
 use quic_connection::{Call, Injection, Instant};
-use quic_run_core::language::{LineError, LineWords, MAX_LINE, Setting, call_of, is_skipped, side};
+use quic_lines::{LineError, LineWords, MAX_LINE, Setting, call_of, is_skipped, side};
 use quic_wire_core::{ConnectionId, MAX_CID_SIZE, Side};
 use std::alloc::Global;
 use std::str;

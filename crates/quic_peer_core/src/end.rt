@@ -1,18 +1,17 @@
 //! An end, and what is printed of what it answers.
 ghost use Rattle.std.specs.Prelude.{◌≡◌, ◌≢◌, ◌++◌, IfOk, IfErr, OnOk, MatchResult, Some, None, codes, string_bytes};
-ghost use Rattle.quic_run_core.specs.Language.{asked_of};
-ghost use Rattle.quic_peer_core.specs.Printed.{refusal_text, datagram_text, told_text, parameters_text, line_text};
+ghost use Rattle.quic_lines.specs.Language.{asked_of};
+ghost use Rattle.quic_peer_core.specs.Printed.{refusal_text, datagram_text, close_text, peer_close_text, told_text, parameters_text, line_text};
 ghost use Rattle.quic_peer_core.specs.Peer.{refusal, IsNew, IsCall, Receives};
 
 use crate::command::NewEnd;
 use quic_connection::{
-    Answer, Call, ConfigError, Connection, Datagram, EcnCodepoint, Injection, NewReno, call_at,
+    Answer, Call, Close, ConfigError, Connection, Datagram, EcnCodepoint, Event, Injection,
+    LostReason, NewReno, PeerClose, VarInt, call_at,
 };
 use quic_keys::{PlainHeaderKey, PlainKey, Words};
+use quic_lines::{LineError, Options, call_name, mark_name, put_answer, put_bytes, put_received};
 use quic_parameters::TransportParameters;
-use quic_run_core::language::{
-    LineError, Options, call_name, mark_name, put_answer, put_bytes, put_received,
-};
 use std::alloc::{AllocError, Global};
 
 /// An end with stand-in keys.
@@ -94,7 +93,8 @@ pub(crate) fn ask(alloc: Global, end: &mut End, call: &Call) -> Result<String, A
     Ok(out)
 }
 
-/// Appends an answer: of a poll that gave a datagram its mark and its bytes.
+/// Appends an answer: of a poll that gave a datagram its mark and its bytes, and of an event by
+/// which the peer closed all that it said.
 fn put_told(
     alloc: Global,
     out: &mut String,
@@ -107,8 +107,41 @@ fn put_told(
         (Answer::Poll(Ok(Some(transmit))), [datagram, ..]) => {
             put_datagram(alloc, out, transmit.ecn, datagram)
         }
+        (Answer::Event(Some(Event::Lost(LostReason::Peer(close)))), _) => {
+            put_peer_close(alloc, out, close)
+        }
         _ => put_answer(alloc, out, answer, 0),
     }
+}
+
+/// Appends that the peer closed the connection, and what it said.
+fn put_peer_close(alloc: Global, out: &mut String, close: &PeerClose) -> Result<(), AllocError>
+    ensures { OnOk result (string_bytes out.new ≡ string_bytes out.old ++ peer_close_text close.now) }
+{
+    match close.as_close() {
+        Close::Connection(close) => {
+            let code = VarInt::from(close.error_code);
+            put_close(alloc, out, "transport", code, &close.reason)
+        }
+        Close::Application(close) => {
+            put_close(alloc, out, "application", close.error_code, &close.reason)
+        }
+    }
+}
+
+/// Appends that the peer closed the connection by this kind of close, its code and its text.
+fn put_close(
+    alloc: Global,
+    out: &mut String,
+    kind: &str,
+    code: VarInt,
+    reason: &[u8],
+) -> Result<(), AllocError>
+    ensures { OnOk result (string_bytes out.new ≡ string_bytes out.old ++ close_text kind.now code reason.now) }
+{
+    let code = code.into_inner();
+    write!(out, "lost peer {kind} {code} ")?;
+    put_bytes(alloc, out, reason)
 }
 
 /// Appends the mark and the bytes of a datagram.

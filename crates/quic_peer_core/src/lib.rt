@@ -6,5 +6,5 @@ mod end;
 mod figures;
 mod runner;
 
-pub use quic_run_core::ScriptError;
+pub use quic_lines::ScriptError;
 pub use runner::{NOTICE, run_peer};

@@ -1,7 +1,7 @@
 //! Runs the lines of one end: what each of them does, and answers.
 ghost use Rattle.std.specs.Prelude.{◌≡◌, ◌⊎◌, Some, MatchResult, IfErr, OnOk, string_bytes};
 ghost use Rattle.quic_peer_core.specs.Language.{sets, makes, receives, tells_window, tells_stats, asks};
-ghost use Rattle.quic_run_core.specs.Language.{asked_of};
+ghost use Rattle.quic_lines.specs.Language.{asked_of};
 ghost use Rattle.quic_peer_core.specs.Peer.{first_stage, IsDone, IsRefused};
 ghost use Rattle.quic_peer_core.specs.Stages.{stage_of};
 ghost use Rattle.quic_peer_core.specs.Outcomes.{RanAll, Stopped};
@@ -10,9 +10,8 @@ use crate::command::{Line, NewEnd, parse_line};
 use crate::end::{End, ask, make_end, refusal_name, take, tell_params};
 use crate::figures::{tell_stats, tell_window};
 use quic_connection::{Call, Injection};
-use quic_run_core::ScriptError;
-use quic_run_core::language::{
-    LineError, Lines, MOST_TURNS, Options, RunsLines, Setting, print, run_lines,
+use quic_lines::{
+    LineError, Lines, MOST_TURNS, Options, RunsLines, ScriptError, Setting, print, run_lines,
 };
 use std::alloc::Global;
 use std::io::{Read, Write};

@@ -1,6 +1,7 @@
 pub mod Descending
 pub mod DuplicateSteps
 pub mod DuplicateShifts
+pub mod DuplicateWords
 pub mod DuplicateSearch
 pub mod DuplicateLaws
 mod DuplicateExamples

@@ -5,7 +5,7 @@ use Rattle.quic_recovery_core.specs.Duplicates.{Seen}
 
 -- how many numbers below the greatest have a bit
 abbrev pub window_bits : ℕ
-window_bits = 128
+window_bits = 256
 
 -- so many numbers below one, descending; fewer where they come to 0
 abbrev pub numbers_below : ℕ → ℕ → List ℕ

@@ -6,7 +6,7 @@ use Rattle.std.specs.List.{range_with_len, find}
 -- so far below the greatest, or farther, a number counts as one that came before (RFC 9000, section
 -- 12.3, which names no number: this is our choice)
 abbrev pub duplicate_span : ℕ
-duplicate_span = 129
+duplicate_span = 257
 
 -- the numbers that came and lie nearer to the greatest than the span, the greatest first, each once
 abbrev pub Seen : Type 0

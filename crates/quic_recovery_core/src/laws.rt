@@ -13,9 +13,9 @@ pub mod pending_acks;
 use crate::spaces::dedup::DUPLICATE_SPAN;
 use crate::spaces::pending_acks::{LAZY_ACK_THRESHOLD, MAX_ACK_RUNS};
 
-/// How many runs of numbers an ACK frame tells (RFC 9000, section 13.2.3), above how many packets
-/// that do not ask it goes along (section 13.2.1), and how far below the greatest a number counts
-/// as one that came (section 12.3). The sections name no numbers: these are our choice.
+/// The constants: ranges per ACK frame (RFC 9000, section 13.2.3), non-ack-eliciting packets before
+/// an ACK is bundled (section 13.2.1), span and bits of the duplicate window (section 12.3). The
+/// sections name no numbers: these are our choice.
 pub fn constants_are_these()
     ensures runs { MAX_ACK_RUNS ≡ most_ack_runs }
     ensures silent { LAZY_ACK_THRESHOLD ≡ lazy_threshold }

@@ -2,3 +2,4 @@
 
 pub(crate) mod dedup;
 pub(crate) mod pending_acks;
+mod window;

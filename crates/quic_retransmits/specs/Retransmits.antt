@@ -122,7 +122,7 @@ merged r other = record {
 
 -- the most retirements that wait
 abbrev pub most_retirements : ℕ
-most_retirements = 50
+most_retirements = 80
 
 -- whether the numbers from a up to z may be retired beside those that wait
 abbrev pub can_retire : Retransmits → ℕ → ℕ → Bool

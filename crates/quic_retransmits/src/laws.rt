@@ -9,5 +9,5 @@ use crate::retransmits::{CONTROL_KINDS, MAX_PENDING_RETIRED_CIDS};
 pub fn constants_are_these()
     ensures order { CONTROL_KINDS ≡ control_kinds }
     ensures retirements { MAX_PENDING_RETIRED_CIDS ≡ most_retirements }
-    ensures in_definitions { most_retirements ≡ 50 }
+    ensures in_definitions { most_retirements ≡ 80 }
 {}

@@ -24,7 +24,7 @@ use thiserror::Error;
 /// Why ids were not retired.
 #[derive(Clone, Copy, Debug, PartialEq, Eq, Error)]
 pub enum RetireError {
-    /// More than 50 retirements would wait: CONNECTION_ID_LIMIT_ERROR (RFC 9000, section 5.1.2).
+    /// More than 80 retirements would wait: CONNECTION_ID_LIMIT_ERROR (RFC 9000, section 5.1.2).
     #[error("queued too many retired CIDs")]
     LimitExceeded,
     /// Out of memory: an allocation failed.
@@ -94,7 +94,7 @@ pub const CONTROL_KINDS: [ControlKind; 10] = [
 
 /// The most retirements of the peer's ids that wait, but for those of lost packets: ten for each id
 /// that is kept of the peer's (RFC 9000, section 5.1.2; quinn-proto's constant of that name).
-pub const MAX_PENDING_RETIRED_CIDS: u64 = 50;
+pub const MAX_PENDING_RETIRED_CIDS: u64 = 80;
 
 /// What waits to be sent, or what a packet carried that goes again where the packet is lost
 /// (quinn-proto's `Retransmits`).
@@ -465,7 +465,7 @@ impl Retransmits {
     ///
     /// # Errors
     ///
-    /// - [`RetireError::LimitExceeded`]: more than 50 would wait. Nothing changes.
+    /// - [`RetireError::LimitExceeded`]: more than 80 would wait. Nothing changes.
     /// - [`RetireError::Memory`]: an allocation fails. Nothing changes.
     pub fn retire_cids(&mut self, cids: Range<u64>) -> Result<(), RetireError>
         requires { cids.end ≤ 2 ^ 62 }

@@ -1,12 +1,12 @@
 -- How a script is run and its lines are kept, line by line.
 use Rattle.std.proofs.Common.{◌≡◌, ℕ, ◌+◌, List, [], ◌∷◌, ◌++◌, length, Option, None, refl, sym, subst, arith, append_assoc, append-nil, length-append}
-use Rattle.quic_run_core.specs.Language.{said}
+use Rattle.quic_lines.specs.Language.{said}
 use Rattle.quic_run_core.specs.Scripts.{Stage, first_stage, Does, script_rules}
 use Rattle.quic_run_core.specs.LongLines.{refuses_long}
-use Rattle.quic_run_core.specs.Reading.{IsNextLine, IsOver}
+use Rattle.quic_lines.specs.Reading.{IsNextLine, IsOver}
 use Rattle.quic_run_core.specs.Erased.{line_kept, IsErased, ErasedAll}
 use Rattle.quic_run_core.specs.Outcomes.{HasRun}
-use Rattle.quic_run_core.proofs.Running.{Running, IsBehind, run-push, behind-none, behind-more, all_done}
+use Rattle.quic_lines.proofs.Running.{Running, IsBehind, run-push, behind-none, behind-more, all_done}
 
 -- one line more is run, and kept or left out
 erased_push : (s : Stage) (lines : List (List ℕ)) (kept : List ℕ) (t : Stage) (line text : List ℕ) (u : Stage) → IsErased s lines kept t → Does (said line) t text u → IsErased s (lines ++ line ∷ []) (kept ++ line_kept text line) u

@@ -24,7 +24,7 @@ use Rattle.quic_connection.specs.Ends.{Serves}
 use Rattle.quic_connection.specs.GoingOn.{words_behind}
 use Rattle.rand_core.specs.Stream.{Stream, u64_call}
 use Rattle.quic_machine.specs.Machine.{World, Policies, IsStep, given_by, end_at, end_met, control_at, heard_at, changed, gives, policy_at}
-use Rattle.quic_run_core.specs.declared.options.Options.{Options}
+use Rattle.quic_lines.specs.declared.options.Options.{Options}
 use Rattle.quic_machine.specs.Start.{IsMaking, AreStarted}
 use Rattle.quic_keys.specs.declared.key.PlainHeaderKey.{PlainHeaderKey}
 use Rattle.quic_keys.specs.declared.key.PlainKey.{PlainKey}
@@ -34,11 +34,13 @@ use Rattle.quic_keys.specs.declared.words.Words.{Words}
 use Rattle.quic_keys.specs.Words.{stream_from, source_stream, words_from}
 use Rattle.quic_keys.proofs.Constant.{words_are}
 use Rattle.quic_keys.specs.Policies.{plain_policy}
-use Rattle.quic_run_core.specs.Scripts.{limits_in, are_short, lack_ends, first_id, settings_of, first_controller, first_windows, first_end, first_world, making, Made, Stage, made_or_first, made_at, with_made, IsSettled, TellsRest, IsSettling, line_feed}
+use Rattle.quic_lines.specs.Options.{limits_in, settings_of, first_windows}
+use Rattle.quic_lines.specs.Printed.{line_feed}
+use Rattle.quic_run_core.specs.Scripts.{are_short, lack_ends, first_id, first_controller, first_end, first_world, making, Made, Stage, made_or_first, made_at, with_made, IsSettled, TellsRest, IsSettling}
 use Rattle.quic_run_core.specs.declared.session.Session.{Session}
-use Rattle.quic_run_core.specs.declared.script.LineError.{LineError}
-use Rattle.quic_run_core.specs.declared.script.LineError.TheVariants.{BadCommand, OutOfMemory}
-use Rattle.quic_run_core.specs.Refusals.{line_error}
+use Rattle.quic_lines.specs.declared.script.LineError.{LineError}
+use Rattle.quic_lines.specs.declared.script.LineError.TheVariants.{BadCommand, OutOfMemory}
+use Rattle.quic_lines.specs.Refusals.{line_error}
 use Rattle.quic_run_core.specs.Stages.{made_in}
 use Rattle.quic_connection.specs.Ends.{world_of}
 

@@ -4,10 +4,10 @@ use Rattle.std.specs.List.{list_any, starts_with, ends_with}
 use Rattle.quic_wire_core.specs.declared.stream_id.Side.TheVariants.{Client, Server}
 use Rattle.quic_machine.specs.declared.answers.DropReason.{DropReason}
 use Rattle.quic_machine.specs.declared.answers.DropReason.TheVariants as drops
-use Rattle.quic_run_core.specs.Language.{said}
-use Rattle.quic_run_core.specs.LineByLine.{lines_of}
-use Rattle.quic_run_core.specs.Printed.{reason_text}
-use Rattle.quic_run_core.specs.Scripts.{Stage, first_stage, heading, line_feed, Does}
+use Rattle.quic_lines.specs.Language.{said}
+use Rattle.quic_lines.specs.LineByLine.{lines_of}
+use Rattle.quic_lines.specs.Printed.{line_feed, reason_text}
+use Rattle.quic_run_core.specs.Scripts.{Stage, first_stage, heading, Does}
 
 -- why a datagram is dropped that doesn't open, or came before
 abbrev pub shut_out : List DropReason

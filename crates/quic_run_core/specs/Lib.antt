@@ -1,15 +1,8 @@
-pub mod ExitStatus
-pub mod Named
-pub mod Language
-pub mod Printed
 pub mod Shown
 pub mod Policies
-pub mod LineByLine
 pub mod Scripts
 pub mod LongLines
 pub mod Stages
-pub mod Reading
 pub mod Outcomes
 pub mod Opened
-pub mod Refusals
 pub mod Erased

@@ -1,8 +1,8 @@
 -- No line of a script that is too long can be run.
 use Rattle.std.specs.Prelude.{◌≡◌, ◌<◌, ℕ, List, length, None, refl}
 use Rattle.std.proofs.lemmas.Bool.{lt-ltb}
-use Rattle.quic_run_core.specs.Language.{said}
-use Rattle.quic_run_core.specs.LineByLine.{RefusesLong}
+use Rattle.quic_lines.specs.Language.{said}
+use Rattle.quic_lines.specs.LineByLine.{RefusesLong}
 use Rattle.quic_run_core.specs.Scripts.{Stage, Does, script_rules}
 
 -- it asks for nothing

@@ -1,8 +1,8 @@
 -- How a script ends: which of its lines were run, and what was printed of them. A script's bytes,
 -- and those that a writer holds, are there where they are known.
 use Rattle.std.specs.Prelude.{ℕ, List, [], Option}
-use Rattle.quic_run_core.specs.declared.error.ScriptError.{ScriptError}
-use Rattle.quic_run_core.specs.LineByLine as lines
+use Rattle.quic_lines.specs.declared.error.ScriptError.{ScriptError}
+use Rattle.quic_lines.specs.LineByLine as lines
 use Rattle.quic_run_core.specs.Scripts.{Stage, first_stage, script_rules}
 
 -- Lines were run in turn from the first stage on, and what they print was appended, and nothing

@@ -1,15 +1,13 @@
 -- What each line of a script does, with what it prints.
-use Rattle.std.specs.Prelude.{min, ◌^◌, ◌≡◌, ◌≤◌, ◌==◌, ◌||◌, ℕ, Bool, true, false, if◌then◌else◌, List, [], ◌∷◌, ◌++◌, length, replicate, codes, Option, Some, None, IsSome, IfSome, Ok}
+use Rattle.std.specs.Prelude.{◌≡◌, ◌≤◌, ◌||◌, ℕ, Bool, true, false, List, [], ◌++◌, length, replicate, codes, Option, Some, None, IsSome, IfSome, Ok}
 use Rattle.std.specs.declared.alloc.AllocError.{AllocError}
 use Rattle.quic_wire_core.specs.declared.stream_id.Side.{Side}
 use Rattle.quic_wire_core.specs.declared.stream_id.Side.TheVariants.{Client, Server}
 use Rattle.quic_wire_core.specs.StreamId.{other_side}
-use Rattle.quic_config.specs.Configs.{SearchSettings, default_search}
-use Rattle.quic_config.specs.Transport.{Settings, settings_with, default_transport, parameters_of}
+use Rattle.quic_config.specs.Transport.{parameters_of}
 use Rattle.quic_parameters.specs.ParametersWritten.{written_parameters}
 use Rattle.quic_congestion.specs.NewReno.{Reno, default_reno, reno_made, window_after}
-use Rattle.quic_machine.specs.Parts.{Windows}
-use Rattle.quic_machine.specs.End.{End, new_end, KeyLimits, are_keys_short}
+use Rattle.quic_machine.specs.End.{End, new_end, are_keys_short}
 use Rattle.quic_machine.specs.Heard.{nothing_heard}
 use Rattle.quic_machine.specs.Start.{Making}
 use Rattle.quic_connection.specs.Ends.{in_order}
@@ -17,57 +15,17 @@ use Rattle.quic_machine.specs.Machine.{World, Policies, IsStep, given_by}
 use Rattle.quic_machine.specs.declared.run.RunEvent.{RunEvent}
 use Rattle.quic_machine.specs.declared.run.Answer.{Answer}
 use Rattle.quic_connection.specs.Settled.{AreAtRest, Settles}
-use Rattle.quic_run_core.specs.declared.options.Options.{Options}
-use Rattle.quic_run_core.specs.declared.script.Setting.{Setting}
-use Rattle.quic_run_core.specs.declared.script.Setting.TheVariants.{ReceiveWindow, StreamWindow, SendWindow, Bidi, Uni, Idle, Messages, Search, SealLimit, OpenLimit, Validated, Word, Pcg}
-use Rattle.quic_keys.specs.declared.words.Source.TheVariants as sources
+use Rattle.quic_lines.specs.declared.options.Options.{Options}
+use Rattle.quic_lines.specs.declared.script.Setting.{Setting}
 use Rattle.quic_keys.specs.Words.{words_from}
-use Rattle.quic_keys.specs.KeysOf.{usual_limit}
 use Rattle.quic_keys.specs.Policies.{plain_policies}
-use Rattle.quic_run_core.specs.LineByLine.{LineRules}
-use Rattle.quic_run_core.specs.Printed.{call_text, rest_text, answer_text}
+use Rattle.quic_lines.specs.LineByLine.{LineRules}
+use Rattle.quic_lines.specs.Options.{first_options, settings_of, with_setting, limits_in, first_windows}
+use Rattle.quic_lines.specs.Printed.{line_feed, call_text, rest_text, answer_text}
 use Rattle.quic_run_core.specs.Shown.{shown_text}
-use Rattle.quic_run_core.specs.Language.{Command, Asked, nothing, sets, asks, shows, settles, asked_of, said}
+use Rattle.quic_lines.specs.Language.{Command, Asked, nothing, sets, asks, shows, settles, asked_of, said}
 
--- ---- options
-
--- the options of an end for which none is set: no greater size is looked for, and its keys have the
--- usual limits
-abbrev pub first_options : Options
-first_options = record { transport = record default_transport { mtu_discovery_config = None }; seal_limit = usual_limit; open_limit = usual_limit; source = sources.Word 63; validated = true }
-
--- the settings of an end with these options; none sets a size of datagrams
-abbrev pub settings_of : Options → Settings
-settings_of o = settings_with (record o.transport { initial_mtu = 1200; min_mtu = 1200 }) true
-
--- how many bytes of messages an end keeps unread: none, where it takes no messages, for 0
-abbrev pub kept_size : ℕ → Option ℕ
-kept_size bytes = if bytes == 0 then None else Some bytes
-
--- how a greater size of datagrams is looked for, where it is
-abbrev pub search_if : Bool → Option SearchSettings
-search_if true = Some default_search
-search_if false = None
-
--- the options with one of them set
-abbrev pub with_setting : Setting → Options → Options
-with_setting (ReceiveWindow value) o = record o { transport = record o.transport { receive_window = value } }
-with_setting (StreamWindow value) o = record o { transport = record o.transport { stream_receive_window = value } }
-with_setting (SendWindow value) o = record o { transport = record o.transport { send_window = value } }
-with_setting (Bidi count) o = record o { transport = record o.transport { max_bidi = min count (2 ^ 60) } }
-with_setting (Uni count) o = record o { transport = record o.transport { max_uni = min count (2 ^ 60) } }
-with_setting (Idle millis) o = record o { transport = record o.transport { max_idle_timeout = Some millis } }
-with_setting (Messages bytes) o = record o { transport = record o.transport { datagram_receive_buffer_size = kept_size bytes } }
-with_setting (Search on) o = record o { transport = record o.transport { mtu_discovery_config = search_if on } }
-with_setting (SealLimit packets) o = record o { seal_limit = packets }
-with_setting (OpenLimit packets) o = record o { open_limit = packets }
-with_setting (Validated validated) o = record o { validated = validated }
-with_setting (Word word) o = record o { source = sources.Word word }
-with_setting (Pcg seed) o = record o { source = sources.Pcg seed }
-
--- how long the keys of an end with these options last
-abbrev pub limits_in : Options → KeyLimits
-limits_in o = record { seals = o.seal_limit; openings = o.open_limit }
+-- ---- the ends
 
 -- whether no ends can be made of the client's options and the server's: the keys of one last too
 -- short
@@ -78,8 +36,6 @@ are_short client server = are_keys_short (limits_in client) || are_keys_short (l
 abbrev pub policies_for : Options → Options → Policies
 policies_for client server = plain_policies (limits_in client) (limits_in server) (words_from client.source) (words_from server.source)
 
--- ---- the ends
-
 -- the first id of an end: eight times c0 or 50
 abbrev pub first_id : Side → List ℕ
 first_id Client = replicate 8 0xc0
@@ -89,10 +45,6 @@ first_id Server = replicate 8 0x50
 -- datagrams of 1200 bytes
 abbrev pub first_controller : Reno
 first_controller = reno_made default_reno 0 1200
-
--- the windows that it shows
-abbrev pub first_windows : Windows
-first_windows = record { initial = default_reno.initial; present = default_reno.initial }
 
 -- an end as it is made at moment 0: the other end's options are its limits
 abbrev pub first_end : Side → Options → Options → End
@@ -203,10 +155,6 @@ side_text Server = codes "s"
 -- the first two words of a line, and a blank
 abbrev pub heading : Side → List ℕ → List ℕ
 heading side name = side_text side ++ (codes " " ++ (name ++ codes " "))
-
--- what ends a line
-abbrev pub line_feed : List ℕ
-line_feed = 10 ∷ []
 
 -- a line's answer behind its first two words
 abbrev pub line_text : Side → List ℕ → List ℕ → List ℕ

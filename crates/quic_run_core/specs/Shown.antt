@@ -6,7 +6,7 @@ use Rattle.quic_wire_core.specs.StreamId.{other_side}
 use Rattle.quic_packet.specs.Datagram.{Opening, opened_packet}
 use Rattle.quic_keys.specs.Plain.{plain_protection, plain_aead}
 use Rattle.quic_keys.specs.KeysOf.{keys_of}
-use Rattle.quic_run_core.specs.Printed.{bytes_text}
+use Rattle.quic_lines.specs.Printed.{bytes_text}
 
 -- the number and the payload of a datagram that opened
 abbrev pub parts_of : Option Opening → Option (ℕ × List ℕ)

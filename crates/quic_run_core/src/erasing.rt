@@ -2,14 +2,12 @@
 ghost use Rattle.std.specs.Prelude.{◌≡◌, ◌++◌, IfOk, IfErr, OnOk, None};
 ghost use Rattle.quic_run_core.specs.Erased.{is_left_out, is_shut_out, line_kept, ErasedAll};
 ghost use Rattle.quic_run_core.specs.Outcomes.{Stopped};
-ghost use Rattle.quic_run_core.specs.Reading.{left_of, KnowsEnd};
+ghost use Rattle.quic_lines.specs.Reading.{left_of, KnowsEnd};
 ghost use Rattle.quic_run_core.specs.Scripts.{first_stage};
 ghost use Rattle.quic_run_core.specs.Stages.{stage_of};
 
-use crate::error::ScriptError;
-use crate::line_by_line::RunsLines;
-use crate::lines::Lines;
-use crate::runner::{MOST_TURNS, Runner};
+use crate::runner::Runner;
+use quic_lines::{Lines, MOST_TURNS, RunsLines, ScriptError};
 use std::alloc::{AllocError, Global};
 use std::io::Read;
 

@@ -1,24 +1,19 @@
 //! Runs a script: what each of its lines does, and answers.
 ghost use Rattle.std.specs.Prelude.{◌≡◌, ◌⊎◌, true, false, MatchResult, IfErr, IfOk, OnOk, IsSome, string_bytes};
-ghost use Rattle.quic_run_core.specs.Language.{sets, asks, shows, settles, asked_of};
+ghost use Rattle.quic_lines.specs.Language.{sets, asks, shows, settles, asked_of};
 ghost use Rattle.quic_run_core.specs.Scripts.{first_stage, with_made, made_at, has_no_ends, IsDone, heading as heading_of};
 ghost use Rattle.quic_run_core.specs.Stages.{stage_of};
 ghost use Rattle.quic_run_core.specs.Outcomes.{RanAll, Stopped};
 
-use crate::answer::call_name;
-use crate::error::ScriptError;
-use crate::line_by_line::{RunsLines, run_lines};
-use crate::lines::Lines;
-use crate::options::Options;
-use crate::script::{Line, LineError, Setting, parse_line};
 use crate::session::Session;
 use quic_connection::{Instant, RunEvent};
+use quic_lines::{
+    Line, LineError, Lines, MOST_TURNS, Options, RunsLines, ScriptError, Setting, call_name,
+    parse_line, run_lines,
+};
 use quic_wire_core::Side;
 use std::alloc::{AllocError, Global};
 use std::io::{Read, Write};
-
-/// How often the reader of a script is called at most.
-pub const MOST_TURNS: u64 = 1 << 32;
 
 /// A session on the heap. An `Err` is want of memory.
 fn boxed(alloc: Global, session: Session) -> Result<Box<Session>, AllocError>

@@ -14,17 +14,13 @@ ghost use Rattle.quic_keys.specs.KeysOf.{keys_with};
 ghost use Rattle.quic_run_core.specs.Policies.{ArePlain};
 ghost use Rattle.quic_run_core.specs.Shown.{AreNumbers, shown_text};
 ghost use Rattle.quic_keys.specs.Words.{source_stream};
-ghost use Rattle.quic_run_core.specs.Refusals.{line_error};
-ghost use Rattle.quic_run_core.specs.Scripts.{limits_in, are_short, policies_for, first_id, first_controller, first_end, first_world, making, Tells, TellsRest};
+ghost use Rattle.quic_lines.specs.Options.{limits_in};
+ghost use Rattle.quic_run_core.specs.Scripts.{are_short, policies_for, first_id, first_controller, first_end, first_world, making, Tells, TellsRest};
 
-use crate::answer::{put_answer, put_rest};
-use crate::options::Options;
-use crate::script::LineError;
 use crate::show::put_datagram;
-use quic_connection::{
-    ConfigError, Connection, Ends, Given, Instant, NewReno, RunEvent, settle, step,
-};
+use quic_connection::{Connection, Ends, Given, Instant, NewReno, RunEvent, settle, step};
 use quic_keys::{PlainHeaderKey, PlainKey, Words};
+use quic_lines::{LineError, Options, put_answer, put_rest};
 use quic_parameters::TransportParameters;
 use quic_wire_core::{ConnectionId, Side};
 use rand_core::Rng;
@@ -39,22 +35,6 @@ fn first_id(side: Side) -> ConnectionId
     match side {
         Side::Client => ConnectionId::new(&[0xc0; 8]),
         Side::Server => ConnectionId::new(&[0x50; 8]),
-    }
-}
-
-/// Ends that can't be made are a bad command, but for want of memory.
-impl From<ConfigError> for LineError {
-    ghost from_gives = { λ error e. e ≡ line_error error };
-
-    fn from(error: ConfigError) -> LineError {
-        match error {
-            ConfigError::Memory => LineError::OutOfMemory,
-            ConfigError::Parameters
-            | ConfigError::IdLength
-            | ConfigError::Size
-            | ConfigError::Window
-            | ConfigError::KeyLimit => { LineError::BadCommand }
-        }
     }
 }
 

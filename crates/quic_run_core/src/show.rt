@@ -3,9 +3,9 @@ ghost use Rattle.std.specs.Prelude.{◌≡◌, ◌≤◌, ◌-◌, ◌^◌, ◌+
 ghost use Rattle.quic_run_core.specs.Shown.{opening_at, behind_last, AreNumbers, parts_text, shown_text, number_of as number_in};
 ghost use Rattle.quic_run_core.specs.Opened.{parts_in};
 
-use crate::answer::put_bytes;
 use quic_connection::Datagram;
 use quic_keys::keys_for;
+use quic_lines::put_bytes;
 use quic_packet::{Opened, open_packet};
 use quic_wire_core::Side;
 use std::alloc::{AllocError, Global};

@@ -1,19 +1,7 @@
-//! Tests of two ends of `quic_connection`, through its public items: the worked example, messages,
-//! validation, what views show, one that asks the other how often to acknowledge, and each call
-//! that no script makes where memory lacks (`lacking`).
-//! What a script can say is a case of `quic_run`; runs by chance are `./random-scripts`.
+//! Tests of scripts that can't be read on, or whose answers can't be printed, and of when answers
+//! are printed: through the public items of `quic_run_core`. What a script can say is a case of
+//! `quic_run`.
 #![tactic(auto)]
 
 #[cfg(test)]
-mod ack_frequency;
-#[cfg(test)]
-mod lacking;
-pub mod laws;
-#[cfg(test)]
-mod messages;
-#[cfg(test)]
-mod runs;
-#[cfg(test)]
-mod validation;
-#[cfg(test)]
-mod views;
+mod scripts;

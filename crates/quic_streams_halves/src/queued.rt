@@ -89,8 +89,8 @@ pub(crate) fn ack(
     Ok(())
 }
 
-/// The same of a part of which neither its end nor a reset was told; any other stays. Says whether
-/// the end of the part was told, and no reset. An `Err` (want of memory) changes nothing.
+/// Like `ack`, but does nothing if the half was finished or reset. Returns whether it is finished
+/// and not reset. An `Err` (out of memory) changes nothing.
 pub(crate) fn ack_if_ready(
     half: &mut Send,
     frame: &StreamMeta,

@@ -296,8 +296,8 @@ impl SendHalves {
         Ok(())
     }
 
-    /// The same, unless the part's end or a reset was told: it stays then. Says whether the part is
-    /// in use, its end was told, and no reset.
+    /// Like `ack`, but does nothing if the half was finished or reset. Returns whether it is in
+    /// use, finished and not reset.
     ///
     /// # Errors
     ///

@@ -3,12 +3,12 @@
 use quic_retransmits::Retransmits;
 use quic_streams_state::StreamsState;
 
-/// The streams of an end, and what waits to be sent beside their bytes: a handle borrows both at
+/// The streams of an endpoint, and the control frames that are pending: a handle borrows both at
 /// once.
 #[derive(Drop)]
 pub struct EndStreams {
-    /// All streams of the end.
+    /// All streams of the endpoint.
     pub state: StreamsState,
-    /// What waits to be sent beside their bytes.
+    /// The control frames that are pending.
     pub pending: Retransmits,
 }

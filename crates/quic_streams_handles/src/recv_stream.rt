@@ -15,12 +15,12 @@ use quic_send_buffer::ShouldTransmit;
 use quic_streams_parts::{ClosedStream, ReadError, ReadableError, UpdateError};
 use quic_wire_core::{StreamId, VarInt};
 
-/// The receiving half of a stream (quinn-proto's `RecvStream`).
+/// The receive half of a stream (quinn-proto's `RecvStream`).
 #[derive(Drop)]
 pub struct RecvStream<'a> {
     /// The stream.
     pub id: StreamId,
-    /// All streams of the end.
+    /// All streams of the endpoint.
     pub streams: &'a mut EndStreams,
 }
 
@@ -28,11 +28,11 @@ pub struct RecvStream<'a> {
 pub struct Chunks<'a> {
     /// The stream.
     pub id: StreamId,
-    /// All streams of the end.
+    /// All streams of the endpoint.
     pub streams: &'a mut EndStreams,
-    /// Whether MAX_STREAM_DATA of the stream didn't wait before the read.
+    /// Whether MAX_STREAM_DATA of the stream wasn't pending before the read.
     pub is_new: bool,
-    /// What was told.
+    /// What `next` has answered beside bytes.
     pub told: Told,
 }
 
@@ -74,7 +74,7 @@ impl<'a> RecvStream<'a> {
     ghost use Rattle.quic_streams_handles.specs.Lending.{chunks_lender};
     ghost use Rattle.quic_streams_handles.specs.Told.{told_of};
 
-    /// The receiving half of a stream of an end.
+    /// The receive half of a stream of an endpoint.
     pub fn new(id: StreamId, streams: &'a mut EndStreams) -> RecvStream<'a>
         ensures same_reference { result.streams.ghost_name ≡ streams.entry.ghost_name }
         ensures same_streams { result.streams.now ≡ streams.old }
@@ -84,8 +84,8 @@ impl<'a> RecvStream<'a> {
     }
 
     /// Begins a read, in order or not (RFC 9000, section 2.2; quinn-proto's `RecvStream::read`),
-    /// and takes the memory that its end needs. After a read that wasn't in order all others are
-    /// so.
+    /// and takes the memory that [`Chunks::finalize`] needs. After a read that wasn't in order all
+    /// others are so.
     ///
     /// # Errors
     ///
@@ -112,8 +112,8 @@ impl<'a> RecvStream<'a> {
     }
 
     /// Stops the stream, of which nothing is read any more (RFC 9000, section 3.5; quinn-proto's
-    /// `RecvStream::stop`): the peer is asked to stop too unless it reset the stream, and the
-    /// limits that grew wait to be told.
+    /// `RecvStream::stop`): STOP_SENDING is queued unless the peer reset the stream, and raised
+    /// limits are pending until they are advertised.
     ///
     /// # Errors
     ///
@@ -155,14 +155,15 @@ impl<'a> RecvStream<'a> {
 impl Chunks<'_> {
     ghost use Rattle.quic_streams_handles.specs.Told.{told_of};
 
-    /// The next bytes, at most so many, or none at the end of the stream (quinn-proto's
-    /// `Chunks::next`). The end, or that the peer reset the stream, is told again from then on.
+    /// The next bytes, at most so many, or `None` at the end of the stream (quinn-proto's
+    /// `Chunks::next`). Once it has answered that, or that the peer reset the stream, it answers so
+    /// again.
     ///
     /// # Errors
     ///
-    /// - [`ReadError::Reset`]: the peer reset the stream. Its receiving half is done then.
-    /// - [`ReadError::Blocked`]: no byte waits that may be given, and not all up to the final size
-    ///   were read. Nothing changes.
+    /// - [`ReadError::Reset`]: the peer reset the stream. Its receive half is done then.
+    /// - [`ReadError::Blocked`]: no byte is there that may be given, and not all up to the final
+    ///   size were read. Nothing changes.
     /// - [`ReadError::Memory`]: an allocation fails. Nothing changes.
     pub fn next(&mut self, max_length: usize) -> Result<Option<Chunk>, ReadError>
         ensures same_reference { self.new.streams.ghost_name ≡ self.old.streams.ghost_name }
@@ -182,8 +183,8 @@ impl Chunks<'_> {
         answer
     }
 
-    /// Ends the read (quinn-proto's `Chunks::finalize`): the limits that grew wait to be told. The
-    /// answer is whether there are any, so that something is to be sent.
+    /// Ends the read (quinn-proto's `Chunks::finalize`): raised limits are pending until they are
+    /// advertised. The answer is whether there are any, so that something is to be sent.
     pub fn finalize(self) -> ShouldTransmit
         ensures answer { result ≡ record { 0 = finalize_answer self.entry.streams.now.state self.entry.id } }
         ensures state { self.exit.1.0.now.state ≡ self.entry.streams.now.state }

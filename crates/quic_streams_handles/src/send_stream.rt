@@ -17,19 +17,19 @@ use quic_streams_parts::{ClosedStream, FinishError, UpdateError, WriteError, Wri
 use quic_streams_state::BlockedBy;
 use quic_wire_core::{StreamId, VarInt};
 
-/// The sending half of a stream (quinn-proto's `SendStream`).
+/// The send half of a stream (quinn-proto's `SendStream`).
 #[derive(Drop)]
 pub struct SendStream<'a> {
     /// The stream.
     pub id: StreamId,
-    /// All streams of the end.
+    /// All streams of the endpoint.
     pub streams: &'a mut EndStreams,
-    /// Whether the end is open: nothing is written on any other.
+    /// Whether the endpoint is open: nothing is written on any other.
     pub is_open: bool,
 }
 
 impl<'a> SendStream<'a> {
-    /// The sending half of a stream of an end, which is open or isn't.
+    /// The send half of a stream of an endpoint, which is open or isn't.
     pub fn new(id: StreamId, streams: &'a mut EndStreams, is_open: bool) -> SendStream<'a>
         ensures same_reference { result.streams.ghost_name ≡ streams.entry.ghost_name }
         ensures same_streams { result.streams.now ≡ streams.old }
@@ -108,9 +108,9 @@ impl<'a> SendStream<'a> {
     }
 
     /// Which limit lets a write take nothing now (RFC 9000, section 4.1): why `write` answers
-    /// [`WriteError::Blocked`]. In the order in which `write` tests them: [`BlockedBy::Closed`]
-    /// where the end isn't open, `Connection`, `SendWindow`, `Stream`. `None` where a write would
-    /// take bytes, or answer another error. Nothing changes. quinn-proto has no such call.
+    /// [`WriteError::Blocked`]. In the order in which `write` tests them: [`BlockedBy::Closed`] if
+    /// the endpoint isn't open, `Connection`, `SendWindow`, `Stream`. `None` if a write would take
+    /// bytes, or answer another error. Nothing changes. quinn-proto has no such call.
     pub fn blocked_by(&self) -> Option<BlockedBy>
         ensures value { result ≡ blocked_by self.now.is_open self.now.streams.now.state self.now.id }
         ensures some { (len : ℕ) → IsSome result → write_answer self.now.is_open self.now.streams.now.state self.now.id len ≡ Err write_errors.Blocked }
@@ -131,8 +131,8 @@ impl<'a> SendStream<'a> {
         self.streams.state.stopped(self.id)
     }
 
-    /// Finishes the stream: its end has to go behind its bytes (RFC 9000, section 3.1;
-    /// quinn-proto's `SendStream::finish`).
+    /// Finishes the stream: its FIN is sent behind its bytes (RFC 9000, section 3.1; quinn-proto's
+    /// `SendStream::finish`).
     ///
     /// # Errors
     ///
@@ -157,7 +157,7 @@ impl<'a> SendStream<'a> {
     }
 
     /// Resets the stream with a code (RFC 9000, section 3.1; quinn-proto's `SendStream::reset`):
-    /// RESET_STREAM waits, and nothing else of the stream goes.
+    /// RESET_STREAM is queued, and nothing else of the stream is sent.
     ///
     /// # Errors
     ///

@@ -6,17 +6,17 @@ ghost use Rattle.quic_streams_state.specs.Opening.{open_answer, after_open, acce
 use crate::end_streams::EndStreams;
 use quic_wire_core::{Dir, StreamId};
 
-/// The streams of an end (quinn-proto's `Streams`).
+/// The streams of an endpoint (quinn-proto's `Streams`).
 #[derive(Drop)]
 pub struct Streams<'a> {
     /// All of them.
     pub streams: &'a mut EndStreams,
-    /// Whether the end is open: no stream is opened on any other.
+    /// Whether the endpoint is open: no stream is opened on any other.
     pub is_open: bool,
 }
 
 impl<'a> Streams<'a> {
-    /// Those of an end, which is open or isn't.
+    /// Those of an endpoint, which is open or isn't.
     pub fn new(streams: &'a mut EndStreams, is_open: bool) -> Streams<'a>
         ensures same_reference { result.streams.ghost_name ≡ streams.entry.ghost_name }
         ensures same_streams { result.streams.now ≡ streams.old }
@@ -26,7 +26,7 @@ impl<'a> Streams<'a> {
     }
 
     /// Opens the next stream of a kind (RFC 9000, section 4.6; quinn-proto's `Streams::open`): its
-    /// id. `None` where the end isn't open, or the peer lets no more of them be opened.
+    /// ID. `None` if the endpoint isn't open, or the peer lets no more of them be opened.
     pub fn open(&mut self, dir: Dir) -> Option<StreamId>
         ensures same_reference { self.new.streams.ghost_name ≡ self.old.streams.ghost_name }
         ensures same_open { self.new.is_open ≡ self.old.is_open }
@@ -49,7 +49,7 @@ impl<'a> Streams<'a> {
         self.streams.state.accept(dir)
     }
 
-    /// How many opened streams this end may send on, and isn't done with.
+    /// How many opened streams this endpoint may send on, and isn't done with.
     pub fn send_streams(&self) -> u64
         ensures { result ≡ send_streams self.now.streams.now.state }
     {

@@ -9,12 +9,13 @@ use quic_assembler::Chunk;
 use quic_streams_parts::ReadError;
 use quic_wire_core::VarInt;
 
-/// What a read of a stream has told, which it tells again (quinn-proto's `ChunksState`).
+/// What a read of a stream has answered beside bytes, which it answers again (quinn-proto's
+/// `ChunksState`).
 #[derive(Clone, Copy, Debug, PartialEq, Eq)]
 pub enum Told {
     /// Nothing yet but bytes.
     Bytes,
-    /// Its end.
+    /// That the stream has ended: all bytes up to FIN were given.
     End,
     /// That the peer reset it, with this code (RFC 9000, section 3.2).
     Reset(VarInt),

@@ -1,6 +1,7 @@
 use super::ends::{first_id, with_streams};
+use bytes::Bytes;
 use quic_streams_handles::{EndStreams, SendStream, Streams};
-use quic_streams_parts::{UpdateError, WriteError};
+use quic_streams_parts::{UpdateError, WriteError, Written};
 use quic_streams_state::BlockedBy;
 use quic_wire_core::{Dir, Side, VarInt};
 use std::process::Abort;
@@ -35,6 +36,22 @@ fn write(rt: &impl Abort, stream: &mut SendStream<'_>, data: &[u8], taken: usize
     assert_eq!(rt; answer, Ok(taken));
 }
 
+// Of two buffers the first is taken, and nothing of the other.
+fn write_chunks(rt: &impl Abort, stream: &mut SendStream<'_>) {
+    let chunks = [Bytes::from_static(b"he"), Bytes::from_static(b"llo")];
+    let mut answer = stream.write_chunks(&chunks);
+    if answer == Err(WriteError::Memory) {
+        answer = stream.write_chunks(&chunks);
+    }
+    assert_eq!(rt;
+        answer,
+        Ok(Written {
+            bytes: 2,
+            chunks: 1
+        })
+    );
+}
+
 // It takes nothing where the end isn't open.
 fn block(rt: &impl Abort, streams: &mut EndStreams) {
     let mut stream = SendStream::new(first_id(), streams, false);
@@ -51,7 +68,7 @@ fn write_all(rt: &impl Abort, streams: &mut EndStreams) -> Result<(), Fail> {
     assert_eq!(rt; stream.priority(), Ok(3));
     write(rt, &mut stream, b"hello", 5);
     assert_eq!(rt; stream.blocked_by(), None);
-    write(rt, &mut stream, b"hello", 2);
+    write_chunks(rt, &mut stream);
     assert_eq!(rt; stream.blocked_by(), Some(BlockedBy::Connection));
     assert_eq!(rt; stream.stopped(), Ok(None));
     Ok(())

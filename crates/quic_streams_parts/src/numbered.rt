@@ -60,7 +60,7 @@ impl<T> Numbered<T> {
         }
     }
 
-    /// The same, to be changed.
+    /// The value of a number, to be changed, if it is there.
     pub fn get_mut(&mut self, number: u64) -> Option<&mut T>
         ensures* writes_back { sem 𝓛 (lends_number T.row self.entry number result) }
         ensures value { option_copied_mut result ≡ at self.old number }

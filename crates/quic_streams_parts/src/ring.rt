@@ -42,7 +42,7 @@ fn value_in<T>(slot: &Option<T>) -> Option<&T>
     }
 }
 
-/// The same, to be changed.
+/// The value that is kept in a slot, to be changed, if there is one.
 fn value_mut_in<T>(slot: &mut Option<T>) -> Option<&mut T>
     ensures* writes_back { sem 𝓛 (lends_slot T.row slot.entry result) }
     ensures value { option_copied_mut result ≡ slot.old }
@@ -123,7 +123,7 @@ impl<T> Ring<T> {
         }
     }
 
-    /// The same, to be changed.
+    /// The value of a number from the first slot on, to be changed, if it is there.
     pub(crate) fn get_mut(&mut self, number: u64) -> Option<&mut T>
         requires { self.old.base ≤ number }
         ensures* writes_back { sem 𝓛 (lends_ring T.row self.entry number result) }

@@ -143,11 +143,11 @@ pub fn first_goes_first()
     ensures nothing { (controls_in 3 hello_reset.state (resets_wait ((0, 5) ∷ (4, 1) ∷ []))).frames ≡ [] }
 {}
 
-/// Retirements are joined in their order, and at most 50 wait.
+/// Retirements are joined in their order, and at most 80 wait.
 pub fn retirements_wait()
     ensures merged { (merged (after_retire nothing_waits 1 2) (after_retire nothing_waits 2 3)).retire_cids ≡ 1 ∷ 2 ∷ [] }
-    ensures fifty { can_retire nothing_waits 0 50 ≡ true }
-    ensures more { can_retire nothing_waits 0 51 ≡ false }
+    ensures eighty { can_retire nothing_waits 0 80 ≡ true }
+    ensures more { can_retire nothing_waits 0 81 ≡ false }
 {}
 
 /// Of two streams of one priority the one that was written first goes first. Where they take turns,

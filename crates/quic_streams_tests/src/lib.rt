@@ -1,5 +1,5 @@
-//! Tests of the two buffers of a stream, and of what goes with them: worked rows, and each call
-//! that takes memory, made where an allocation fails.
+//! Tests of the two buffers of a stream, and of what goes with them: each public call once, and
+//! each that takes memory where an allocation fails.
 #![tactic(auto)]
 
 #[cfg(test)]
@@ -10,5 +10,3 @@ mod bytes_source;
 mod send_buffer;
 #[cfg(test)]
 mod spent;
-#[cfg(test)]
-mod stream_meta;

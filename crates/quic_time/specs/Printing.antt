@@ -1,5 +1,13 @@
--- What is printed of a length of time.
+-- What is printed of a moment and of a length of time.
 use Rattle.std.specs.Prelude.{ℕ, ◌/◌, ◌%◌, ◌==◌, ◌&&◌, List, [], ◌∷◌, ◌++◌, nat_le, if◌then◌else◌, codes, decimal}
+
+-- the last three digits of a number
+abbrev pub three_digits : ℕ → List ℕ
+three_digits n = decimal (n / 100 % 10) ++ (decimal (n / 10 % 10) ++ decimal (n % 10))
+
+-- a moment, in seconds since the first, with nine digits behind the point
+abbrev pub moment_text : ℕ → List ℕ
+moment_text n = decimal (n / 1000000000) ++ (codes "." ++ (three_digits (n / 1000000) ++ (three_digits (n / 1000) ++ (three_digits n ++ codes "s"))))
 
 -- the digits of so many thousandths, as far as one isn't zero, behind a point
 abbrev pub fraction_text : ℕ → List ℕ

@@ -21,7 +21,8 @@ pub(crate) const SECOND: u64 = 1_000_000_000;
 pub const TIMER_GRANULARITY: Duration = Duration(MILLISECOND);
 
 /// A moment, in whole nanoseconds since one that the caller chooses. Contracts see the number.
-#[derive(Clone, Copy, Debug, PartialEq, Eq, PartialOrd, Ord)]
+/// `Display` and `Debug` print it in seconds, as `1.040000000s`.
+#[derive(Clone, Copy, PartialEq, Eq, PartialOrd, Ord)]
 pub struct Instant(u64);
 
 impl Model for Instant {

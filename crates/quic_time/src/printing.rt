@@ -1,10 +1,51 @@
-//! How a length of time prints.
+//! How a moment and a length of time print.
 ghost use Rattle.std.specs.Prelude.{Some};
 ghost use Rattle.std.specs.Fmt.{DisplaysOnOk};
-ghost use Rattle.quic_time.specs.Printing.{duration_text, thousandths_text, fraction_text};
+ghost use Rattle.quic_time.specs.Printing.{moment_text, three_digits, duration_text, thousandths_text, fraction_text};
 
-use crate::instant::{Duration, MICROSECOND, MILLISECOND, SECOND};
+use crate::instant::{Duration, Instant, MICROSECOND, MILLISECOND, SECOND};
 use std::fmt::{self, Debug, Display, Formatter};
+
+/// Seconds since the first moment, with nine digits behind the point, as `0.000333000s`. Widths are
+/// not heeded.
+impl Display for Instant {
+    ghost output = { λ moment. Some (moment_text moment) };
+
+    fn fmt<W: fmt::Write>(&self, f: &mut Formatter<W>) -> fmt::Result {
+        write_moment(f, self.as_nanos())
+    }
+}
+
+/// The same as `Display`.
+impl Debug for Instant {
+    ghost debug_output = { λ moment. Some (moment_text moment) };
+
+    fn fmt<W: fmt::Write>(&self, f: &mut Formatter<W>) -> fmt::Result {
+        write_moment(f, self.as_nanos())
+    }
+}
+
+/// Writes the moment so many nanoseconds after the first.
+fn write_moment<W: fmt::Write>(f: &mut Formatter<W>, nanos: u64) -> fmt::Result
+    ensures { DisplaysOnOk W.write_str_gives f.old result (Some (moment_text nanos)) f.new }
+{
+    let whole = nanos / SECOND;
+    write!(f, "{whole}.")?;
+    write_three_digits(f, nanos / MILLISECOND)?;
+    write_three_digits(f, nanos / MICROSECOND)?;
+    write_three_digits(f, nanos)?;
+    f.write_str("s")
+}
+
+/// Writes the last three digits of a number.
+fn write_three_digits<W: fmt::Write>(f: &mut Formatter<W>, number: u64) -> fmt::Result
+    ensures { DisplaysOnOk W.write_str_gives f.old result (Some (three_digits number)) f.new }
+{
+    let first = number / 100 % 10;
+    let second = number / 10 % 10;
+    let third = number % 10;
+    write!(f, "{first}{second}{third}")
+}
 
 /// As Rust's `Duration` prints lengths that take at most three digits behind the point: a number
 /// and its unit, `s`, `ms`, `µs` or `ns`.

@@ -57,7 +57,7 @@ three_frames = (
 entry : (id : ℕ) (value : List ℕ) → id < 64 → length value < 64 → EntrySpells (id, value) (id ∷ length value ∷ value)
 entry id value h k = (id ∷ [], length value ∷ [], inl (h, refl), inl (k, refl), refl)
 
--- 30000, 2^62 - 1, 1250000, 100, 5, 65535 and 1000
+-- 30000, 2^62 - 1, 1250000, 100, 8, 65535 and 1000
 abbrev idle_bytes : List ℕ
 idle_bytes = 0x80 ∷ 0x00 ∷ 0x75 ∷ 0x30 ∷ []
 
@@ -71,7 +71,7 @@ abbrev count_bytes : List ℕ
 count_bytes = 0x40 ∷ 0x64 ∷ []
 
 abbrev ids_bytes : List ℕ
-ids_bytes = 0x05 ∷ []
+ids_bytes = 0x08 ∷ []
 
 abbrev message_bytes : List ℕ
 message_bytes = 0x80 ∷ 0x00 ∷ 0xff ∷ 0xff ∷ []
@@ -91,7 +91,7 @@ stream_spelled = inr (inr (inl (lit< tt, refl)))
 count_spelled : Spells 100 count_bytes
 count_spelled = inr (inl (lit< tt, refl))
 
-ids_spelled : Spells 5 ids_bytes
+ids_spelled : Spells 8 ids_bytes
 ids_spelled = inl (lit< tt, refl)
 
 message_spelled : Spells 65535 message_bytes
@@ -180,7 +180,7 @@ stand InitialMaxStreamsBidi = inr (count_bytes, refl, (100, count_spelled, refl)
 stand InitialMaxStreamsUni = inr (count_bytes, refl, (100, count_spelled, refl))
 stand AckDelayExponent = inl (refl, refl)
 stand MaxAckDelay = inl (refl, refl)
-stand ActiveConnectionIdLimit = inr (ids_bytes, refl, (5, ids_spelled, refl))
+stand ActiveConnectionIdLimit = inr (ids_bytes, refl, (8, ids_spelled, refl))
 stand MaxDatagramFrameSize = inr (message_bytes, refl, (65535, message_spelled, refl))
 stand MinAckDelay = inr (delay_bytes, refl, (1000, delay_spelled, refl))
 

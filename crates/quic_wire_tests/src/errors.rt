@@ -39,7 +39,7 @@ fn errors_of_headers_are_printed(rt: HostRuntime) -> Result<(), Fail> {
         (HeaderError::UnknownId, "unknown connection id"),
     ];
     for (error, text) in cases {
-        assert!(rt; prints(&rt, &error, text)?, "{text}");
+        assert!(rt; prints(&rt, &error, text)?);
     }
     Ok(())
 }
@@ -61,8 +61,8 @@ fn refused_frames_say_why(rt: HostRuntime) -> Result<(), Fail> {
     ];
     for (reason, text, told) in cases {
         let error = TransportError::from(InvalidFrame { ty: None, reason });
-        assert!(rt; prints(&rt, &reason, text)?, "{text}");
-        assert!(rt; error.reason() == told, "{text}");
+        assert!(rt; prints(&rt, &reason, text)?);
+        assert!(rt; error.reason() == told);
     }
     let invalid = InvalidFrame {
         ty: None,
@@ -87,8 +87,8 @@ fn refused_parameters_say_why(rt: HostRuntime) -> Result<(), Fail> {
         ),
     ];
     for (error, text, told) in cases {
-        assert!(rt; prints(&rt, &error, text)?, "{text}");
-        assert!(rt; TransportError::from(error).reason() == told, "{text}");
+        assert!(rt; prints(&rt, &error, text)?);
+        assert!(rt; TransportError::from(error).reason() == told);
     }
     Ok(())
 }

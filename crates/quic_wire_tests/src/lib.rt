@@ -1,5 +1,6 @@
 //! Tests of the wire layer, by the names of `quic_wire` alone: values from outside, texts that no
-//! clause says, and each call that takes memory where memory lacks (`lacking`).
+//! clause says, sets of numbers, and each call that takes memory where memory lacks (`lacking`).
+//! What its definitions give of worked values is computed in `quic_wire_rows`.
 #![tactic(auto)]
 
 #[cfg(test)]
@@ -8,11 +9,3 @@ mod errors;
 mod frame;
 #[cfg(test)]
 mod lacking;
-#[cfg(test)]
-mod range_set;
-#[cfg(test)]
-mod shared;
-#[cfg(test)]
-mod stream_id;
-#[cfg(test)]
-mod transport_parameters;

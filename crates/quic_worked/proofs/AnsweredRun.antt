@@ -166,7 +166,7 @@ ignored_is_none = behind refl opens (behind refl writes (behind refl gives (behi
 
 -- the packet that came
 abbrev written_packet : Packet
-written_packet = record { number = 0; frames = behind_ids (stream (record { id = 0; offset = 0; fin = false; bytes = replicate 1060 0x61 }) ∷ []) }
+written_packet = record { number = 0; frames = behind_ids (stream (record { id = 0; offset = 0; fin = false; bytes = replicate 976 0x61 }) ∷ []) }
 
 data_came : news (watch unanswered_run Server 3).intake (watch unanswered_run Server 4).intake ≡ written_packet ∷ []
 unfolding client_acked
@@ -178,7 +178,10 @@ no_answer token (inr (inl e)) = cc
 no_answer token (inr (inr (inl e))) = cc
 no_answer token (inr (inr (inr (inl e)))) = cc
 no_answer token (inr (inr (inr (inr (inl e))))) = cc
-no_answer token (inr (inr (inr (inr (inr none))))) = none
+no_answer token (inr (inr (inr (inr (inr (inl e)))))) = cc
+no_answer token (inr (inr (inr (inr (inr (inr (inl e))))))) = cc
+no_answer token (inr (inr (inr (inr (inr (inr (inr (inl e)))))))) = cc
+no_answer token (inr (inr (inr (inr (inr (inr (inr (inr none)))))))) = none
 
 pub unanswered_wrong : ValidatedByAnswer unanswered_run → ⊥
 unanswered_wrong h = go (h Server 3 refl refl refl refl)

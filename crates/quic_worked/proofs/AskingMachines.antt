@@ -41,12 +41,12 @@ use Rattle.quic_worked.proofs.WrongRuns.{ends_here, step_on, NeverEnds}
 
 -- ---- a request with number 1, though it is the first
 
-one_went : sents_until counts_from_one Client 1 ≡ sents_until counts_from_one Client 0 ++ first_sent (request 1 10000) 145 ∷ []
+one_went : sents_until counts_from_one Client 1 ≡ sents_until counts_from_one Client 0 ++ first_sent (request 1 10000) 229 ∷ []
 unfolding client_acked ack_frequency_at
 one_went = refl
 
 gave_from_one : GaveOne counts_from_one Client 0 0
-gave_from_one = record { transmit = record { size = 145; ecn = Some Ect0 }; poll = record { event = refl; answer = refl }; served = refl; sent = first_sent (request 1 10000) 145; went = one_went }
+gave_from_one = record { transmit = record { size = 229; ecn = Some Ect0 }; poll = record { event = refl; answer = refl }; served = refl; sent = first_sent (request 1 10000) 229; went = one_went }
 
 pub one_not : RequestsSay counts_from_one → ⊥
 unfolding gave_from_one
@@ -82,12 +82,12 @@ one_is_none views end is = not_from_one.never views end is.follows is.from_clien
 
 -- ---- a request for another delay than the one that is configured
 
-twenty_went : sents_until asks_for_twenty Client 1 ≡ sents_until asks_for_twenty Client 0 ++ first_sent (request 0 20000) 147 ∷ []
+twenty_went : sents_until asks_for_twenty Client 1 ≡ sents_until asks_for_twenty Client 0 ++ first_sent (request 0 20000) 231 ∷ []
 unfolding client_acked ack_frequency_at
 twenty_went = refl
 
 gave_twenty : GaveOne asks_for_twenty Client 0 0
-gave_twenty = record { transmit = record { size = 147; ecn = Some Ect0 }; poll = record { event = refl; answer = refl }; served = refl; sent = first_sent (request 0 20000) 147; went = twenty_went }
+gave_twenty = record { transmit = record { size = 231; ecn = Some Ect0 }; poll = record { event = refl; answer = refl }; served = refl; sent = first_sent (request 0 20000) 231; went = twenty_went }
 
 -- it is to say what is configured, for what the peer told
 twenty_said : (settings : FrequencySettings) → (asking_at asks_for_twenty Client).settings ≡ Some settings → (least : ℕ) → (asking_at asks_for_twenty Client).least ≡ Some least
@@ -114,9 +114,9 @@ twenty_own Server = (tt, tt)
 pub twenty_is_honest : IsHonest asks_for_twenty
 twenty_is_honest = record { start = asking_started 10000000; keys = are_keys; ids = own_ids asks_for_twenty twenty_own }
 
-twenty_no : IsRefused (asking_start 10000000) (asks_at Client 0) (gives_bytes 147)
+twenty_no : IsRefused (asking_start 10000000) (asks_at Client 0) (gives_bytes 231)
 unfolding once_asked
-twenty_no (inl e) = let clash : ◌≡◌ {A = ℕ} 147 145 = ap given_bytes e in omega (arith, clash)
+twenty_no (inl e) = let clash : ◌≡◌ {A = ℕ} 231 229 = ap given_bytes e in omega (arith, clash)
 twenty_no (inr e) = cc
 
 pub twenty_is_none : IsNoRun asks_for_twenty
@@ -124,12 +124,12 @@ twenty_is_none = stops _ _ _ _ _ twenty_no
 
 -- ---- a request of a client that isn't configured to ask
 
-unasked_went : sents_until asks_unasked Client 1 ≡ sents_until asks_unasked Client 0 ++ first_sent (request 0 10000) 145 ∷ []
+unasked_went : sents_until asks_unasked Client 1 ≡ sents_until asks_unasked Client 0 ++ first_sent (request 0 10000) 229 ∷ []
 unfolding client_acked ack_frequency_at
 unasked_went = refl
 
 gave_unasked : GaveOne asks_unasked Client 0 0
-gave_unasked = record { transmit = record { size = 145; ecn = Some Ect0 }; poll = record { event = refl; answer = refl }; served = refl; sent = first_sent (request 0 10000) 145; went = unasked_went }
+gave_unasked = record { transmit = record { size = 229; ecn = Some Ect0 }; poll = record { event = refl; answer = refl }; served = refl; sent = first_sent (request 0 10000) 229; went = unasked_went }
 
 pub unasked_not : RequestsSay asks_unasked → ⊥
 unfolding gave_unasked
@@ -146,9 +146,9 @@ pub unasked_is_honest : IsHonest asks_unasked
 unasked_is_honest = record { start = unasking_started; keys = are_keys; ids = own_ids asks_unasked unasked_own }
 
 -- the machine gives its ids alone
-unasked_no : IsRefused (asking_start_with plain_settings) (asks_at Client 0) (gives_bytes 145)
+unasked_no : IsRefused (asking_start_with plain_settings) (asks_at Client 0) (gives_bytes 229)
 unfolding once_asked
-unasked_no (inl e) = let clash : ◌≡◌ {A = ℕ} 145 138 = ap given_bytes e in omega (arith, clash)
+unasked_no (inl e) = let clash : ◌≡◌ {A = ℕ} 229 222 = ap given_bytes e in omega (arith, clash)
 unasked_no (inr e) = cc
 
 pub unasked_is_none : IsNoRun asks_unasked
@@ -212,7 +212,7 @@ unfolding client_acked ack_frequency_at
 left_went = refl
 
 gave_left : GaveAsking leaves_request Client 0 0
-gave_left = record { one = record { transmit = record { size = 138; ecn = Some Ect0 }; poll = record { event = refl; answer = refl }; served = refl; sent = ids_sent; went = left_went }; asks = refl }
+gave_left = record { one = record { transmit = record { size = 222; ecn = Some Ect0 }; poll = record { event = refl; answer = refl }; served = refl; sent = ids_sent; went = left_went }; asks = refl }
 
 pub left_not : RequestsGo leaves_request → ⊥
 unfolding gave_left
@@ -225,9 +225,9 @@ left_own Server = (tt, tt)
 pub left_is_honest : IsHonest leaves_request
 left_is_honest = record { start = asking_started 10000000; keys = are_keys; ids = own_ids leaves_request left_own }
 
-left_no : IsRefused (asking_start 10000000) (asks_at Client 0) (gives_bytes 138)
+left_no : IsRefused (asking_start 10000000) (asks_at Client 0) (gives_bytes 222)
 unfolding once_asked
-left_no (inl e) = let clash : ◌≡◌ {A = ℕ} 138 145 = ap given_bytes e in omega (arith, clash)
+left_no (inl e) = let clash : ◌≡◌ {A = ℕ} 222 229 = ap given_bytes e in omega (arith, clash)
 left_no (inr e) = cc
 
 pub left_is_none : IsNoRun leaves_request
@@ -295,9 +295,9 @@ never_before end f =
 
 -- ---- a client that asks for 100 ms
 
-asks_patiently : IsStep worked_policies (asking_start 100000000) (asks_at Client 0) (gives_bytes 147) once_patient
+asks_patiently : IsStep worked_policies (asking_start 100000000) (asks_at Client 0) (gives_bytes 231) once_patient
 unfolding once_patient
-asks_patiently = record { answer = inl refl; end = refl; control = still_steady; heard = counts_so worked_policies (asking_start 100000000) (asks_at Client 0) (gives_bytes 147); openings = tt; others = refl; lacking = tt }
+asks_patiently = record { answer = inl refl; end = refl; control = still_steady; heard = counts_so worked_policies (asking_start 100000000) (asks_at Client 0) (gives_bytes 231); openings = tt; others = refl; lacking = tt }
 
 patient_seen : seen_with (Some 1099000000) None ≡ view_of once_patient
 unfolding once_patient

@@ -88,9 +88,9 @@ asked_is_honest = record { start = asking_started 10000000; keys = are_keys; ids
 
 -- ---- the machine's run
 
-pub asks_it : IsStep worked_policies (asking_start 10000000) (asks_at Client 0) (gives_bytes 145) (once_asked 1)
+pub asks_it : IsStep worked_policies (asking_start 10000000) (asks_at Client 0) (gives_bytes 229) (once_asked 1)
 unfolding once_asked
-asks_it = record { answer = inl refl; end = refl; control = still_steady; heard = counts_so worked_policies (asking_start 10000000) (asks_at Client 0) (gives_bytes 145); openings = tt; others = refl; lacking = tt }
+asks_it = record { answer = inl refl; end = refl; control = still_steady; heard = counts_so worked_policies (asking_start 10000000) (asks_at Client 0) (gives_bytes 229); openings = tt; others = refl; lacking = tt }
 
 pub takes_it : IsStep worked_policies (once_asked 1) (comes_at Server 5000000) (answers.Deliver receives.Taken) (once_asked 2)
 unfolding once_asked
@@ -175,7 +175,7 @@ one_same s t is = cc
 second_same : (first s t : Sent) → first ∷ s ∷ [] ≡ first ∷ t ∷ [] → t ≡ s
 second_same first s t is = cc
 
-first_went : sents_until asked_run Client 1 ≡ first_sent (request 0 10000) 145 ∷ []
+first_went : sents_until asked_run Client 1 ≡ first_sent (request 0 10000) 229 ∷ []
 unfolding client_acked ack_frequency_at
 first_went = refl
 
@@ -184,24 +184,24 @@ unfolding client_acked ack_frequency_at
 ack_went = refl
 
 -- what went before the second
-one_before : sents_until asked_run Client 6 ≡ first_sent (request 0 10000) 145 ∷ []
+one_before : sents_until asked_run Client 6 ≡ first_sent (request 0 10000) 229 ∷ []
 unfolding client_acked ack_frequency_at
 one_before = refl
 
-second_went : sents_until asked_run Client 7 ≡ first_sent (request 0 10000) 145 ∷ ping_sent ∷ []
+second_went : sents_until asked_run Client 7 ≡ first_sent (request 0 10000) 229 ∷ ping_sent ∷ []
 unfolding client_acked ack_frequency_at
 second_went = refl
 
 -- so these are what polls gave
-is_first : (now : ℕ) (gave : GaveOne asked_run Client 0 now) → gave.sent ≡ first_sent (request 0 10000) 145
-is_first now gave = one_same (first_sent (request 0 10000) 145) gave.sent (sym first_went ∙ gave.went)
+is_first : (now : ℕ) (gave : GaveOne asked_run Client 0 now) → gave.sent ≡ first_sent (request 0 10000) 229
+is_first now gave = one_same (first_sent (request 0 10000) 229) gave.sent (sym first_went ∙ gave.went)
 
 is_ack : (now : ℕ) (gave : GaveOne asked_run Server 3 now) → gave.sent ≡ ack_sent
 unfolding client_acked
 is_ack now gave = one_same ack_sent gave.sent (sym ack_went ∙ gave.went)
 
 is_second : (now : ℕ) (gave : GaveOne asked_run Client 6 now) → gave.sent ≡ ping_sent
-is_second now gave = second_same (first_sent (request 0 10000) 145) ping_sent gave.sent (sym second_went ∙ gave.went ∙ ap (λ (ss : List Sent). ss ++ gave.sent ∷ []) one_before)
+is_second now gave = second_same (first_sent (request 0 10000) 229) ping_sent gave.sent (sym second_went ∙ gave.went ∙ ap (λ (ss : List Sent). ss ++ gave.sent ∷ []) one_before)
 
 -- no ACK_FREQUENCY is among these
 abbrev AsksNothing : List FrameValue → Type 0
@@ -212,7 +212,10 @@ ids_ask_nothing f (inl is) = cc
 ids_ask_nothing f (inr (inl is)) = cc
 ids_ask_nothing f (inr (inr (inl is))) = cc
 ids_ask_nothing f (inr (inr (inr (inl is)))) = cc
-ids_ask_nothing f (inr (inr (inr (inr none)))) = none
+ids_ask_nothing f (inr (inr (inr (inr (inl is))))) = cc
+ids_ask_nothing f (inr (inr (inr (inr (inr (inl is)))))) = cc
+ids_ask_nothing f (inr (inr (inr (inr (inr (inr (inl is))))))) = cc
+ids_ask_nothing f (inr (inr (inr (inr (inr (inr (inr none))))))) = none
 
 ping_asks_nothing : AsksNothing ping_sent.frames
 ping_asks_nothing f (inl is) = cc
@@ -235,7 +238,7 @@ said_first = refl
 says_first : (now : ℕ) (gave : GaveOne asked_run Client 0 now) (f : AckFrequencyValue) → In (ack_frequency f) gave.sent.frames → IsRequest asked_run Client 0 gave.sent f
 says_first now gave f there =
     let sent = is_first now gave in
-    let asked : f ≡ request 0 10000 = the_request (request 0 10000) f 145 (subst (λ (s : Sent). In (ack_frequency f) s.frames) sent there) in
+    let asked : f ≡ request 0 10000 = the_request (request 0 10000) f 229 (subst (λ (s : Sent). In (ack_frequency f) s.frames) sent there) in
     record { settings = asks_within 10000000; configured = refl; least = 1000; told = refl; says = asked ∙ sym said_first; alone = ap (λ (s : Sent). count_requests s.frames) sent }
 
 says_nothing : (now : ℕ) (gave : GaveOne asked_run Client 6 now) (f : AckFrequencyValue) → In (ack_frequency f) gave.sent.frames → ⊥
@@ -308,13 +311,16 @@ none_asked : stands is_ack_frequency (wants asked_run Client 0).since ≡ false
 none_asked = refl
 
 -- the request waited, and the ids are told
-first_waited : (f : FrameValue) → In f (first_sent (request 0 10000) 145).frames → FrameWaited (asking_at asked_run Client) (wants asked_run Client 0) f
+first_waited : (f : FrameValue) → In f (first_sent (request 0 10000) 229).frames → FrameWaited (asking_at asked_run Client) (wants asked_run Client 0) f
 first_waited f (inl is) = subst (λ (g : FrameValue). FrameWaited (asking_at asked_run Client) (wants asked_run Client 0) g) (sym is) (inl none_asked)
 first_waited f (inr (inl is)) = subst (λ (g : FrameValue). FrameWaited (asking_at asked_run Client) (wants asked_run Client 0) g) (sym is) tt
 first_waited f (inr (inr (inl is))) = subst (λ (g : FrameValue). FrameWaited (asking_at asked_run Client) (wants asked_run Client 0) g) (sym is) tt
 first_waited f (inr (inr (inr (inl is)))) = subst (λ (g : FrameValue). FrameWaited (asking_at asked_run Client) (wants asked_run Client 0) g) (sym is) tt
 first_waited f (inr (inr (inr (inr (inl is))))) = subst (λ (g : FrameValue). FrameWaited (asking_at asked_run Client) (wants asked_run Client 0) g) (sym is) tt
-first_waited f (inr (inr (inr (inr (inr none))))) = absurd none
+first_waited f (inr (inr (inr (inr (inr (inl is)))))) = subst (λ (g : FrameValue). FrameWaited (asking_at asked_run Client) (wants asked_run Client 0) g) (sym is) tt
+first_waited f (inr (inr (inr (inr (inr (inr (inl is))))))) = subst (λ (g : FrameValue). FrameWaited (asking_at asked_run Client) (wants asked_run Client 0) g) (sym is) tt
+first_waited f (inr (inr (inr (inr (inr (inr (inr (inl is)))))))) = subst (λ (g : FrameValue). FrameWaited (asking_at asked_run Client) (wants asked_run Client 0) g) (sym is) tt
+first_waited f (inr (inr (inr (inr (inr (inr (inr (inr none)))))))) = absurd none
 
 -- PING was asked for
 second_waited : (f : FrameValue) → In f ping_sent.frames → FrameWaited (asking_at asked_run Client) (wants asked_run Client 6) f

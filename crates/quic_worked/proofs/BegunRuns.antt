@@ -279,11 +279,11 @@ pub retirement_waits : IsPending (once_renamed 4).client (Frame (Retirement 0))
 unfolding once_renamed
 retirement_waits = refl
 
-pub was_retired : HasCause retired_seen (Frame (NewId 5))
+pub was_retired : HasCause retired_seen (Frame (NewId 8))
 unfolding client_acked
 was_retired = inl refl
 
-pub new_id_waits : IsPending (once_renamed 6).server (Frame (NewId 5))
+pub new_id_waits : IsPending (once_renamed 6).server (Frame (NewId 8))
 unfolding once_renamed
 new_id_waits = refl
 

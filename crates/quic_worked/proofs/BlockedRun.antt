@@ -59,7 +59,7 @@ packet_with f = record { number = 0; frames = behind_ids (stream f ∷ []) }
 -- each offset of the only frame that came is left, where its stream was neither read nor stopped
 left_in : (f : StreamValue) (told : List Told) (offset : ℕ) → reads f.id told ≡ [] → stopped f.id told ≡ false → f.offset ≤ offset → offset < f.offset + length f.bytes → IsLeft (acks_ids ∷ packet_with f ∷ []) told f.id offset
 left_in f told offset unread unstopped from below = record {
-  unread = (record { frame = f; taken = record { packet = packet_with f; was_taken = inr (inl refl); carried = inr (inr (inr (inr (inl refl)))) }; of_stream = refl; from = from; below = below }, λ i. subst (λ (cs : List Chunk). In offset (offsets_of cs)) unread i);
+  unread = (record { frame = f; taken = record { packet = packet_with f; was_taken = inr (inl refl); carried = inr (inr (inr (inr (inr (inr (inr (inl refl))))))) }; of_stream = refl; from = from; below = below }, λ i. subst (λ (cs : List Chunk). In offset (offsets_of cs)) unread i);
   unstopped = unstopped;
   kept = λ came. no_reset came.packet came.was_taken (reset_stream came.frame) came.carried (λ g is. cc) (λ n is. cc) (λ a is. cc);
 }
@@ -78,8 +78,11 @@ left_in f told offset unread unstopped from below = record {
         go (inr (inl same)) = no_id 2 same
         go (inr (inr (inl same))) = no_id 3 same
         go (inr (inr (inr (inl same)))) = no_id 4 same
-        go (inr (inr (inr (inr (inl same))))) = other f same
-        go (inr (inr (inr (inr (inr none))))) = none
+        go (inr (inr (inr (inr (inl same))))) = no_id 5 same
+        go (inr (inr (inr (inr (inr (inl same)))))) = no_id 6 same
+        go (inr (inr (inr (inr (inr (inr (inl same))))))) = no_id 7 same
+        go (inr (inr (inr (inr (inr (inr (inr (inl same)))))))) = other f same
+        go (inr (inr (inr (inr (inr (inr (inr (inr none)))))))) = none
 
 took_hello : took rested_run Server 13 ≡ both_packets
 unfolding client_acked
@@ -227,9 +230,9 @@ left_writes : IsStep worked_policies (once_left 1) (writes_on 0 (eight ++ eight)
 unfolding once_left
 left_writes = record { answer = inl refl; end = refl; control = refl; heard = counts_so worked_policies (once_left 1) (writes_on 0 (eight ++ eight)) (answers.Write (Ok 8)); openings = tt; others = refl; lacking = λ lacks. cc }
 
-left_gives : IsStep worked_policies (once_left 2) asks_datagram (gives_bytes 149) (once_left 3)
+left_gives : IsStep worked_policies (once_left 2) asks_datagram (gives_bytes 233) (once_left 3)
 unfolding once_left
-left_gives = record { answer = inl refl; end = refl; control = still_roomy; heard = counts_so worked_policies (once_left 2) asks_datagram (gives_bytes 149); openings = tt; others = refl; lacking = tt }
+left_gives = record { answer = inl refl; end = refl; control = still_roomy; heard = counts_so worked_policies (once_left 2) asks_datagram (gives_bytes 233); openings = tt; others = refl; lacking = tt }
 
 left_takes : IsStep worked_policies (once_left 3) (comes_at Server 10000000) (answers.Deliver receives.Taken) (once_left 4)
 unfolding once_left
@@ -239,9 +242,9 @@ left_due : IsStep worked_policies (once_left 4) (serves Server 35000000) (answer
 unfolding once_left
 left_due = record { answer = inl refl; end = refl; control = still_roomy; heard = counts_so worked_policies (once_left 4) (serves Server 35000000) (answers.Timeout (Ok tt)); openings = tt; others = refl; lacking = tt }
 
-left_answers_it : IsStep worked_policies (once_left 5) (asks_at Server 35000000) (gives_bytes 144) (once_left 6)
+left_answers_it : IsStep worked_policies (once_left 5) (asks_at Server 35000000) (gives_bytes 228) (once_left 6)
 unfolding once_left
-left_answers_it = record { answer = inl refl; end = refl; control = still_roomy; heard = counts_so worked_policies (once_left 5) (asks_at Server 35000000) (gives_bytes 144); openings = tt; others = refl; lacking = tt }
+left_answers_it = record { answer = inl refl; end = refl; control = still_roomy; heard = counts_so worked_policies (once_left 5) (asks_at Server 35000000) (gives_bytes 228); openings = tt; others = refl; lacking = tt }
 
 left_answered : IsStep worked_policies (once_left 6) (comes_at Client 40000000) (answers.Deliver receives.Taken) (once_left 7)
 unfolding once_left
@@ -268,11 +271,11 @@ unfolding once_left
 left_server_rests = record { answer = inl refl; end = refl; control = still_roomy; heard = counts_so worked_policies (once_left 11) (asks_at Server 70000000) gives_nothing; openings = tt; others = refl; lacking = tt }
 
 -- what the client has counted before and behind it: its datagrams, and the acknowledgement
-left_counted : (once_left 12).client_heard ≡ record { received = 144; sent = 181; failures = 0 }
+left_counted : (once_left 12).client_heard ≡ record { received = 228; sent = 265; failures = 0 }
 unfolding once_left
 left_counted = refl
 
-left_counts : (once_left 13).client_heard ≡ record { received = 144; sent = 181; failures = 0 }
+left_counts : (once_left 13).client_heard ≡ record { received = 228; sent = 265; failures = 0 }
 unfolding once_left
 left_counts = refl
 

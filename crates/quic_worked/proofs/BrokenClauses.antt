@@ -117,7 +117,7 @@ took_unaccepted read = refl
 
 -- its frame opens stream 0
 pub hello_named : WasNamed (hello_packet ∷ []) 0
-hello_named = record { packet = hello_packet; was_taken = inl refl; frame = stream hello_frame; carried = inr (inr (inr (inr (inl refl)))); opens = refl }
+hello_named = record { packet = hello_packet; was_taken = inl refl; frame = stream hello_frame; carried = inr (inr (inr (inr (inr (inr (inr (inl refl))))))); opens = refl }
 
 pub never_accepts : (read : ReadCall) → AcceptsAll (run_with read never_accepted) → ⊥
 never_accepts read h =
@@ -134,7 +134,7 @@ tells_twice h = let most : 2 ≤ 1 = (h Client 0 2 refl).0 in omega (arith, most
 
 -- the client's datagram, as it was sent
 abbrev hello_sent : Sent
-hello_sent = record { id = server_id; number = 0; reference = 0; frames = behind_ids (stream hello_frame ∷ []); moment = 0; size = 146 }
+hello_sent = record { id = server_id; number = 0; reference = 0; frames = behind_ids (stream hello_frame ∷ []); moment = 0; size = 230 }
 
 -- it is acknowledged once the server's datagram came, and not before
 pub acknowledged_last : (read : ReadCall) → acked_until (answered_run read) Client 8 ≡ hello_sent ∷ []
@@ -151,8 +151,8 @@ all_held told ends wrote = record {
   ended = ends;
   bytes = λ o below.
       let five : o < 5 = subst (λ (bs : List ℕ). o < length bs) wrote below in
-      record { sent = hello_sent; among = inl refl; frame = hello_frame; carried = inr (inr (inr (inr (inl refl)))); of_stream = refl; from = omega arith; below = five };
-  end = record { sent = hello_sent; among = inl refl; frame = hello_frame; carried = inr (inr (inr (inr (inl refl)))); of_stream = refl; fin = refl };
+      record { sent = hello_sent; among = inl refl; frame = hello_frame; carried = inr (inr (inr (inr (inr (inr (inr (inl refl))))))); of_stream = refl; from = omega arith; below = five };
+  end = record { sent = hello_sent; among = inl refl; frame = hello_frame; carried = inr (inr (inr (inr (inr (inr (inr (inl refl))))))); of_stream = refl; fin = refl };
 }
 
 -- so it is where the client is asked then

@@ -38,9 +38,9 @@ writes buffers are = record {
 finishes : IsStep worked_policies chunks_written finishes_stream (answers.Finish (Ok tt)) chunks_ended
 finishes = record { answer = inl refl; end = refl; control = refl; heard = counts_so worked_policies chunks_written finishes_stream (answers.Finish (Ok tt)); openings = tt; others = refl; lacking = λ lacks. cc }
 
-gives : IsStep worked_policies chunks_ended asks_datagram (gives_bytes 146) chunks_sent
+gives : IsStep worked_policies chunks_ended asks_datagram (gives_bytes 230) chunks_sent
 unfolding chunks_sent
-gives = record { answer = inl refl; end = refl; control = refl; heard = counts_so worked_policies chunks_ended asks_datagram (gives_bytes 146); openings = tt; others = refl; lacking = tt }
+gives = record { answer = inl refl; end = refl; control = refl; heard = counts_so worked_policies chunks_ended asks_datagram (gives_bytes 230); openings = tt; others = refl; lacking = tt }
 
 sent_seen : record { client = sent_view; server = server_open } ≡ view_of chunks_sent
 unfolding chunks_sent

@@ -113,7 +113,7 @@ early_numbers h = go (subst (λ (n : ℕ). AreUsedUp n 0) early_next (h Client 3
 -- the machine gives a datagram of another size
 early_no : IsRefused once_ended asks_datagram (gives_bytes 30)
 unfolding once_sent
-early_no (inl e) = let clash : ◌≡◌ {A = ℕ} 30 146 = ap given_bytes e in omega (arith, clash)
+early_no (inl e) = let clash : ◌≡◌ {A = ℕ} 30 230 = ap given_bytes e in omega (arith, clash)
 early_no (inr e) = cc
 
 pub no_early : IsNoRun early_limit
@@ -143,7 +143,10 @@ first_run packet frames (suc o) b = absurd (b.alone o (omega arith) (earlier b.h
         is_hello (inr (inr (inl is))) = cc
         is_hello (inr (inr (inr (inl is)))) = cc
         is_hello (inr (inr (inr (inr (inl is))))) = cc
-        is_hello (inr (inr (inr (inr (inr i))))) = absurd i
+        is_hello (inr (inr (inr (inr (inr (inl is)))))) = cc
+        is_hello (inr (inr (inr (inr (inr (inr (inl is))))))) = cc
+        is_hello (inr (inr (inr (inr (inr (inr (inr (inl is)))))))) = cc
+        is_hello (inr (inr (inr (inr (inr (inr (inr (inr i)))))))) = absurd i
 
         same : a.frame ≡ hello_frame
         same = is_hello (among a.taken.was_taken)
@@ -188,8 +191,11 @@ one_frame [] rest f is = cc
 one_frame (a ∷ []) rest f is = cc
 one_frame (a ∷ b ∷ []) rest f is = cc
 one_frame (a ∷ b ∷ c ∷ []) rest f is = cc
-one_frame (a ∷ b ∷ c ∷ d ∷ []) rest f is = let front : a ∷ b ∷ c ∷ d ∷ [] ≡ id_frames = cc in let same : f ≡ hello_frame = cc in (front, same)
-one_frame (a ∷ b ∷ c ∷ d ∷ e ∷ front) rest f is = let tail : [] ≡ front ++ stream f ∷ rest = cc in absurd (no_frames_behind front rest (stream f) tail)
+one_frame (a ∷ b ∷ c ∷ d ∷ []) rest f is = cc
+one_frame (a ∷ b ∷ c ∷ d ∷ e ∷ []) rest f is = cc
+one_frame (a ∷ b ∷ c ∷ d ∷ e ∷ g ∷ []) rest f is = cc
+one_frame (a ∷ b ∷ c ∷ d ∷ e ∷ g ∷ h ∷ []) rest f is = let front : a ∷ b ∷ c ∷ d ∷ e ∷ g ∷ h ∷ [] ≡ id_frames = cc in let same : f ≡ hello_frame = cc in (front, same)
+one_frame (a ∷ b ∷ c ∷ d ∷ e ∷ g ∷ h ∷ j ∷ front) rest f is = let tail : [] ≡ front ++ stream f ∷ rest = cc in absurd (no_frames_behind front rest (stream f) tail)
 
 -- the call that closes the server
 abbrev closing_call : Told

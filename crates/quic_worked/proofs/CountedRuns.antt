@@ -1,5 +1,5 @@
 -- Marks that are counted, PING that goes, and the timer of acknowledgements, in the machine's runs;
--- and machines that count no mark, let PING wait, or set that timer anew.
+-- and machines that count no mark, let PING wait, set that timer anew, or never.
 use Rattle.std.proofs.Common.{◌≡◌, ℕ, zero, suc, ◌+◌, ◌≤◌, true, false, List, [], ◌∷◌, ◌++◌, Some, None, Ok, Option, refl, inl, inr, ap, ◌∙◌, sym, subst, arith}
 use Rattle.std.specs.Prelude.{slice_get}
 use Rattle.std.specs.List.{list_any}
@@ -16,20 +16,22 @@ use Rattle.quic_machine.specs.Machine.{IsStep, Follows, view_of}
 use Rattle.quic_machine.specs.RunLaws.{one_run}
 use Rattle.quic_headline.specs.Runs.{Run, In, until}
 use Rattle.quic_headline.specs.Observer.{Sent, asks_of, sents_until}
-use Rattle.quic_headline.specs.Headline.{IsHonest}
-use Rattle.quic_headline.specs.Moments.{debt, first_deadline, AckMoments}
+use Rattle.quic_headline.specs.Headline.{IsHonest, IsRun}
+use Rattle.quic_headline.specs.Moments.{ack_timer, debt, first_deadline, AckMoments}
 use Rattle.quic_headline.specs.Polls.{GaveOne, GaveAsking, GaveNothing, IsFull, IsPaced, IsHeldBack}
-use Rattle.quic_headline.specs.Waited.{is_ping, wants}
+use Rattle.quic_headline.specs.Waited.{is_ping, wants, wants_ack, AckTimersAreSet}
 use Rattle.quic_headline.specs.Pings.{PingsGo}
 use Rattle.quic_headline.specs.AckFrames.{counts_told, AcksCountMarks}
 use Rattle.quic_worked.specs.Worked.{worked_policies, asks_datagram, gives_bytes}
 use Rattle.quic_worked.specs.Acknowledged.{client_acked}
+use Rattle.quic_worked.specs.Reordered.{delivers_at}
 use Rattle.quic_worked.specs.Paired.{asks_server}
 use Rattle.quic_worked.specs.Timed.{seen_with, NeverShows}
 use Rattle.quic_worked.specs.Broken.{IsNoRun}
 use Rattle.quic_worked.specs.Held.{gives_nothing}
 use Rattle.quic_worked.specs.Hasty.{once_hasty, once_marked, marked_run}
-use Rattle.quic_worked.specs.Counted.{first_sent, marked_sent, mark_uncounted, uncounted_sent, ping_left, left_sent, ping_withheld, comes_second, once_second, twice_run, timer_moved}
+use Rattle.quic_worked.specs.Counted.{first_sent, marked_sent, mark_uncounted, uncounted_sent, ping_left, left_sent, ping_withheld, comes_second, once_second, twice_run, timer_moved, once_single, single_run, timer_set, timer_unset}
+use Rattle.quic_worked.proofs.Codes.{no_codes}
 use Rattle.quic_worked.proofs.OwnIds.{AreOwn, own_ids}
 use Rattle.quic_worked.proofs.BrokenRuns.{IsRefused, stops, behind}
 use Rattle.quic_worked.proofs.WorkedHonest.{are_started}
@@ -76,7 +78,10 @@ none_named a (inr (inl is)) = cc
 none_named a (inr (inr (inl is))) = cc
 none_named a (inr (inr (inr (inl is)))) = cc
 none_named a (inr (inr (inr (inr (inl is))))) = cc
-none_named a (inr (inr (inr (inr (inr none))))) = none
+none_named a (inr (inr (inr (inr (inr (inl is)))))) = cc
+none_named a (inr (inr (inr (inr (inr (inr (inl is))))))) = cc
+none_named a (inr (inr (inr (inr (inr (inr (inr (inl is)))))))) = cc
+none_named a (inr (inr (inr (inr (inr (inr (inr (inr none)))))))) = none
 
 -- the server's counts one
 counts_one : (a : AckValue) → In (ack a) marked_sent.frames → a.ecn ≡ Some (0, 0, 1)
@@ -186,7 +191,7 @@ unfolding client_acked
 left_went = refl
 
 gave_left : GaveAsking ping_left Client 1 0
-gave_left = record { one = record { transmit = record { size = 138; ecn = Some Ect0 }; poll = record { event = refl; answer = refl }; served = refl; sent = left_sent; went = left_went }; asks = refl }
+gave_left = record { one = record { transmit = record { size = 222; ecn = Some Ect0 }; poll = record { event = refl; answer = refl }; served = refl; sent = left_sent; went = left_went }; asks = refl }
 
 pub left_not : PingsGo ping_left → ⊥
 unfolding gave_left
@@ -199,9 +204,9 @@ left_own Server = (tt, (tt, tt))
 pub left_is_honest : IsHonest ping_left
 left_is_honest = record { start = are_started; keys = are_keys; ids = own_ids ping_left left_own }
 
-left_no : IsRefused (once_hasty 1) asks_datagram (gives_bytes 138)
+left_no : IsRefused (once_hasty 1) asks_datagram (gives_bytes 222)
 unfolding once_hasty
-left_no (inl e) = let sizes : ◌≡◌ {A = ℕ} 138 139 = ap size_in e in absurd (omega arith)
+left_no (inl e) = let sizes : ◌≡◌ {A = ℕ} 222 223 = ap size_in e in absurd (omega arith)
 left_no (inr e) = cc
 
 pub left_is_none : IsNoRun ping_left
@@ -275,4 +280,94 @@ pub never_moved : NeverShows timer_moved
 never_moved end f =
     let same = one_run timer_moved.keys timer_moved.answers timer_moved.start timer_moved.events timer_moved.views stays.views end once_second refl f follows in
     let moments : ◌≡◌ {A = ℕ} 26000000 25000000 = ap (λ (vs : List View). ack_moment_of (slice_get vs 5)) same.0 in
+    absurd (omega arith)
+
+-- ---- one packet that asks
+
+pub set_owes : (debt timer_set Server 3).deadlines ≡ 25000000 ∷ []
+unfolding client_acked
+set_owes = refl
+
+pub set_unwanted : wants_ack timer_set Server 3 ≡ false
+unfolding client_acked
+set_unwanted = refl
+
+server_given : (debt timer_set Server 2).deadlines ≡ []
+unfolding client_acked
+server_given = refl
+
+client_given : (debt timer_set Client 2).deadlines ≡ []
+unfolding client_acked
+client_given = refl
+
+client_left : (debt timer_set Client 3).deadlines ≡ []
+unfolding client_acked
+client_left = refl
+
+-- a view that is at a place shows the timer that is due there
+shown_so : (side : Side) (u v : View) (moment due : Option ℕ) → Some u ≡ Some v → ack_timer u side ≡ Some moment → due ≡ moment → ack_timer v side ≡ Some due
+shown_so side u v moment due is shown same = let alike : u ≡ v = cc in ap (λ (x : View). ack_timer x side) (sym alike) ∙ shown ∙ ap (λ (o : Option ℕ). Some o) (sym same)
+
+pub single_set : AckTimersAreSet timer_set
+single_set Client zero v served is opened idle = shown_so Client _ v _ _ is refl refl
+single_set Client (suc zero) v served is opened idle = shown_so Client _ v _ _ is refl (ap first_deadline client_given)
+single_set Client (suc (suc zero)) v served is opened idle = shown_so Client _ v _ _ is refl (ap first_deadline client_left)
+single_set Client (suc (suc (suc i))) v served is opened idle = cc
+single_set Server zero v served is opened idle = shown_so Server _ v _ _ is refl refl
+single_set Server (suc zero) v served is opened idle = shown_so Server _ v _ _ is refl (ap first_deadline server_given)
+single_set Server (suc (suc zero)) v served is opened idle = shown_so Server _ v _ _ is refl (ap first_deadline set_owes)
+single_set Server (suc (suc (suc i))) v served is opened idle = cc
+
+single_own : (moment : Option ℕ) (side : Side) → AreOwn side [] (single_run moment).events (single_run moment).answers (single_run moment).views
+single_own moment Client = (tt, (tt, (tt, tt)))
+single_own moment Server = (tt, (tt, (tt, tt)))
+
+pub set_is_honest : IsHonest timer_set
+set_is_honest = record { start = are_started; keys = are_keys; ids = own_ids timer_set (single_own (Some 25000000)) }
+
+single_taken : IsStep worked_policies (once_hasty 2) (delivers_at 0) (answers.Deliver receives.Taken) once_single
+unfolding once_single
+single_taken = record { answer = inl refl; end = refl; control = refl; heard = counts_so worked_policies (once_hasty 2) (delivers_at 0) (answers.Deliver receives.Taken); openings = tt; others = refl; lacking = tt }
+
+single_seen : seen_with (Some 1024000000) (Some 25000000) ≡ view_of once_single
+unfolding once_single
+single_seen = refl
+
+single_follows : Follows timer_set.keys timer_set.start timer_set.events timer_set.answers timer_set.views once_single
+single_follows = (once_hasty 1, step_0, seen_0, (once_hasty 2, step_1, seen_1, (once_single, single_taken, single_seen, refl)))
+
+gave_ping : timer_set.from_client ≡ once_single.from_client
+unfolding once_single
+gave_ping = refl
+
+gave_nothing : timer_set.from_server ≡ once_single.from_server
+unfolding once_single
+gave_nothing = refl
+
+pub set_is_run : IsRun timer_set once_single
+set_is_run = record { codes = no_codes timer_set.events refl; follows = single_follows; from_client = gave_ping; from_server = gave_nothing }
+
+-- ---- a server that sets no timer for it
+
+pub unset_owes : (debt timer_unset Server 3).deadlines ≡ 25000000 ∷ []
+unfolding client_acked
+unset_owes = refl
+
+pub unset_unwanted : wants_ack timer_unset Server 3 ≡ false
+unfolding client_acked
+unset_unwanted = refl
+
+owed_unset : (due : Option ℕ) → due ≡ Some 25000000 → ◌≡◌ {A = Option (Option ℕ)} (Some None) (Some due) → ⊥
+owed_unset due is shown = let clash : ◌≡◌ {A = Option (Option ℕ)} (Some None) (Some (Some 25000000)) = shown ∙ ap (λ (o : Option ℕ). Some o) is in cc
+
+pub unset_not : AckTimersAreSet timer_unset → ⊥
+unset_not h = owed_unset (first_deadline (debt timer_unset Server 3).deadlines) (ap first_deadline unset_owes) (h Server 2 (seen_with (Some 1024000000) None) refl refl refl unset_unwanted)
+
+pub unset_is_honest : IsHonest timer_unset
+unset_is_honest = record { start = are_started; keys = are_keys; ids = own_ids timer_unset (single_own None) }
+
+pub never_unset : NeverShows timer_unset
+never_unset end f =
+    let same = one_run timer_unset.keys timer_unset.answers timer_unset.start timer_unset.events timer_unset.views timer_set.views end once_single refl f single_follows in
+    let moments : ◌≡◌ {A = ℕ} 0 25000000 = ap (λ (vs : List View). ack_moment_of (slice_get vs 2)) same.0 in
     absurd (omega arith)

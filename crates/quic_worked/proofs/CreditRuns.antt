@@ -46,9 +46,9 @@ opens = record { answer = refl; end = refl; control = refl; heard = counts_so wo
 pub writes : IsStep worked_policies credit_opened (writes_on 0 (eight ++ eight)) (answers.Write (Ok 8)) credit_written
 writes = record { answer = inl refl; end = refl; control = refl; heard = counts_so worked_policies credit_opened (writes_on 0 (eight ++ eight)) (answers.Write (Ok 8)); openings = tt; others = refl; lacking = λ lacks. cc }
 
-pub gives : IsStep worked_policies credit_written asks_datagram (gives_bytes 149) credit_sent
+pub gives : IsStep worked_policies credit_written asks_datagram (gives_bytes 233) credit_sent
 unfolding credit_sent
-gives = record { answer = inl refl; end = refl; control = refl; heard = counts_so worked_policies credit_written asks_datagram (gives_bytes 149); openings = tt; others = refl; lacking = tt }
+gives = record { answer = inl refl; end = refl; control = refl; heard = counts_so worked_policies credit_written asks_datagram (gives_bytes 233); openings = tt; others = refl; lacking = tt }
 
 pub takes : IsStep worked_policies credit_sent delivers (answers.Deliver receives.Taken) credit_taken
 unfolding credit_taken
@@ -68,9 +68,9 @@ reads_only = refl
 pub reads : (read : ReadCall) → ReadsEight read → IsStep worked_policies credit_accepted (reads_stream read) (answers.Read (Ok eight_nexts)) credit_read
 reads = reads_at credit_accepted credit_read 0 true eight_bounds eight_nexts reads_so reads_only
 
-pub raises : IsStep worked_policies credit_read asks_server (gives_bytes 145) credit_given
+pub raises : IsStep worked_policies credit_read asks_server (gives_bytes 229) credit_given
 unfolding credit_given
-raises = record { answer = inl refl; end = refl; control = refl; heard = counts_so worked_policies credit_read asks_server (gives_bytes 145); openings = tt; others = refl; lacking = tt }
+raises = record { answer = inl refl; end = refl; control = refl; heard = counts_so worked_policies credit_read asks_server (gives_bytes 229); openings = tt; others = refl; lacking = tt }
 
 hears : IsStep worked_policies credit_given client_hears (answers.Deliver receives.Taken) credit_heard
 unfolding credit_heard
@@ -190,9 +190,9 @@ counts_write = record { answer = inl refl; end = refl; control = refl; heard = c
 pub counts_end : IsStep worked_policies count_written ends_one_way (answers.Finish (Ok tt)) count_ended
 counts_end = record { answer = inl refl; end = refl; control = refl; heard = counts_so worked_policies count_written ends_one_way (answers.Finish (Ok tt)); openings = tt; others = refl; lacking = λ lacks. cc }
 
-pub counts_give : IsStep worked_policies count_ended asks_datagram (gives_bytes 146) count_sent
+pub counts_give : IsStep worked_policies count_ended asks_datagram (gives_bytes 230) count_sent
 unfolding count_sent
-counts_give = record { answer = inl refl; end = refl; control = refl; heard = counts_so worked_policies count_ended asks_datagram (gives_bytes 146); openings = tt; others = refl; lacking = tt }
+counts_give = record { answer = inl refl; end = refl; control = refl; heard = counts_so worked_policies count_ended asks_datagram (gives_bytes 230); openings = tt; others = refl; lacking = tt }
 
 pub counts_take : IsStep worked_policies count_sent delivers (answers.Deliver receives.Taken) count_taken
 unfolding count_taken
@@ -212,9 +212,9 @@ counts_read_only = refl
 pub counts_read : (read : ReadCall) → ReadsOneWay read → IsStep worked_policies count_accepted (reads_stream read) (answers.Read (Ok all_nexts)) count_read
 counts_read = reads_at count_accepted count_read 2 true two_chunks all_nexts counts_read_so counts_read_only
 
-pub gives_back : IsStep worked_policies count_read asks_server (gives_bytes 145) count_given
+pub gives_back : IsStep worked_policies count_read asks_server (gives_bytes 229) count_given
 unfolding count_given
-gives_back = record { answer = inl refl; end = refl; control = refl; heard = counts_so worked_policies count_read asks_server (gives_bytes 145); openings = tt; others = refl; lacking = tt }
+gives_back = record { answer = inl refl; end = refl; control = refl; heard = counts_so worked_policies count_read asks_server (gives_bytes 229); openings = tt; others = refl; lacking = tt }
 
 counts_hear : IsStep worked_policies count_given client_hears (answers.Deliver receives.Taken) count_heard
 unfolding count_heard

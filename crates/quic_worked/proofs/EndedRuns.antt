@@ -142,9 +142,9 @@ idle_own Server = (tt, (tt, tt))
 pub idle_is_honest : IsHonest idle_run
 idle_is_honest = record { start = idle_started; keys = are_keys; ids = own_ids idle_run idle_own }
 
-pub tells_ids : IsStep worked_policies idle_start asks_datagram (gives_bytes 138) (once_idle 1)
+pub tells_ids : IsStep worked_policies idle_start asks_datagram (gives_bytes 222) (once_idle 1)
 unfolding once_idle
-tells_ids = record { answer = inl refl; end = refl; control = refl; heard = counts_so worked_policies idle_start asks_datagram (gives_bytes 138); openings = tt; others = refl; lacking = tt }
+tells_ids = record { answer = inl refl; end = refl; control = refl; heard = counts_so worked_policies idle_start asks_datagram (gives_bytes 222); openings = tt; others = refl; lacking = tt }
 
 is_drained : IsStep worked_policies (once_idle 1) (serves Client idle_moment) (answers.Timeout (Ok tt)) (once_idle 2)
 unfolding once_idle
@@ -252,8 +252,8 @@ pub past_is_honest : IsHonest sealed_past
 past_is_honest = record { start = are_started; keys = short_keys 8; ids = own_ids sealed_past past_own }
 
 -- the machine closes
-past_no : IsAnswer short_policies.client (end_met started asks_datagram) [] (calls.Poll 0) (gives_bytes 138) → ⊥
-past_no (inl e) = let clash : ◌≡◌ {A = ℕ} 138 30 = ap given_bytes e in omega (arith, clash)
+past_no : IsAnswer short_policies.client (end_met started asks_datagram) [] (calls.Poll 0) (gives_bytes 222) → ⊥
+past_no (inl e) = let clash : ◌≡◌ {A = ℕ} 222 30 = ap given_bytes e in omega (arith, clash)
 past_no (inr e) = cc
 
 -- a first poll that isn't answered so is none of a run
@@ -262,7 +262,7 @@ never_polls k a not_so [] end f = f
 never_polls k a not_so (v ∷ vs) end f = not_so f.1.answer
 
 pub past_is_none : NeverGives sealed_past
-past_is_none views end is = never_polls short_policies (gives_bytes 138) past_no views end is.follows
+past_is_none views end is = never_polls short_policies (gives_bytes 222) past_no views end is.follows
 
 pub closes_wrong : KeysLast closed_past → ⊥
 closes_wrong h = let most : 1 ≤ 0 = (h Client 1 refl).0 in omega (arith, most)
@@ -307,7 +307,7 @@ early_is_honest = record { start = are_started; keys = short_keys 9; ids = own_i
 
 -- the machine gives its ids
 early_no : IsAnswer (sealing 9).client (end_met started asks_datagram) [] (calls.Poll 0) (gives_bytes 30) → ⊥
-early_no (inl e) = let clash : ◌≡◌ {A = ℕ} 30 138 = ap given_bytes e in omega (arith, clash)
+early_no (inl e) = let clash : ◌≡◌ {A = ℕ} 30 222 = ap given_bytes e in omega (arith, clash)
 early_no (inr e) = cc
 
 pub early_is_none : NeverGives closed_early

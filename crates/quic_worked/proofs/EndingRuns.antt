@@ -28,6 +28,7 @@ use Rattle.quic_headline.specs.Headline.{IsHonest, IsRun}
 use Rattle.quic_headline.specs.Moments.{timers_in}
 use Rattle.quic_headline.specs.Polls.{GaveOne, seen_at}
 use Rattle.quic_headline.specs.Causes.{Shows}
+use Rattle.quic_headline.specs.Reasons.{NeverFails}
 use Rattle.quic_headline.specs.Expiring.{timer_in, moment_behind, three_waits, moment_told, greatest_told, IsCloseSet, HasOnlyClose, ClosedTimers, CloseMoments, CloseMomentsStay, DrainsInTime}
 use Rattle.quic_headline.specs.Closes.{SaysWhy, GaveClose, owed, ClosesAreOwed, MayClose, OwedClosesGo, DrainedAreSilent}
 use Rattle.quic_worked.specs.Worked.{worked_policies, both_steady, delivery, asks_datagram, gives_bytes, open_view, sent_view}
@@ -44,17 +45,17 @@ use Rattle.quic_worked.proofs.Steps.{counts_so, others_so}
 
 -- ---- the machine's run
 
-pub server_tells : IsStep worked_policies both_steady asks_server (gives_bytes 138) (once_ending 1)
+pub server_tells : IsStep worked_policies both_steady asks_server (gives_bytes 222) (once_ending 1)
 unfolding once_ending
-server_tells = record { answer = inl refl; end = refl; control = refl; heard = counts_so worked_policies both_steady asks_server (gives_bytes 138); openings = tt; others = refl; lacking = tt }
+server_tells = record { answer = inl refl; end = refl; control = refl; heard = counts_so worked_policies both_steady asks_server (gives_bytes 222); openings = tt; others = refl; lacking = tt }
 
 seen_0 : server_waits open_view ≡ view_of (once_ending 1)
 unfolding once_ending
 seen_0 = refl
 
-pub client_tells : IsStep worked_policies (once_ending 1) asks_datagram (gives_bytes 138) (once_ending 2)
+pub client_tells : IsStep worked_policies (once_ending 1) asks_datagram (gives_bytes 222) (once_ending 2)
 unfolding once_ending
-client_tells = record { answer = inl refl; end = refl; control = refl; heard = counts_so worked_policies (once_ending 1) asks_datagram (gives_bytes 138); openings = tt; others = refl; lacking = tt }
+client_tells = record { answer = inl refl; end = refl; control = refl; heard = counts_so worked_policies (once_ending 1) asks_datagram (gives_bytes 222); openings = tt; others = refl; lacking = tt }
 
 seen_1 : server_waits sent_view ≡ view_of (once_ending 2)
 unfolding once_ending
@@ -123,7 +124,7 @@ ahead_1 events told views end f = (once_ending 1, server_tells, seen_0, f)
 
 ahead_2 : (events : List RunEvent) (told : List Answer) (views : List View) (end : World) → Follows worked_policies (once_ending 2) events told views end
     → Follows worked_policies both_steady (take 2 ending_events ++ events) (take 2 ending_answers ++ told) (take 2 ending_views ++ views) end
-ahead_2 events told views end f = ahead_1 (asks_datagram ∷ events) (gives_bytes 138 ∷ told) (server_waits sent_view ∷ views) end (once_ending 2, client_tells, seen_1, f)
+ahead_2 events told views end f = ahead_1 (asks_datagram ∷ events) (gives_bytes 222 ∷ told) (server_waits sent_view ∷ views) end (once_ending 2, client_tells, seen_1, f)
 
 pub ahead_3 : (events : List RunEvent) (told : List Answer) (views : List View) (end : World) → Follows worked_policies (once_ending 3) events told views end
     → Follows worked_policies both_steady (take 3 ending_events ++ events) (take 3 ending_answers ++ told) (take 3 ending_views ++ views) end
@@ -186,14 +187,14 @@ shown_at P [] i v all is = cc
 shown_at P (u ∷ us) zero v all is = let same : u ≡ v = cc in subst P same all.0
 shown_at P (u ∷ us) (suc i) v all is = shown_at P us i v all.1 is
 
--- an end that no view shows closing is so at no place
-abbrev NeverCloses : Side → View → Type 0
-NeverCloses side v = state_in v side ≡ states.Closing → ⊥
+-- an end that no view shows in a state is so at no place
+abbrev IsNever : State → Side → View → Type 0
+IsNever other side v = state_in v side ≡ other → ⊥
 
-never_closing : (side : Side) (state : State) (i : ℕ) (vs : List View) → (state ≡ states.Closing → ⊥) → AllShow (NeverCloses side) vs → state_behind side state i vs ≡ states.Closing → ⊥
-never_closing side state zero vs first all closing = first closing
-never_closing side state (suc i) [] first all closing = first closing
-never_closing side state (suc i) (v ∷ vs) first all closing = never_closing side (state_in v side) i vs all.0 all.1 closing
+never_so : (other : State) (side : Side) (state : State) (i : ℕ) (vs : List View) → (state ≡ other → ⊥) → AllShow (IsNever other side) vs → state_behind side state i vs ≡ other → ⊥
+never_so other side state zero vs first all is = first is
+never_so other side state (suc i) [] first all is = first is
+never_so other side state (suc i) (v ∷ vs) first all is = never_so other side (state_in v side) i vs all.0 all.1 is
 
 is_open : states.Open ≡ states.Closing → ⊥
 is_open e = cc
@@ -202,11 +203,31 @@ pub is_drained_there : states.Drained ≡ states.Closing → ⊥
 is_drained_there e = cc
 
 -- so it is of the server
-server_never : AllShow (NeverCloses Server) ending_views
+server_never : AllShow (IsNever states.Closing Server) ending_views
 server_never = (is_open, (is_open, (is_open, (is_open, (is_open, (is_open, (is_drained_there, (is_drained_there, (is_drained_there, tt)))))))))
 
 server_not_closing : (i : ℕ) → state_behind Server states.Open i ending_views ≡ states.Closing → ⊥
-server_not_closing i closing = never_closing Server states.Open i ending_views is_open server_never closing
+server_not_closing i closing = never_so states.Closing Server states.Open i ending_views is_open server_never closing
+
+-- neither end has failed
+open_works : states.Open ≡ states.Failed → ⊥
+open_works e = cc
+
+closing_works : states.Closing ≡ states.Failed → ⊥
+closing_works e = cc
+
+drained_works : states.Drained ≡ states.Failed → ⊥
+drained_works e = cc
+
+client_works : AllShow (IsNever states.Failed Client) ending_views
+client_works = (open_works, (open_works, (closing_works, (closing_works, (closing_works, (closing_works, (closing_works, (drained_works, (drained_works, tt)))))))))
+
+server_works : AllShow (IsNever states.Failed Server) ending_views
+server_works = (open_works, (open_works, (open_works, (open_works, (open_works, (open_works, (drained_works, (drained_works, (drained_works, tt)))))))))
+
+pub unfailed_so : NeverFails ending_run
+unfailed_so Client i served = never_so states.Failed Client states.Open i ending_views open_works client_works
+unfailed_so Server i served = never_so states.Failed Server states.Open i ending_views open_works server_works
 
 alone_set : IsCloseSet (replicate 2 None ++ Some 4072000000 ∷ replicate 6 None)
 alone_set = record { moment = 4072000000; alone = refl }
@@ -246,7 +267,7 @@ closes_so : (call : Call) → Some closes_late ≡ Some (record { side = Client;
 closes_so call is = let event : closes_late ≡ record { side = Client; call = call } = cc in ap (λ (e : RunEvent). e.call) event
 
 pub moments_so : CloseMoments ending_run
-moments_so Server i call a v served at is opened closing itself = absurd (shown_at (NeverCloses Server) ending_views i v server_never is closing)
+moments_so Server i call a v served at is opened closing itself = absurd (shown_at (IsNever states.Closing Server) ending_views i v server_never is closing)
 moments_so Client zero call a v served at is opened closing itself = absurd (is_open (state_of_view Client _ v _ is closing))
 moments_so Client (suc zero) call a v served at is opened closing itself = absurd (is_open (state_of_view Client _ v _ is closing))
 moments_so Client (suc (suc zero)) call a v served at is opened closing itself =

@@ -159,9 +159,9 @@ alive_started = record {
   server_heard = refl;
 }
 
-tells_ids : IsStep worked_policies alive_start asks_datagram (gives_bytes 138) (once_alive 1)
+tells_ids : IsStep worked_policies alive_start asks_datagram (gives_bytes 222) (once_alive 1)
 unfolding once_alive
-tells_ids = record { answer = inl refl; end = refl; control = refl; heard = counts_so worked_policies alive_start asks_datagram (gives_bytes 138); openings = tt; others = refl; lacking = tt }
+tells_ids = record { answer = inl refl; end = refl; control = refl; heard = counts_so worked_policies alive_start asks_datagram (gives_bytes 222); openings = tt; others = refl; lacking = tt }
 
 is_over : IsStep worked_policies (once_alive 1) (serves Client 10000000000) (answers.Timeout (Ok tt)) (once_alive 2)
 unfolding once_alive

@@ -144,9 +144,9 @@ opens_way = record { answer = refl; end = refl; control = refl; heard = counts_s
 writes_way : IsStep worked_policies one_way_opened (writes_on 2 hello) (answers.Write (Ok 5)) one_way_written
 writes_way = record { answer = inl refl; end = refl; control = refl; heard = counts_so worked_policies one_way_opened (writes_on 2 hello) (answers.Write (Ok 5)); openings = tt; others = refl; lacking = λ lacks. cc }
 
-gives_way : IsStep worked_policies one_way_written asks_datagram (gives_bytes 146) one_way_sent
+gives_way : IsStep worked_policies one_way_written asks_datagram (gives_bytes 230) one_way_sent
 unfolding one_way_sent
-gives_way = record { answer = inl refl; end = refl; control = refl; heard = counts_so worked_policies one_way_written asks_datagram (gives_bytes 146); openings = tt; others = refl; lacking = tt }
+gives_way = record { answer = inl refl; end = refl; control = refl; heard = counts_so worked_policies one_way_written asks_datagram (gives_bytes 230); openings = tt; others = refl; lacking = tt }
 
 takes_way : IsStep worked_policies one_way_sent delivers (answers.Deliver receives.Taken) one_way_taken
 unfolding one_way_taken
@@ -176,7 +176,7 @@ unfolding once_taken
 way_took = refl
 
 way_named : WasNamed (way_packet ∷ []) 2
-way_named = record { packet = way_packet; was_taken = inl refl; frame = stream way_frame; carried = inr (inr (inr (inr (inl refl)))); opens = refl }
+way_named = record { packet = way_packet; was_taken = inl refl; frame = stream way_frame; carried = inr (inr (inr (inr (inr (inr (inr (inl refl))))))); opens = refl }
 
 two_in : In {X = ℕ} 2 (3 ∷ []) → ⊥
 two_in (inl e) = omega (arith, e)
@@ -306,7 +306,7 @@ first_dropped = record { call = (delivers_at 0).call; answer = answers.Deliver d
 abbrev abc_opening : Opening
 abc_opening = record { first = 0x40; number = 0; payload = told_ids (0x0a ∷ 0x00 ∷ 0x03 ∷ abc) }
 
-abbrev below_came : CameTo (abc_datagram ∷ def_datagram ∷ []) (until below_dropped Server 7)
+abbrev pub below_came : CameTo (abc_datagram ∷ def_datagram ∷ []) (until below_dropped Server 7)
 below_came = record {
   before = second_taken ∷ [];
   call = first_dropped;
@@ -341,7 +341,7 @@ spoilt = record { call = (injects Server spoilt_datagram).call; answer = answers
 abbrev hello_again : Told
 hello_again = record { call = calls.Deliver delivery; answer = answers.Deliver duplicate; state = states.Open }
 
-abbrev noted_came : CameTo (hello_datagram ∷ []) (until noted_early Server 6)
+abbrev pub noted_came : CameTo (hello_datagram ∷ []) (until noted_early Server 6)
 noted_came = record {
   before = spoilt ∷ [];
   call = hello_again;

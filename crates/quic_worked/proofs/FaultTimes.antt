@@ -182,7 +182,7 @@ stays_is_honest = acknowledged_is_honest sent_view
 
 -- the one datagram that the client gave, and the packet that it took
 abbrev hello_sent : Sent
-hello_sent = record { id = server_id; number = 0; reference = 0; frames = behind_ids (stream hello_frame ∷ []); moment = 0; size = 146 }
+hello_sent = record { id = server_id; number = 0; reference = 0; frames = behind_ids (stream hello_frame ∷ []); moment = 0; size = 230 }
 
 abbrev ack_packet : Packet
 ack_packet = record { number = 0; frames = ack ack_of_hello ∷ [] }
@@ -249,7 +249,7 @@ short_is_honest = honest cut_short (record { start = refl; keys = refl; client =
 -- the last byte of the number in the tag of the first datagram
 abbrev tagged : List (List ℕ) → ℕ
 tagged [] = 1
-tagged (d ∷ ds) = slice_index d 137
+tagged (d ∷ ds) = slice_index d 221
 
 right_tag : tagged pinged_once.from_client ≡ 0
 unfolding pinged_once

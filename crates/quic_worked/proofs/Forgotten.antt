@@ -25,7 +25,7 @@ pub flies_not : (read : ReadCall) → in_flight (answered_run read) Client 3 ≡
 flies_not read = refl
 
 -- until it is acknowledged, it is
-pub flies : (read : ReadCall) → in_flight (answered_run read) Client 7 ≡ (0, carrying ids_again 146 0 5 true) ∷ []
+pub flies : (read : ReadCall) → in_flight (answered_run read) Client 7 ≡ (0, carrying ids_again 230 0 5 true) ∷ []
 unfolding once_taken
 flies read = refl
 
@@ -42,7 +42,7 @@ flies_silent read = refl
 -- ---- the client that forgets it
 
 -- it is in flight once it was given
-flies_first : (read : ReadCall) → in_flight (sending_run read) Client 4 ≡ (0, carrying ids_again 146 0 5 true) ∷ []
+flies_first : (read : ReadCall) → in_flight (sending_run read) Client 4 ≡ (0, carrying ids_again 230 0 5 true) ∷ []
 unfolding once_taken
 flies_first read = refl
 
@@ -53,7 +53,7 @@ still_open = refl
 
 -- waits for nothing
 pub forgets : (read : ReadCall) → TracksAt (sending_run read) 4 forgotten → ⊥
-forgets read h = let none : ◌≡◌ {A = Table TrackedPacket} [] ((0, carrying nothing_waits 146 0 5 true) ∷ []) = (h Client still_open).same ∙ ap (λ (ps : Table TrackedPacket). map but_for_record ps) (flies_first read) in cc
+forgets read h = let none : ◌≡◌ {A = Table TrackedPacket} [] ((0, carrying nothing_waits 230 0 5 true) ∷ []) = (h Client still_open).same ∙ ap (λ (ps : Table TrackedPacket). map but_for_record ps) (flies_first read) in cc
 
 -- nothing waits to go
 waits_not : Waits forgotten.client (Offset 0 0) → ⊥
@@ -78,7 +78,7 @@ sends = (
   (once_written, writes, refl, (once_ended, finishes, refl, (once_sent, gives, sent_seen, refl))),
 )
 
-tracked : once_sent.client.tracking.packets ≡ (0, carrying ids_again 146 0 5 true) ∷ []
+tracked : once_sent.client.tracking.packets ≡ (0, carrying ids_again 230 0 5 true) ∷ []
 unfolding once_sent
 tracked = refl
 
@@ -86,5 +86,5 @@ tracked = refl
 pub never_forgets : NeverLeads sending_events sending_answers forgotten
 never_forgets views f =
     let same = one_run worked_policies sending_answers started sending_events views (take 4 worked_views) forgotten once_sent refl f sends in
-    let none : ◌≡◌ {A = Table TrackedPacket} [] ((0, carrying ids_again 146 0 5 true) ∷ []) = ap (λ (w : World). w.client.tracking.packets) same.1 ∙ tracked in
+    let none : ◌≡◌ {A = Table TrackedPacket} [] ((0, carrying ids_again 230 0 5 true) ∷ []) = ap (λ (w : World). w.client.tracking.packets) same.1 ∙ tracked in
     cc

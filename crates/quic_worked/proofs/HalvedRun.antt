@@ -79,9 +79,9 @@ seen_0 : (seen_with None None) ≡ view_of (once_halving 1)
 unfolding once_halving
 seen_0 = refl
 
-step_1 : IsStep worked_policies (once_halving 1) asks_datagram (gives_bytes 139) (once_halving 2)
+step_1 : IsStep worked_policies (once_halving 1) asks_datagram (gives_bytes 223) (once_halving 2)
 unfolding once_halving
-step_1 = record { answer = inl refl; end = refl; control = refl; heard = counts_so worked_policies (once_halving 1) asks_datagram (gives_bytes 139); openings = tt; others = refl; lacking = tt }
+step_1 = record { answer = inl refl; end = refl; control = refl; heard = counts_so worked_policies (once_halving 1) asks_datagram (gives_bytes 223); openings = tt; others = refl; lacking = tt }
 
 seen_1 : (seen_with (Some 1024000000) None) ≡ view_of (once_halving 2)
 unfolding once_halving
@@ -258,7 +258,7 @@ pinged n = record { id = server_id; number = n; reference = 0; frames = ping ∷
 
 -- and the first one, which told its ids
 abbrev first_pinged : observer.Sent
-first_pinged = record { id = server_id; number = 0; reference = 0; frames = ping ∷ id_frames; moment = 0; size = 139 }
+first_pinged = record { id = server_id; number = 0; reference = 0; frames = ping ∷ id_frames; moment = 0; size = 223 }
 
 abbrev others : List observer.Sent
 others = filter (λ (s : observer.Sent). not (names third_ack s.number)) seen.flight.flying
@@ -276,7 +276,7 @@ lost_is = refl
 
 -- it is too small for a probe
 no_probe : MayProbe settings.min_mtu first_pinged → ⊥
-no_probe p = let least : 1200 ≤ 139 = p.sized in omega (arith, least)
+no_probe p = let least : 1200 ≤ 223 = p.sized in omega (arith, least)
 
 one_asks : (probe : Option ℕ) → ((s : observer.Sent) → In s (lost_at lens.terms 100000000 behind) → is_number s.number probe ≡ true → MayProbe settings.min_mtu s) → list_any asks_of (but_for_probe probe (lost_at lens.terms 100000000 behind)) ≡ true
 one_asks probe pings = ap (λ (ss : List observer.Sent). list_any asks_of (but_for_probe probe ss)) lost_is ∙ go (is_number 0 probe) refl

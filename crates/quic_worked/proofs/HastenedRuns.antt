@@ -32,11 +32,11 @@ unfolding client_acked ack_frequency_at
 probes_wait = refl
 
 -- what went before the probe, and then
-one_before : sents_until probing_run Client 2 ≡ first_sent (request 0 10000) 145 ∷ []
+one_before : sents_until probing_run Client 2 ≡ first_sent (request 0 10000) 229 ∷ []
 unfolding client_acked ack_frequency_at
 one_before = refl
 
-two_went : sents_until probing_run Client 3 ≡ first_sent (request 0 10000) 145 ∷ probe_sent ∷ []
+two_went : sents_until probing_run Client 3 ≡ first_sent (request 0 10000) 229 ∷ probe_sent ∷ []
 unfolding client_acked ack_frequency_at
 two_went = refl
 
@@ -45,7 +45,7 @@ second_same : (first s t : Sent) → first ∷ s ∷ [] ≡ first ∷ t ∷ [] �
 second_same first s t is = cc
 
 is_probe : (now : ℕ) (gave : GaveOne probing_run Client 2 now) → gave.sent ≡ probe_sent
-is_probe now gave = second_same (first_sent (request 0 10000) 145) probe_sent gave.sent (sym two_went ∙ gave.went ∙ ap (λ (ss : List Sent). ss ++ gave.sent ∷ []) one_before)
+is_probe now gave = second_same (first_sent (request 0 10000) 229) probe_sent gave.sent (sym two_went ∙ gave.went ∙ ap (λ (ss : List Sent). ss ++ gave.sent ∷ []) one_before)
 
 -- no probe waits at first, and the server's peer told nothing of IMMEDIATE_ACK
 pub probe_hastens : ProbesHasten probing_run
@@ -68,7 +68,7 @@ unfolding client_acked ack_frequency_at
 unhastened_went = refl
 
 gave_unhastened : GaveAsking unhastened_run Client 2 1024000000
-gave_unhastened = record { one = record { transmit = record { size = 145; ecn = Some Ect0 }; poll = record { event = refl; answer = refl }; served = refl; sent = unhastened_sent; went = unhastened_went }; asks = refl }
+gave_unhastened = record { one = record { transmit = record { size = 229; ecn = Some Ect0 }; poll = record { event = refl; answer = refl }; served = refl; sent = unhastened_sent; went = unhastened_went }; asks = refl }
 
 pub unhastened_not : ProbesHasten unhastened_run → ⊥
 unfolding gave_unhastened
@@ -84,9 +84,9 @@ unhastened_own Server = (tt, (tt, (tt, tt)))
 pub unhastened_is_honest : IsHonest unhastened_run
 unhastened_is_honest = record { start = asked.asking_started 10000000; keys = are_keys; ids = own_ids unhastened_run unhastened_own }
 
-unhastened_no : IsRefused (once_probing 2) (asks_at Client 1024000000) (gives_bytes 145)
+unhastened_no : IsRefused (once_probing 2) (asks_at Client 1024000000) (gives_bytes 229)
 unfolding once_probing
-unhastened_no (inl e) = let clash : ◌≡◌ {A = ℕ} 145 146 = ap given_bytes e in omega (arith, clash)
+unhastened_no (inl e) = let clash : ◌≡◌ {A = ℕ} 229 230 = ap given_bytes e in omega (arith, clash)
 unhastened_no (inr e) = cc
 
 pub unhastened_is_none : IsNoRun unhastened_run

@@ -41,9 +41,9 @@ pub seen_0 : seen_with None None ≡ view_of (once_hasty 1)
 unfolding once_hasty
 seen_0 = refl
 
-pub step_1 : IsStep worked_policies (once_hasty 1) asks_datagram (gives_bytes 139) (once_hasty 2)
+pub step_1 : IsStep worked_policies (once_hasty 1) asks_datagram (gives_bytes 223) (once_hasty 2)
 unfolding once_hasty
-step_1 = record { answer = inl refl; end = refl; control = refl; heard = counts_so worked_policies (once_hasty 1) asks_datagram (gives_bytes 139); openings = tt; others = refl; lacking = tt }
+step_1 = record { answer = inl refl; end = refl; control = refl; heard = counts_so worked_policies (once_hasty 1) asks_datagram (gives_bytes 223); openings = tt; others = refl; lacking = tt }
 
 pub seen_1 : seen_with (Some 1024000000) None ≡ view_of (once_hasty 2)
 unfolding once_hasty
@@ -146,9 +146,9 @@ marked_seen_0 : seen_with None None ≡ view_of (once_marked 1)
 unfolding once_marked
 marked_seen_0 = refl
 
-pub marked_1 : IsStep worked_policies (once_marked 1) asks_datagram (gives_bytes 139) (once_marked 2)
+pub marked_1 : IsStep worked_policies (once_marked 1) asks_datagram (gives_bytes 223) (once_marked 2)
 unfolding once_marked
-marked_1 = record { answer = inl refl; end = refl; control = refl; heard = counts_so worked_policies (once_marked 1) asks_datagram (gives_bytes 139); openings = tt; others = refl; lacking = tt }
+marked_1 = record { answer = inl refl; end = refl; control = refl; heard = counts_so worked_policies (once_marked 1) asks_datagram (gives_bytes 223); openings = tt; others = refl; lacking = tt }
 
 marked_seen_1 : seen_with (Some 1024000000) None ≡ view_of (once_marked 2)
 unfolding once_marked

@@ -174,7 +174,7 @@ told_three = refl
 
 -- the frame of the datagram in flight, and the datagram as it was sent
 abbrev first_frame : StreamValue
-first_frame = record { id = 0; offset = 0; fin = false; bytes = replicate 1060 0x61 }
+first_frame = record { id = 0; offset = 0; fin = false; bytes = replicate 976 0x61 }
 
 abbrev first_sent : SentAs
 first_sent = record { id = server_id; number = 0; reference = 0; frames = behind_ids (stream first_frame ∷ []); moment = 0; size = 1200 }
@@ -208,18 +208,21 @@ not_behind s f id offset only ends h = elim (h.among) [ inl is ↦ here is | inr
         go (inr (inl e)) = cc
         go (inr (inr (inl e))) = cc
         go (inr (inr (inr (inl e)))) = cc
-        go (inr (inr (inr (inr (inl e))))) = past (same_frame h.frame f e)
-        go (inr (inr (inr (inr (inr none))))) = none
+        go (inr (inr (inr (inr (inl e))))) = cc
+        go (inr (inr (inr (inr (inr (inl e)))))) = cc
+        go (inr (inr (inr (inr (inr (inr (inl e))))))) = cc
+        go (inr (inr (inr (inr (inr (inr (inr (inl e)))))))) = past (same_frame h.frame f e)
+        go (inr (inr (inr (inr (inr (inr (inr (inr none)))))))) = none
 
 pub none_given : GaveNothing held_run Client 3 0 full_view
 none_given = record { poll = record { event = refl; answer = refl }; shown = refl; opened = refl }
 
-pub byte_waits : IsByteToGo held_run Client 4 0 1060
+pub byte_waits : IsByteToGo held_run Client 4 0 976
 byte_waits = record {
   written = lit< tt;
   kept = refl;
-  not_flying = λ h. not_behind first_sent first_frame 0 1060 refl (lit≤ tt) (subst (λ (ss : List SentAs). HoldsOffset ss 0 1060) it_flies h);
-  not_acked = λ h. (subst (λ (ss : List SentAs). HoldsOffset ss 0 1060) none_acked h).among;
+  not_flying = λ h. not_behind first_sent first_frame 0 976 refl (lit≤ tt) (subst (λ (ss : List SentAs). HoldsOffset ss 0 976) it_flies h);
+  not_acked = λ h. (subst (λ (ss : List SentAs). HoldsOffset ss 0 976) none_acked h).among;
 }
 
 so_many : bytes_flying held_run Client 4 ≡ 1200
@@ -238,7 +241,7 @@ full_asks r i now gave none full other h = elim (h Client i now gave none) [ inl
 
 -- the datagram as it was sent
 abbrev next_sent : SentAs
-next_sent = record { id = server_id; number = 1; reference = 0; frames = stream (record { id = 0; offset = 1060; fin = false; bytes = replicate 1170 0x61 }) ∷ []; moment = 0; size = 1200 }
+next_sent = record { id = server_id; number = 1; reference = 0; frames = stream (record { id = 0; offset = 976; fin = false; bytes = replicate 1170 0x61 }) ∷ []; moment = 0; size = 1200 }
 
 next_went : sents_until overfull_run Client 4 ≡ sents_until overfull_run Client 3 ++ next_sent ∷ []
 unfolding once_held
@@ -375,9 +378,9 @@ third_sent = record {
   id = server_id;
   number = 3;
   reference = 0;
-  frames = ping ∷ stream (record { id = 0; offset = 3176; fin = false; bytes = replicate 824 0x61 }) ∷ [];
+  frames = ping ∷ stream (record { id = 0; offset = 2924; fin = false; bytes = replicate 1076 0x61 }) ∷ [];
   moment = 1024000000;
-  size = 855;
+  size = 1107;
 }
 
 third_went : sents_until third_probe_run Client 8 ≡ sents_until third_probe_run Client 7 ++ third_sent ∷ []
@@ -387,7 +390,7 @@ third_went = refl
 abbrev third_gave : GaveAsking third_probe_run Client 7 1024000000
 third_gave = record {
   one = record {
-    transmit = record { size = 855; ecn = Some Ect0 };
+    transmit = record { size = 1107; ecn = Some Ect0 };
     poll = record { event = refl; answer = refl };
     served = refl;
     sent = third_sent;
@@ -404,7 +407,7 @@ not_padded (suc more) is = cc
 pub third_asks : AskingGoesWhereLet third_probe_run → ⊥
 third_asks = full_asks third_probe_run 7 1024000000 third_gave none_waits (subst (λ (n : ℕ). 2400 ≤ n + 1200) (sym three_fly) (lit≤ tt)) not_padded
 
-third_no : IsRefused (once_held 7) (asks_at Client 1024000000) (gives_bytes 855)
+third_no : IsRefused (once_held 7) (asks_at Client 1024000000) (gives_bytes 1107)
 unfolding once_held
 third_no (inl e) = cc
 third_no (inr e) = cc

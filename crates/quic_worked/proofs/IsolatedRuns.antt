@@ -124,7 +124,7 @@ quiet_is_run = record {
 pub noise_same : SameButCounts noisy_left quiet_left
 noise_same = refl
 
-pub noise_sent : noisy_left.client_heard ≡ record { received = 0; sent = 146; failures = 0 }
+pub noise_sent : noisy_left.client_heard ≡ record { received = 0; sent = 230; failures = 0 }
 unfolding once_taken
 noise_sent = refl
 
@@ -207,7 +207,7 @@ idle_no : IsRefused (once_idle 1) asks_idle (answers.Timer (Some 35000000000))
 unfolding once_idle
 idle_no e = let clash : ◌≡◌ {A = ℕ} 35000000000 30000000000 = cc in omega (arith, clash)
 
-never_anew : NeverAnswers idle_start (asks_datagram ∷ asks_idle ∷ []) (gives_bytes 138 ∷ answers.Timer (Some 35000000000) ∷ [])
+never_anew : NeverAnswers idle_start (asks_datagram ∷ asks_idle ∷ []) (gives_bytes 222 ∷ answers.Timer (Some 35000000000) ∷ [])
 never_anew = behind refl tells_ids (stops _ _ _ _ _ idle_no)
 
 pub anew_by_answers : (end : World) → IsolatedByAnswers idle_anew end → ⊥

@@ -22,7 +22,7 @@ use Rattle.quic_worked.specs.Acknowledged.{client_acked}
 use Rattle.quic_worked.specs.Broken.{IsNoRun, NeverLeadsFrom}
 use Rattle.quic_worked.specs.Paired.{asks_server, client_hears}
 use Rattle.quic_worked.specs.Renamed.{uses_next, retiring_payload}
-use Rattle.quic_worked.specs.Known.{naming_events, naming_answers, is_used, has_none, has_too_many, once_named, naming_datagram, naming_sent, telling_sent, naming_run, asking_run, asking_early, asked_early, made_up, fifty_wait, forgetful}
+use Rattle.quic_worked.specs.Known.{naming_events, naming_answers, is_used, has_none, has_too_many, once_named, naming_datagram, naming_sent, telling_sent, naming_run, asking_run, asking_early, asked_early, made_up, eighty_wait, forgetful}
 use Rattle.quic_worked.proofs.Codes.{no_codes}
 use Rattle.quic_worked.proofs.OwnIds.{honest_steady}
 use Rattle.quic_worked.proofs.BrokenRuns.{IsRefused, behind, stops}
@@ -31,9 +31,9 @@ use Rattle.quic_worked.proofs.Steps.{counts_so}
 
 -- ---- the run of two new ends
 
-server_tells : IsStep worked_policies both_steady asks_server (gives_bytes 138) (once_named both_steady is_used 1)
+server_tells : IsStep worked_policies both_steady asks_server (gives_bytes 222) (once_named both_steady is_used 1)
 unfolding once_named
-server_tells = record { answer = inl refl; end = refl; control = refl; heard = counts_so worked_policies both_steady asks_server (gives_bytes 138); openings = tt; others = refl; lacking = tt }
+server_tells = record { answer = inl refl; end = refl; control = refl; heard = counts_so worked_policies both_steady asks_server (gives_bytes 222); openings = tt; others = refl; lacking = tt }
 
 client_takes : IsStep worked_policies (once_named both_steady is_used 1) client_hears (answers.Deliver receives.Taken) (once_named both_steady is_used 2)
 unfolding once_named
@@ -43,9 +43,9 @@ client_uses : IsStep worked_policies (once_named both_steady is_used 2) uses_nex
 unfolding once_named
 client_uses = record { answer = inl refl; end = refl; control = refl; heard = counts_so worked_policies (once_named both_steady is_used 2) uses_next is_used; openings = tt; others = refl; lacking = λ lacks. cc }
 
-client_gives : IsStep worked_policies (once_named both_steady is_used 3) asks_datagram (gives_bytes 145) (once_named both_steady is_used 4)
+client_gives : IsStep worked_policies (once_named both_steady is_used 3) asks_datagram (gives_bytes 229) (once_named both_steady is_used 4)
 unfolding once_named
-client_gives = record { answer = inl refl; end = refl; control = refl; heard = counts_so worked_policies (once_named both_steady is_used 3) asks_datagram (gives_bytes 145); openings = tt; others = refl; lacking = tt }
+client_gives = record { answer = inl refl; end = refl; control = refl; heard = counts_so worked_policies (once_named both_steady is_used 3) asks_datagram (gives_bytes 229); openings = tt; others = refl; lacking = tt }
 
 -- the views of the run
 abbrev told_view : View
@@ -151,85 +151,85 @@ made_no (inr e) = cc
 pub made_is_none : IsNoRun made_up
 made_is_none = stops _ _ _ _ _ made_no
 
--- ---- fifty retirements wait
+-- ---- eighty retirements wait
 
-fifty_told : IsStep worked_policies fifty_wait asks_server (gives_bytes 138) (once_named fifty_wait has_too_many 1)
+eighty_told : IsStep worked_policies eighty_wait asks_server (gives_bytes 222) (once_named eighty_wait has_too_many 1)
 unfolding once_named
-fifty_told = record { answer = inl refl; end = refl; control = refl; heard = counts_so worked_policies fifty_wait asks_server (gives_bytes 138); openings = tt; others = refl; lacking = tt }
+eighty_told = record { answer = inl refl; end = refl; control = refl; heard = counts_so worked_policies eighty_wait asks_server (gives_bytes 222); openings = tt; others = refl; lacking = tt }
 
-fifty_taken : IsStep worked_policies (once_named fifty_wait has_too_many 1) client_hears (answers.Deliver receives.Taken) (once_named fifty_wait has_too_many 2)
+eighty_taken : IsStep worked_policies (once_named eighty_wait has_too_many 1) client_hears (answers.Deliver receives.Taken) (once_named eighty_wait has_too_many 2)
 unfolding once_named
-fifty_taken = record { answer = inl refl; end = refl; control = refl; heard = counts_so worked_policies (once_named fifty_wait has_too_many 1) client_hears (answers.Deliver receives.Taken); openings = tt; others = refl; lacking = tt }
+eighty_taken = record { answer = inl refl; end = refl; control = refl; heard = counts_so worked_policies (once_named eighty_wait has_too_many 1) client_hears (answers.Deliver receives.Taken); openings = tt; others = refl; lacking = tt }
 
-fifty_refused : IsStep worked_policies (once_named fifty_wait has_too_many 2) uses_next has_too_many (once_named fifty_wait has_too_many 3)
+eighty_refused : IsStep worked_policies (once_named eighty_wait has_too_many 2) uses_next has_too_many (once_named eighty_wait has_too_many 3)
 unfolding once_named
-fifty_refused = record { answer = inl refl; end = refl; control = refl; heard = counts_so worked_policies (once_named fifty_wait has_too_many 2) uses_next has_too_many; openings = tt; others = refl; lacking = λ lacks. cc }
+eighty_refused = record { answer = inl refl; end = refl; control = refl; heard = counts_so worked_policies (once_named eighty_wait has_too_many 2) uses_next has_too_many; openings = tt; others = refl; lacking = λ lacks. cc }
 
-fifty_told_seen : told_view ≡ view_of (once_named fifty_wait has_too_many 1)
+eighty_told_seen : told_view ≡ view_of (once_named eighty_wait has_too_many 1)
 unfolding once_named
-fifty_told_seen = refl
+eighty_told_seen = refl
 
-fifty_taken_seen : taken_view ≡ view_of (once_named fifty_wait has_too_many 2)
+eighty_taken_seen : taken_view ≡ view_of (once_named eighty_wait has_too_many 2)
 unfolding once_named
-fifty_taken_seen = refl
+eighty_taken_seen = refl
 
-fifty_refused_seen : taken_view ≡ view_of (once_named fifty_wait has_too_many 3)
+eighty_refused_seen : taken_view ≡ view_of (once_named eighty_wait has_too_many 3)
 unfolding once_named
-fifty_refused_seen = refl
+eighty_refused_seen = refl
 
-fifty_gave_none : [] ≡ (once_named fifty_wait has_too_many 3).from_client
+eighty_gave_none : [] ≡ (once_named eighty_wait has_too_many 3).from_client
 unfolding once_named
-fifty_gave_none = refl
+eighty_gave_none = refl
 
-fifty_gave : (asking_run fifty_wait has_too_many).from_server ≡ (once_named fifty_wait has_too_many 3).from_server
+eighty_gave : (asking_run eighty_wait has_too_many).from_server ≡ (once_named eighty_wait has_too_many 3).from_server
 unfolding once_named
-fifty_gave = refl
+eighty_gave = refl
 
-pub fifty_is_run : IsRun (asking_run fifty_wait has_too_many) (once_named fifty_wait has_too_many 3)
-fifty_is_run = record {
-  codes = no_codes (asking_run fifty_wait has_too_many).events refl;
-  follows = (once_named fifty_wait has_too_many 1, fifty_told, fifty_told_seen, (once_named fifty_wait has_too_many 2, fifty_taken, fifty_taken_seen, (once_named fifty_wait has_too_many 3, fifty_refused, fifty_refused_seen, refl)));
-  from_client = fifty_gave_none;
-  from_server = fifty_gave;
+pub eighty_is_run : IsRun (asking_run eighty_wait has_too_many) (once_named eighty_wait has_too_many 3)
+eighty_is_run = record {
+  codes = no_codes (asking_run eighty_wait has_too_many).events refl;
+  follows = (once_named eighty_wait has_too_many 1, eighty_told, eighty_told_seen, (once_named eighty_wait has_too_many 2, eighty_taken, eighty_taken_seen, (once_named eighty_wait has_too_many 3, eighty_refused, eighty_refused_seen, refl)));
+  from_client = eighty_gave_none;
+  from_server = eighty_gave;
 }
 
-pub fifty_used : in_use (asking_run fifty_wait has_too_many) Client 2 ≡ 0
+pub eighty_used : in_use (asking_run eighty_wait has_too_many) Client 2 ≡ 0
 unfolding client_acked
-fifty_used = refl
+eighty_used = refl
 
-pub fifty_next : next_id (asking_run fifty_wait has_too_many) Client 2 ≡ Some 1
+pub eighty_next : next_id (asking_run eighty_wait has_too_many) Client 2 ≡ Some 1
 unfolding client_acked
-fifty_next = refl
+eighty_next = refl
 
-pub fifty_past : IsPastLimit (once_named fifty_wait has_too_many 2).client 0 1
+pub eighty_past : IsPastLimit (once_named eighty_wait has_too_many 2).client 0 1
 unfolding once_named
-fifty_past = lit< tt
+eighty_past = lit< tt
 
 -- a client that uses the next id all the same
-all_next : next_id (asking_run fifty_wait is_used) Client 2 ≡ Some 1
+all_next : next_id (asking_run eighty_wait is_used) Client 2 ≡ Some 1
 unfolding client_acked
 all_next = refl
 
-all_used : in_use (asking_run fifty_wait is_used) Client 2 ≡ 0
+all_used : in_use (asking_run eighty_wait is_used) Client 2 ≡ 0
 unfolding client_acked
 all_used = refl
 
-all_past : IsPastLimit (once_named fifty_wait has_too_many 2).client (in_use (asking_run fifty_wait is_used) Client 2) 1
-all_past = subst (λ (n : ℕ). IsPastLimit (once_named fifty_wait has_too_many 2).client n 1) (sym all_used) fifty_past
+all_past : IsPastLimit (once_named eighty_wait has_too_many 2).client (in_use (asking_run eighty_wait is_used) Client 2) 1
+all_past = subst (λ (n : ℕ). IsPastLimit (once_named eighty_wait has_too_many 2).client n 1) (sym all_used) eighty_past
 
-pub all_wrong : TooManyIsExact (asking_run fifty_wait is_used) → ⊥
+pub all_wrong : TooManyIsExact (asking_run eighty_wait is_used) → ⊥
 all_wrong h =
-    let leads : LeadsTo (asking_run fifty_wait is_used) 2 (once_named fifty_wait has_too_many 2) = (once_named fifty_wait has_too_many 1, fifty_told, fifty_told_seen, (once_named fifty_wait has_too_many 2, fifty_taken, fifty_taken_seen, refl)) in
-    let is : is_used ≡ has_too_many = (h Client 2 is_used (once_named fifty_wait has_too_many 2) refl leads refl (record { event = refl; answer = refl })).1 (1, all_next, all_past) in
+    let leads : LeadsTo (asking_run eighty_wait is_used) 2 (once_named eighty_wait has_too_many 2) = (once_named eighty_wait has_too_many 1, eighty_told, eighty_told_seen, (once_named eighty_wait has_too_many 2, eighty_taken, eighty_taken_seen, refl)) in
+    let is : is_used ≡ has_too_many = (h Client 2 is_used (once_named eighty_wait has_too_many 2) refl leads refl (record { event = refl; answer = refl })).1 (1, all_next, all_past) in
     cc
 
-all_no : IsRefused (once_named fifty_wait has_too_many 2) uses_next is_used
+all_no : IsRefused (once_named eighty_wait has_too_many 2) uses_next is_used
 unfolding once_named
 all_no (inl e) = cc
 all_no (inr e) = cc
 
-pub all_is_none : IsNoRun (asking_run fifty_wait is_used)
-all_is_none = behind refl fifty_told (behind refl fifty_taken (stops _ _ _ _ _ all_no))
+pub all_is_none : IsNoRun (asking_run eighty_wait is_used)
+all_is_none = behind refl eighty_told (behind refl eighty_taken (stops _ _ _ _ _ all_no))
 
 -- ---- a next id that is there is refused
 
@@ -286,9 +286,9 @@ many_is_no_run = behind refl server_tells (behind refl client_takes (stops _ _ _
 
 -- ---- ids that were told are forgotten
 
-forgetful_tells : IsStep worked_policies forgetful asks_server (gives_bytes 138) (once_named forgetful is_used 1)
+forgetful_tells : IsStep worked_policies forgetful asks_server (gives_bytes 222) (once_named forgetful is_used 1)
 unfolding once_named
-forgetful_tells = record { answer = inl refl; end = refl; control = refl; heard = counts_so worked_policies forgetful asks_server (gives_bytes 138); openings = tt; others = refl; lacking = tt }
+forgetful_tells = record { answer = inl refl; end = refl; control = refl; heard = counts_so worked_policies forgetful asks_server (gives_bytes 222); openings = tt; others = refl; lacking = tt }
 
 forgetful_taken : IsStep worked_policies (once_named forgetful is_used 1) client_hears (answers.Deliver receives.Taken) (once_named forgetful is_used 2)
 unfolding once_named
@@ -298,9 +298,9 @@ forgetful_used : IsStep worked_policies (once_named forgetful is_used 2) uses_ne
 unfolding once_named
 forgetful_used = record { answer = inl refl; end = refl; control = refl; heard = counts_so worked_policies (once_named forgetful is_used 2) uses_next is_used; openings = tt; others = refl; lacking = λ lacks. cc }
 
-forgetful_given : IsStep worked_policies (once_named forgetful is_used 3) asks_datagram (gives_bytes 145) (once_named forgetful is_used 4)
+forgetful_given : IsStep worked_policies (once_named forgetful is_used 3) asks_datagram (gives_bytes 229) (once_named forgetful is_used 4)
 unfolding once_named
-forgetful_given = record { answer = inl refl; end = refl; control = refl; heard = counts_so worked_policies (once_named forgetful is_used 3) asks_datagram (gives_bytes 145); openings = tt; others = refl; lacking = tt }
+forgetful_given = record { answer = inl refl; end = refl; control = refl; heard = counts_so worked_policies (once_named forgetful is_used 3) asks_datagram (gives_bytes 229); openings = tt; others = refl; lacking = tt }
 
 forgetful_told_seen : told_view ≡ view_of (once_named forgetful is_used 1)
 unfolding once_named
@@ -379,13 +379,13 @@ opens_wrong h =
 abbrev count_known : World → ℕ
 count_known w = length (known w.server.ids)
 
-right_count : count_known (once_named both_steady is_used 4) ≡ 5
+right_count : count_known (once_named both_steady is_used 4) ≡ 8
 unfolding once_named
 right_count = refl
 
 other_count : once_named forgetful is_used 4 ≡ once_named both_steady is_used 4 → ⊥
 other_count e =
-    let clash : ◌≡◌ {A = ℕ} 1 5 = sym (ap (λ (ids : List (List ℕ)). length ids) one_known) ∙ ap count_known e ∙ right_count in
+    let clash : ◌≡◌ {A = ℕ} 1 8 = sym (ap (λ (ids : List (List ℕ)). length ids) one_known) ∙ ap count_known e ∙ right_count in
     omega (arith, clash)
 
 not_forgetful : NotToFrom both_steady (once_named forgetful is_used 4) naming_events (naming_answers is_used)

@@ -35,6 +35,7 @@ mod SearchedRun
 mod HeldRun
 mod PacedRun
 mod FaultRuns
+mod AgainRuns
 mod FaultTimes
 mod LongDatagram
 mod LimitedRun
@@ -71,3 +72,4 @@ mod AskingMachines
 pub mod ObeyingRuns
 mod HastenedRuns
 mod EarlyAcks
+mod ShortenedRun

@@ -91,9 +91,9 @@ pub blocks : IsStep worked_policies limited_second (writes_on 4 sixteen) (answer
 unfolding with_offsets with_range joining
 blocks = record { answer = inl refl; end = refl; control = refl; heard = counts_so worked_policies limited_second (writes_on 4 sixteen) (answers.Write (Err write_errors.Blocked)); openings = tt; others = refl; lacking = λ lacks. cc }
 
-pub gives : IsStep worked_policies limited_blocked asks_datagram (gives_bytes 151) limited_sent
+pub gives : IsStep worked_policies limited_blocked asks_datagram (gives_bytes 235) limited_sent
 unfolding limited_sent
-gives = record { answer = inl refl; end = refl; control = refl; heard = counts_so worked_policies limited_blocked asks_datagram (gives_bytes 151); openings = tt; others = refl; lacking = tt }
+gives = record { answer = inl refl; end = refl; control = refl; heard = counts_so worked_policies limited_blocked asks_datagram (gives_bytes 235); openings = tt; others = refl; lacking = tt }
 
 pub takes : IsStep worked_policies limited_sent delivers (answers.Deliver receives.Taken) limited_taken
 unfolding limited_taken
@@ -113,9 +113,9 @@ reads_only = refl
 pub reads : (read : ReadCall) → ReadsEight read → IsStep worked_policies limited_accepted (reads_stream read) (answers.Read (Ok hello_nexts)) limited_read
 reads = reads_at limited_accepted limited_read 0 true eight_bounds hello_nexts reads_so reads_only
 
-pub raises : IsStep worked_policies limited_read asks_server (gives_bytes 148) limited_given
+pub raises : IsStep worked_policies limited_read asks_server (gives_bytes 232) limited_given
 unfolding limited_given
-raises = record { answer = inl refl; end = refl; control = refl; heard = counts_so worked_policies limited_read asks_server (gives_bytes 148); openings = tt; others = refl; lacking = tt }
+raises = record { answer = inl refl; end = refl; control = refl; heard = counts_so worked_policies limited_read asks_server (gives_bytes 232); openings = tt; others = refl; lacking = tt }
 
 pub hears : IsStep worked_policies limited_given client_hears (answers.Deliver receives.Taken) limited_heard
 unfolding limited_heard
@@ -172,7 +172,7 @@ end_seen = refl
 follows : (read : ReadCall) → ReadsEight read → Follows worked_policies limited_start (limited_events read) limited_answers limited_views limited_end
 follows read by =
     let late : Follows worked_policies limited_read (asks_server ∷ client_hears ∷ writes_on 0 sixteen ∷ writes_on 4 sixteen ∷ writes_on 4 sixteen ∷ [])
-    (gives_bytes 148 ∷ answers.Deliver receives.Taken ∷ answers.Write (Ok 5) ∷ answers.Write (Ok 1) ∷ answers.Write (Err write_errors.Blocked) ∷ []) (both_sent ∷ one_heard ∷ one_heard ∷ one_heard ∷ one_heard ∷ []) limited_end =
+    (gives_bytes 232 ∷ answers.Deliver receives.Taken ∷ answers.Write (Ok 5) ∷ answers.Write (Ok 1) ∷ answers.Write (Err write_errors.Blocked) ∷ []) (both_sent ∷ one_heard ∷ one_heard ∷ one_heard ∷ one_heard ∷ []) limited_end =
     (limited_given, raises, given_seen, (limited_heard, hears, heard_seen, (limited_third, writes_third, third_seen, (limited_fourth, writes_fourth, fourth_seen, (limited_end, blocks_again, end_seen, refl))))) in (
       limited_opened,
       opens,

@@ -36,8 +36,8 @@ long_wrong h = go (h Client 2 0 gave_long).1
 pub long_is_honest : IsHonest too_long
 long_is_honest = honest too_long (record { start = refl; keys = refl; client = (tt, (inl refl, (tt, tt))); server = (tt, (tt, (tt, tt))) })
 
-writes : IsStep worked_policies once_opened writes_full (answers.Write (Ok 1061)) full_written
-writes = record { answer = inl refl; end = refl; control = refl; heard = counts_so worked_policies once_opened writes_full (answers.Write (Ok 1061)); openings = tt; others = refl; lacking = λ lacks. cc }
+writes : IsStep worked_policies once_opened writes_full (answers.Write (Ok 977)) full_written
+writes = record { answer = inl refl; end = refl; control = refl; heard = counts_so worked_policies once_opened writes_full (answers.Write (Ok 977)); openings = tt; others = refl; lacking = λ lacks. cc }
 
 -- the machine gives a full datagram
 long_no : IsRefused full_written asks_datagram (gives_bytes 1201)

@@ -40,9 +40,9 @@ seen_0 : (seen_with None None) ≡ view_of (once_measured 1)
 unfolding once_measured
 seen_0 = refl
 
-step_1 : IsStep worked_policies (once_measured 1) asks_datagram (gives_bytes 139) (once_measured 2)
+step_1 : IsStep worked_policies (once_measured 1) asks_datagram (gives_bytes 223) (once_measured 2)
 unfolding once_measured
-step_1 = record { answer = inl refl; end = refl; control = refl; heard = counts_so worked_policies (once_measured 1) asks_datagram (gives_bytes 139); openings = tt; others = refl; lacking = tt }
+step_1 = record { answer = inl refl; end = refl; control = refl; heard = counts_so worked_policies (once_measured 1) asks_datagram (gives_bytes 223); openings = tt; others = refl; lacking = tt }
 
 seen_1 : (seen_with (Some 1024000000) None) ≡ view_of (once_measured 2)
 unfolding once_measured

@@ -40,9 +40,9 @@ seen_0 : seen_with None None ≡ view_of (once_messaged 1)
 unfolding once_messaged
 seen_0 = refl
 
-pub step_1 : IsStep worked_policies (once_messaged 1) asks_datagram (gives_bytes 144) (once_messaged 2)
+pub step_1 : IsStep worked_policies (once_messaged 1) asks_datagram (gives_bytes 228) (once_messaged 2)
 unfolding once_messaged
-step_1 = record { answer = inl refl; end = refl; control = refl; heard = counts_so worked_policies (once_messaged 1) asks_datagram (gives_bytes 144); openings = tt; others = refl; lacking = tt }
+step_1 = record { answer = inl refl; end = refl; control = refl; heard = counts_so worked_policies (once_messaged 1) asks_datagram (gives_bytes 228); openings = tt; others = refl; lacking = tt }
 
 seen_1 : seen_with (Some 1024000000) None ≡ view_of (once_messaged 2)
 unfolding once_messaged
@@ -260,7 +260,7 @@ given_bytes (answers.Poll (Ok (Some t))) = t.size
 given_bytes a = 0
 
 refused_no : IsRefused started asks_datagram (gives_bytes 1192)
-refused_no (inl e) = let clash : ◌≡◌ {A = ℕ} 1192 138 = ap given_bytes e in omega (arith, clash)
+refused_no (inl e) = let clash : ◌≡◌ {A = ℕ} 1192 222 = ap given_bytes e in omega (arith, clash)
 refused_no (inr e) = cc
 
 pub no_refused : IsNoRun message_refused
@@ -276,9 +276,9 @@ late_seen_0 : both_seen None None None None ≡ view_of (once_late 1)
 unfolding once_late
 late_seen_0 = refl
 
-late_1 : IsStep worked_policies (once_late 1) asks_datagram (gives_bytes 144) (once_late 2)
+late_1 : IsStep worked_policies (once_late 1) asks_datagram (gives_bytes 228) (once_late 2)
 unfolding once_late
-late_1 = record { answer = inl refl; end = refl; control = refl; heard = counts_so worked_policies (once_late 1) asks_datagram (gives_bytes 144); openings = tt; others = refl; lacking = tt }
+late_1 = record { answer = inl refl; end = refl; control = refl; heard = counts_so worked_policies (once_late 1) asks_datagram (gives_bytes 228); openings = tt; others = refl; lacking = tt }
 
 late_seen_1 : both_seen (Some 1024000000) None None None ≡ view_of (once_late 2)
 unfolding once_late
@@ -316,9 +316,9 @@ late_seen_5 : both_seen (Some 1124000000) None None (Some 130000000) ≡ view_of
 unfolding once_late
 late_seen_5 = refl
 
-late_6 : IsStep worked_policies (once_late 6) (asks_at Server 105000000) (gives_bytes 144) (once_late 7)
+late_6 : IsStep worked_policies (once_late 6) (asks_at Server 105000000) (gives_bytes 228) (once_late 7)
 unfolding once_late
-late_6 = record { answer = inl refl; end = refl; control = refl; heard = counts_so worked_policies (once_late 6) (asks_at Server 105000000) (gives_bytes 144); openings = tt; others = refl; lacking = tt }
+late_6 = record { answer = inl refl; end = refl; control = refl; heard = counts_so worked_policies (once_late 6) (asks_at Server 105000000) (gives_bytes 228); openings = tt; others = refl; lacking = tt }
 
 late_seen_6 : both_seen (Some 1124000000) None (Some 1129000000) None ≡ view_of (once_late 7)
 unfolding once_late
@@ -429,7 +429,7 @@ again_is_honest = honest_steady message_again (record { start = refl; keys = ref
 
 again_goes_no : IsRefused (once_late 8) (asks_at Client 110000000) (gives_bytes 32)
 unfolding once_late
-again_goes_no (inl e) = let clash : ◌≡◌ {A = ℕ} 32 143 = ap given_bytes e in omega (arith, clash)
+again_goes_no (inl e) = let clash : ◌≡◌ {A = ℕ} 32 227 = ap given_bytes e in omega (arith, clash)
 again_goes_no (inr e) = cc
 
 pub no_again : IsNoRun message_again
@@ -445,9 +445,9 @@ two_1 : IsStep worked_policies (once_two 1) (sends_message pong_message) is_sent
 unfolding once_two
 two_1 = record { answer = inl refl; end = refl; control = refl; heard = counts_so worked_policies (once_two 1) (sends_message pong_message) is_sent; openings = tt; others = refl; lacking = λ lacks. cc }
 
-two_2 : IsStep worked_policies (once_two 2) asks_datagram (gives_bytes 150) (once_two 3)
+two_2 : IsStep worked_policies (once_two 2) asks_datagram (gives_bytes 234) (once_two 3)
 unfolding once_two
-two_2 = record { answer = inl refl; end = refl; control = refl; heard = counts_so worked_policies (once_two 2) asks_datagram (gives_bytes 150); openings = tt; others = refl; lacking = tt }
+two_2 = record { answer = inl refl; end = refl; control = refl; heard = counts_so worked_policies (once_two 2) asks_datagram (gives_bytes 234); openings = tt; others = refl; lacking = tt }
 
 two_seen_0 : seen_with None None ≡ view_of (once_two 1)
 unfolding once_two
@@ -503,7 +503,7 @@ second_byte (m ∷ ms) = slice_index m 1
 
 pub turned_wrong : MessagesGoInOrder (two_run pong_message ping_message) → ⊥
 turned_wrong h =
-    let order = h Client 2 0 (record { size = 150; ecn = Some Ect0 }) (two_sent pong_message ping_message) refl (record { event = refl; answer = refl }) turned_went in
+    let order = h Client 2 0 (record { size = 234; ecn = Some Ect0 }) (two_sent pong_message ping_message) refl (record { event = refl; answer = refl }) turned_went in
     let clash : ◌≡◌ {A = ℕ} 111 105 = ap second_byte (order ∙ turned_wait) in
     omega (arith, clash)
 
@@ -513,7 +513,7 @@ turned_is_honest = honest (two_run pong_message ping_message) (record { start = 
 -- that byte as it goes in the first datagram
 abbrev message_byte : List (List ℕ) → ℕ
 message_byte [] = 0
-message_byte (d ∷ ds) = slice_index d 125
+message_byte (d ∷ ds) = slice_index d 209
 
 right_byte : message_byte (once_two 3).from_client ≡ 105
 unfolding once_two

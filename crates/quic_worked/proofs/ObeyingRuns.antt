@@ -38,9 +38,9 @@ use Rattle.quic_worked.proofs.WorkedKeys.{are_keys}
 
 -- ---- a request that comes behind a newer one
 
-stale_0 : IsStep worked_policies (asking_start 100000000) (asks_at Client 0) (gives_bytes 147) (once_stale 1)
+stale_0 : IsStep worked_policies (asking_start 100000000) (asks_at Client 0) (gives_bytes 231) (once_stale 1)
 unfolding once_stale
-stale_0 = record { answer = inl refl; end = refl; control = still_steady; heard = counts_so worked_policies (asking_start 100000000) (asks_at Client 0) (gives_bytes 147); openings = tt; others = refl; lacking = tt }
+stale_0 = record { answer = inl refl; end = refl; control = still_steady; heard = counts_so worked_policies (asking_start 100000000) (asks_at Client 0) (gives_bytes 231); openings = tt; others = refl; lacking = tt }
 
 stale_1 : IsStep worked_policies (once_stale 1) asks_ping answers.Ping (once_stale 2)
 unfolding once_stale
@@ -193,17 +193,17 @@ never_obeys end f =
 
 -- ---- IMMEDIATE_ACK
 
-pub probing_0 : IsStep worked_policies (asking_start 10000000) (asks_at Client 0) (gives_bytes 145) (once_probing 1)
+pub probing_0 : IsStep worked_policies (asking_start 10000000) (asks_at Client 0) (gives_bytes 229) (once_probing 1)
 unfolding once_probing
-probing_0 = record { answer = inl refl; end = refl; control = still_steady; heard = counts_so worked_policies (asking_start 10000000) (asks_at Client 0) (gives_bytes 145); openings = tt; others = refl; lacking = tt }
+probing_0 = record { answer = inl refl; end = refl; control = still_steady; heard = counts_so worked_policies (asking_start 10000000) (asks_at Client 0) (gives_bytes 229); openings = tt; others = refl; lacking = tt }
 
 pub probing_1 : IsStep worked_policies (once_probing 1) (serves Client 1024000000) (answers.Timeout (Ok tt)) (once_probing 2)
 unfolding once_probing
 probing_1 = record { answer = inl refl; end = refl; control = still_steady; heard = counts_so worked_policies (once_probing 1) (serves Client 1024000000) (answers.Timeout (Ok tt)); openings = tt; others = refl; lacking = tt }
 
-probing_2 : IsStep worked_policies (once_probing 2) (asks_at Client 1024000000) (gives_bytes 146) (once_probing 3)
+probing_2 : IsStep worked_policies (once_probing 2) (asks_at Client 1024000000) (gives_bytes 230) (once_probing 3)
 unfolding once_probing
-probing_2 = record { answer = inl refl; end = refl; control = still_steady; heard = counts_so worked_policies (once_probing 2) (asks_at Client 1024000000) (gives_bytes 146); openings = tt; others = refl; lacking = tt }
+probing_2 = record { answer = inl refl; end = refl; control = still_steady; heard = counts_so worked_policies (once_probing 2) (asks_at Client 1024000000) (gives_bytes 230); openings = tt; others = refl; lacking = tt }
 
 probing_3 : IsStep worked_policies (once_probing 3) (comes_there 1 1030000000) (answers.Deliver receives.Taken) (once_probing 4)
 unfolding once_probing

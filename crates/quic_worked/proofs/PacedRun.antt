@@ -36,9 +36,9 @@ holds : IsStep worked_policies (once_paced 2) (asks_at Client 0) gives_nothing (
 unfolding once_paced
 holds = record { answer = inl refl; end = refl; control = refl; heard = counts_so worked_policies (once_paced 2) (asks_at Client 0) gives_nothing; openings = tt; others = refl; lacking = tt }
 
-gives : IsStep worked_policies (once_paced 3) (asks_at Client full_again) (gives_bytes 146) (once_paced 4)
+gives : IsStep worked_policies (once_paced 3) (asks_at Client full_again) (gives_bytes 230) (once_paced 4)
 unfolding once_paced
-gives = record { answer = inl refl; end = refl; control = refl; heard = counts_so worked_policies (once_paced 3) (asks_at Client full_again) (gives_bytes 146); openings = tt; others = refl; lacking = tt }
+gives = record { answer = inl refl; end = refl; control = refl; heard = counts_so worked_policies (once_paced 3) (asks_at Client full_again) (gives_bytes 230); openings = tt; others = refl; lacking = tt }
 
 opened_seen : record { client = open_view; server = server_open } ≡ view_of (once_paced 1)
 unfolding once_paced
@@ -109,7 +109,7 @@ word_sent = record {
   reference = 0;
   frames = behind_ids (stream (record { id = 0; offset = 0; fin = false; bytes = hello }) ∷ []);
   moment = full_again;
-  size = 146;
+  size = 230;
 }
 
 word_went : sents_until paced_run Client 4 ≡ sents_until paced_run Client 3 ++ word_sent ∷ []
@@ -119,7 +119,7 @@ word_went = refl
 pub goes_then : GaveAsking paced_run Client 3 full_again
 goes_then = record {
   one = record {
-    transmit = record { size = 146; ecn = Some Ect0 };
+    transmit = record { size = 230; ecn = Some Ect0 };
     poll = record { event = refl; answer = refl };
     served = refl;
     sent = word_sent;
@@ -130,7 +130,7 @@ goes_then = record {
 
 -- ---- what goes wrong
 
-pub gives_no : (next : World) → IsStep worked_policies (once_paced 2) (asks_at Client 0) (gives_bytes 146) next → ⊥
+pub gives_no : (next : World) → IsStep worked_policies (once_paced 2) (asks_at Client 0) (gives_bytes 230) next → ⊥
 unfolding once_paced
 gives_no next step = elim (step.answer) [ inl e ↦ cc | inr e ↦ cc ]
 
@@ -164,7 +164,7 @@ pub lists_name_none : named_at paced_run Client 3 full_again ≡ None
 unfolding once_taken
 lists_name_none = refl
 
-pub left_tokens : (pacer_at paced_run Client 4).tokens ≡ 11854
+pub left_tokens : (pacer_at paced_run Client 4).tokens ≡ 11770
 unfolding once_taken
 left_tokens = refl
 
@@ -194,7 +194,7 @@ unfolding once_taken
 soon_went = refl
 
 abbrev soon_gave : GaveAsking unheld_run Client 2 0
-soon_gave = record { one = record { transmit = record { size = 146; ecn = Some Ect0 }; poll = record { event = refl; answer = refl }; served = refl; sent = soon_sent; went = soon_went }; asks = refl }
+soon_gave = record { one = record { transmit = record { size = 230; ecn = Some Ect0 }; poll = record { event = refl; answer = refl }; served = refl; sent = soon_sent; went = soon_went }; asks = refl }
 
 soon_probes : (watch unheld_run Client 2).flight.probes ≡ 0
 soon_probes = refl
@@ -209,9 +209,9 @@ unheld_apart : SearchesApart unheld_run Client
 unheld_apart = tt
 
 pub unheld_paces : PacerIsOfHistory unheld_run → ⊥
-unheld_paces h = not_let unheld_run 2 0 full_again soon_gave unheld_names (λ zeros is. cc) ((h Client 2 (calls.Poll 0) (gives_bytes 146) (record { client = sent_view; server = server_open }) refl (record { event = refl; answer = refl }) refl refl unheld_apart).lets soon_gave soon_probes)
+unheld_paces h = not_let unheld_run 2 0 full_again soon_gave unheld_names (λ zeros is. cc) ((h Client 2 (calls.Poll 0) (gives_bytes 230) (record { client = sent_view; server = server_open }) refl (record { event = refl; answer = refl }) refl refl unheld_apart).lets soon_gave soon_probes)
 
-unheld_refused : IsRefused (once_paced 2) (asks_at Client 0) (gives_bytes 146)
+unheld_refused : IsRefused (once_paced 2) (asks_at Client 0) (gives_bytes 230)
 unfolding once_paced
 unheld_refused (inl e) = cc
 unheld_refused (inr e) = cc
@@ -229,13 +229,13 @@ pub tokens_before : (pacer_at uncharged_run Client 4).tokens ≡ 1200
 unfolding once_scarce
 tokens_before = refl
 
-pub tokens_behind : (pacer_at uncharged_run Client 7).tokens ≡ 924
+pub tokens_behind : (pacer_at uncharged_run Client 7).tokens ≡ 756
 unfolding once_scarce
 tokens_behind = refl
 
--- when its pacer is full: 10858 tokens more
+-- when its pacer is full: 11244 tokens more
 abbrev later : ℕ
-later = 1269887200
+later = 1273616800
 
 again_named : named_at uncharged_run Client 7 first_expiry ≡ Some later
 unfolding once_scarce
@@ -271,21 +271,21 @@ scarce_writes : IsStep worked_policies (once_scarce 1) writes_hello (answers.Wri
 unfolding once_scarce
 scarce_writes = record { answer = inl refl; end = refl; control = refl; heard = counts_so worked_policies (once_scarce 1) writes_hello (answers.Write (Ok 5)); openings = tt; others = refl; lacking = λ lacks. cc }
 
-scarce_gives : IsStep worked_policies (once_scarce 2) (asks_at Client 0) (gives_bytes 146) (once_scarce 3)
+scarce_gives : IsStep worked_policies (once_scarce 2) (asks_at Client 0) (gives_bytes 230) (once_scarce 3)
 unfolding once_scarce
-scarce_gives = record { answer = inl refl; end = refl; control = refl; heard = counts_so worked_policies (once_scarce 2) (asks_at Client 0) (gives_bytes 146); openings = tt; others = refl; lacking = tt }
+scarce_gives = record { answer = inl refl; end = refl; control = refl; heard = counts_so worked_policies (once_scarce 2) (asks_at Client 0) (gives_bytes 230); openings = tt; others = refl; lacking = tt }
 
 scarce_expires : IsStep worked_policies (once_scarce 3) (serves Client first_expiry) (answers.Timeout (Ok tt)) (once_scarce 4)
 unfolding once_scarce
 scarce_expires = record { answer = inl refl; end = refl; control = refl; heard = counts_so worked_policies (once_scarce 3) (serves Client first_expiry) (answers.Timeout (Ok tt)); openings = tt; others = refl; lacking = tt }
 
-scarce_probes : IsStep worked_policies (once_scarce 4) (asks_at Client first_expiry) (gives_bytes 138) (once_scarce 5)
+scarce_probes : IsStep worked_policies (once_scarce 4) (asks_at Client first_expiry) (gives_bytes 222) (once_scarce 5)
 unfolding once_scarce
-scarce_probes = record { answer = inl refl; end = refl; control = refl; heard = counts_so worked_policies (once_scarce 4) (asks_at Client first_expiry) (gives_bytes 138); openings = tt; others = refl; lacking = tt }
+scarce_probes = record { answer = inl refl; end = refl; control = refl; heard = counts_so worked_policies (once_scarce 4) (asks_at Client first_expiry) (gives_bytes 222); openings = tt; others = refl; lacking = tt }
 
-scarce_probes_again : IsStep worked_policies (once_scarce 5) (asks_at Client first_expiry) (gives_bytes 138) (once_scarce 6)
+scarce_probes_again : IsStep worked_policies (once_scarce 5) (asks_at Client first_expiry) (gives_bytes 222) (once_scarce 6)
 unfolding once_scarce
-scarce_probes_again = record { answer = inl refl; end = refl; control = refl; heard = counts_so worked_policies (once_scarce 5) (asks_at Client first_expiry) (gives_bytes 138); openings = tt; others = refl; lacking = tt }
+scarce_probes_again = record { answer = inl refl; end = refl; control = refl; heard = counts_so worked_policies (once_scarce 5) (asks_at Client first_expiry) (gives_bytes 222); openings = tt; others = refl; lacking = tt }
 
 scarce_writes_again : IsStep worked_policies (once_scarce 6) writes_hello (answers.Write (Ok 5)) (once_scarce 7)
 unfolding once_scarce

@@ -206,7 +206,7 @@ first_named : WasNamed (pair_packet ∷ []) 0
 first_named = record { packet = pair_packet; was_taken = inl refl; frame = reset_stream (record { id = 0; code = 7; final_size = 3 }); carried = inl refl; opens = refl }
 
 second_named : WasNamed (pair_packet ∷ []) 4
-second_named = record { packet = pair_packet; was_taken = inl refl; frame = stream (record { id = 4; offset = 0; fin = false; bytes = def }); carried = inr (inr (inr (inr (inr (inl refl))))); opens = refl }
+second_named = record { packet = pair_packet; was_taken = inl refl; frame = stream (record { id = 4; offset = 0; fin = false; bytes = def }); carried = inr (inr (inr (inr (inr (inr (inr (inr (inl refl)))))))); opens = refl }
 
 first_took : (read : ReadCall) → took (reset_unaccepted read) Server 7 ≡ pair_packet ∷ []
 unfolding pair_taken

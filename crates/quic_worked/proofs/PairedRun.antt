@@ -39,9 +39,9 @@ pub resets : IsStep worked_policies both_written (resets_with 7) (answers.Reset 
 unfolding first_reset
 resets = record { answer = inl refl; end = refl; control = refl; heard = counts_so worked_policies both_written (resets_with 7) (answers.Reset (Ok tt)); openings = tt; others = refl; lacking = λ lacks. cc }
 
-pub gives : IsStep worked_policies first_reset asks_datagram (gives_bytes 148) pair_sent
+pub gives : IsStep worked_policies first_reset asks_datagram (gives_bytes 232) pair_sent
 unfolding pair_sent
-gives = record { answer = inl refl; end = refl; control = refl; heard = counts_so worked_policies first_reset asks_datagram (gives_bytes 148); openings = tt; others = refl; lacking = tt }
+gives = record { answer = inl refl; end = refl; control = refl; heard = counts_so worked_policies first_reset asks_datagram (gives_bytes 232); openings = tt; others = refl; lacking = tt }
 
 pub takes : IsStep worked_policies pair_sent delivers (answers.Deliver receives.Taken) pair_taken
 unfolding pair_taken
@@ -77,9 +77,9 @@ pub stops : IsStep worked_policies second_read stops_second (answers.Stop (Ok tt
 unfolding second_stopped
 stops = record { answer = inl refl; end = refl; control = refl; heard = counts_so worked_policies second_read stops_second (answers.Stop (Ok tt)); openings = tt; others = refl; lacking = λ lacks. cc }
 
-pub gives_stop : IsStep worked_policies second_stopped asks_server (gives_bytes 146) stop_sent
+pub gives_stop : IsStep worked_policies second_stopped asks_server (gives_bytes 230) stop_sent
 unfolding stop_sent
-gives_stop = record { answer = inl refl; end = refl; control = refl; heard = counts_so worked_policies second_stopped asks_server (gives_bytes 146); openings = tt; others = refl; lacking = tt }
+gives_stop = record { answer = inl refl; end = refl; control = refl; heard = counts_so worked_policies second_stopped asks_server (gives_bytes 230); openings = tt; others = refl; lacking = tt }
 
 pub takes_stop : IsStep worked_policies stop_sent client_hears (answers.Deliver receives.Taken) stop_taken
 unfolding stop_taken

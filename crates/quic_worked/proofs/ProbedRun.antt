@@ -39,9 +39,9 @@ expires : IsStep worked_policies pair_sent (serves Client 1024000000) (answers.T
 unfolding once_probed
 expires = record { answer = inl refl; end = refl; control = refl; heard = counts_so worked_policies pair_sent (serves Client 1024000000) (answers.Timeout (Ok tt)); openings = tt; others = refl; lacking = tt }
 
-probes : IsStep worked_policies (once_probed 1) (asks_at Client 1024000000) (gives_bytes 142) (once_probed 2)
+probes : IsStep worked_policies (once_probed 1) (asks_at Client 1024000000) (gives_bytes 226) (once_probed 2)
 unfolding once_probed
-probes = record { answer = inl refl; end = refl; control = refl; heard = counts_so worked_policies (once_probed 1) (asks_at Client 1024000000) (gives_bytes 142); openings = tt; others = refl; lacking = tt }
+probes = record { answer = inl refl; end = refl; control = refl; heard = counts_so worked_policies (once_probed 1) (asks_at Client 1024000000) (gives_bytes 226); openings = tt; others = refl; lacking = tt }
 
 expired_seen : shown_with (Some 2048000000) ≡ view_of (once_probed 1)
 unfolding once_probed

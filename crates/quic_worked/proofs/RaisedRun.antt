@@ -62,9 +62,9 @@ loses : IsStep worked_policies third_named ack_comes (answers.Deliver receives.T
 unfolding limit_lost
 loses = record { answer = inl refl; end = refl; control = refl; heard = counts_so worked_policies third_named ack_comes (answers.Deliver receives.Taken); openings = tt; others = refl; lacking = tt }
 
-gives_again : IsStep worked_policies limit_lost server_polled (gives_unmarked 145) limit_again
+gives_again : IsStep worked_policies limit_lost server_polled (gives_unmarked 229) limit_again
 unfolding limit_again
-gives_again = record { answer = inl refl; end = refl; control = refl; heard = counts_so worked_policies limit_lost server_polled (gives_unmarked 145); openings = tt; others = refl; lacking = tt }
+gives_again = record { answer = inl refl; end = refl; control = refl; heard = counts_so worked_policies limit_lost server_polled (gives_unmarked 229); openings = tt; others = refl; lacking = tt }
 
 comes_again : IsStep worked_policies limit_again (comes_to_client 4) (answers.Deliver receives.Taken) limit_came
 unfolding limit_came

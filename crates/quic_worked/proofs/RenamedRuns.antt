@@ -40,13 +40,13 @@ use Rattle.quic_worked.proofs.Steps.{counts_so}
 
 -- ---- the machine's run
 
-pub client_tells : IsStep worked_policies both_steady asks_datagram (gives_bytes 138) (once_renamed 1)
+pub client_tells : IsStep worked_policies both_steady asks_datagram (gives_bytes 222) (once_renamed 1)
 unfolding once_renamed
-client_tells = record { answer = inl refl; end = refl; control = refl; heard = counts_so worked_policies both_steady asks_datagram (gives_bytes 138); openings = tt; others = refl; lacking = tt }
+client_tells = record { answer = inl refl; end = refl; control = refl; heard = counts_so worked_policies both_steady asks_datagram (gives_bytes 222); openings = tt; others = refl; lacking = tt }
 
-pub server_tells : IsStep worked_policies (once_renamed 1) asks_server (gives_bytes 138) (once_renamed 2)
+pub server_tells : IsStep worked_policies (once_renamed 1) asks_server (gives_bytes 222) (once_renamed 2)
 unfolding once_renamed
-server_tells = record { answer = inl refl; end = refl; control = refl; heard = counts_so worked_policies (once_renamed 1) asks_server (gives_bytes 138); openings = tt; others = refl; lacking = tt }
+server_tells = record { answer = inl refl; end = refl; control = refl; heard = counts_so worked_policies (once_renamed 1) asks_server (gives_bytes 222); openings = tt; others = refl; lacking = tt }
 
 pub client_takes : IsStep worked_policies (once_renamed 2) client_hears (answers.Deliver receives.Taken) (once_renamed 3)
 unfolding once_renamed
@@ -148,7 +148,10 @@ none_retires g = go g.sent g.among g.carried
         first (inr (inl e)) = cc
         first (inr (inr (inl e))) = cc
         first (inr (inr (inr (inl e)))) = cc
-        first (inr (inr (inr (inr none)))) = none
+        first (inr (inr (inr (inr (inl e))))) = cc
+        first (inr (inr (inr (inr (inr (inl e)))))) = cc
+        first (inr (inr (inr (inr (inr (inr (inl e))))))) = cc
+        first (inr (inr (inr (inr (inr (inr (inr none))))))) = none
     go s (inr (inl is)) i = second (subst (λ (x : Sent). In (retire_connection_id 1) x.frames) is i)
       where
         second : In (retire_connection_id 1) (second_sent id_word).frames → ⊥
@@ -221,7 +224,10 @@ not_told number t = go t.packet t.was_taken t.carried
         among (inr (inl e)) = other (id_frame 2) 2 refl e
         among (inr (inr (inl e))) = other (id_frame 3) 3 refl e
         among (inr (inr (inr (inl e)))) = other (id_frame 4) 4 refl e
-        among (inr (inr (inr (inr none)))) = none
+        among (inr (inr (inr (inr (inl e))))) = other (id_frame 5) 5 refl e
+        among (inr (inr (inr (inr (inr (inl e)))))) = other (id_frame 6) 6 refl e
+        among (inr (inr (inr (inr (inr (inr (inl e))))))) = other (id_frame 7) 7 refl e
+        among (inr (inr (inr (inr (inr (inr (inr none))))))) = none
 
 pub retired_shows : IdsAreIssued retired_used → ⊥
 retired_shows h = go (h Client 7 (ids_sent ∷ []) [] (second_sent server_id) refl wrong_sent)
@@ -307,7 +313,10 @@ ids_alone (inl e) = cc
 ids_alone (inr (inl e)) = cc
 ids_alone (inr (inr (inl e))) = cc
 ids_alone (inr (inr (inr (inl e)))) = cc
-ids_alone (inr (inr (inr (inr none)))) = none
+ids_alone (inr (inr (inr (inr (inl e))))) = cc
+ids_alone (inr (inr (inr (inr (inr (inl e)))))) = cc
+ids_alone (inr (inr (inr (inr (inr (inr (inl e))))))) = cc
+ids_alone (inr (inr (inr (inr (inr (inr (inr none))))))) = none
 
 ack_alone : In (retire_connection_id 0) acking_sent.frames → ⊥
 ack_alone (inl e) = cc

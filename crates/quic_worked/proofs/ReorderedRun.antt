@@ -35,9 +35,9 @@ opens = record { answer = refl; end = refl; control = refl; heard = counts_so wo
 pub writes_abc : IsStep worked_policies opened (writes_bytes abc) (answers.Write (Ok 3)) first_written
 writes_abc = record { answer = inl refl; end = refl; control = refl; heard = counts_so worked_policies opened (writes_bytes abc) (answers.Write (Ok 3)); openings = tt; others = refl; lacking = λ lacks. cc }
 
-pub gives_abc : IsStep worked_policies first_written asks_datagram (gives_bytes 144) first_sent
+pub gives_abc : IsStep worked_policies first_written asks_datagram (gives_bytes 228) first_sent
 unfolding first_sent
-gives_abc = record { answer = inl refl; end = refl; control = refl; heard = counts_so worked_policies first_written asks_datagram (gives_bytes 144); openings = tt; others = refl; lacking = tt }
+gives_abc = record { answer = inl refl; end = refl; control = refl; heard = counts_so worked_policies first_written asks_datagram (gives_bytes 228); openings = tt; others = refl; lacking = tt }
 
 pub writes_def : IsStep worked_policies first_sent (writes_bytes def) (answers.Write (Ok 3)) second_written
 unfolding first_sent

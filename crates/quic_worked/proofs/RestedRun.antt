@@ -100,9 +100,9 @@ finishes : IsStep worked_policies (once_rested 2) finishes_stream (answers.Finis
 unfolding once_rested
 finishes = record { answer = inl refl; end = refl; control = refl; heard = counts_so worked_policies (once_rested 2) finishes_stream (answers.Finish (Ok tt)); openings = tt; others = refl; lacking = λ lacks. cc }
 
-gives : IsStep worked_policies (once_rested 3) asks_datagram (gives_bytes 146) (once_rested 4)
+gives : IsStep worked_policies (once_rested 3) asks_datagram (gives_bytes 230) (once_rested 4)
 unfolding once_rested
-gives = record { answer = inl refl; end = refl; control = refl; heard = counts_so worked_policies (once_rested 3) asks_datagram (gives_bytes 146); openings = tt; others = refl; lacking = tt }
+gives = record { answer = inl refl; end = refl; control = refl; heard = counts_so worked_policies (once_rested 3) asks_datagram (gives_bytes 230); openings = tt; others = refl; lacking = tt }
 
 takes : IsStep worked_policies (once_rested 4) (comes_at Server 10000000) (answers.Deliver receives.Taken) (once_rested 5)
 unfolding once_rested
@@ -115,9 +115,9 @@ is_due = record { answer = inl refl; end = refl; control = refl; heard = counts_
 pub still_roomy : roomy_control ≡ roomy_control
 still_roomy = refl
 
-answers_it : IsStep worked_policies (once_rested 6) (asks_at Server 35000000) (gives_bytes 144) (once_rested 7)
+answers_it : IsStep worked_policies (once_rested 6) (asks_at Server 35000000) (gives_bytes 228) (once_rested 7)
 unfolding once_rested
-answers_it = record { answer = inl refl; end = refl; control = still_roomy; heard = counts_so worked_policies (once_rested 6) (asks_at Server 35000000) (gives_bytes 144); openings = tt; others = refl; lacking = tt }
+answers_it = record { answer = inl refl; end = refl; control = still_roomy; heard = counts_so worked_policies (once_rested 6) (asks_at Server 35000000) (gives_bytes 228); openings = tt; others = refl; lacking = tt }
 
 is_answered : IsStep worked_policies (once_rested 7) (comes_at Client 40000000) (answers.Deliver receives.Taken) (once_rested 8)
 unfolding once_rested
@@ -246,7 +246,7 @@ took_hello = refl
 
 -- each offset of the word
 pub word_arrived : (offset : ℕ) → offset < 5 → HasArrived both_packets 0 offset
-word_arrived offset below = record { frame = hello_frame; taken = record { packet = hello_packet; was_taken = inr (inl refl); carried = inr (inr (inr (inr (inl refl)))) }; of_stream = refl; from = omega arith; below = below }
+word_arrived offset below = record { frame = hello_frame; taken = record { packet = hello_packet; was_taken = inr (inl refl); carried = inr (inr (inr (inr (inr (inr (inr (inl refl))))))) }; of_stream = refl; from = omega arith; below = below }
 
 pub first_arrived : HasArrived (took rested_run Server 13) 0 0
 first_arrived = subst (λ (ps : List Packet). HasArrived ps 0 0) (sym took_hello) (word_arrived 0 (lit< tt))
@@ -255,7 +255,7 @@ pub last_arrived : HasArrived (took rested_run Server 13) 0 4
 last_arrived = subst (λ (ps : List Packet). HasArrived ps 0 4) (sym took_hello) (word_arrived 4 (lit< tt))
 
 pub end_in_hello : EndHasArrived both_packets 0 5
-end_in_hello = record { frame = hello_frame; taken = record { packet = hello_packet; was_taken = inr (inl refl); carried = inr (inr (inr (inr (inl refl)))) }; of_stream = refl; fin = refl; behind = refl }
+end_in_hello = record { frame = hello_frame; taken = record { packet = hello_packet; was_taken = inr (inl refl); carried = inr (inr (inr (inr (inr (inr (inr (inl refl))))))) }; of_stream = refl; fin = refl; behind = refl }
 
 pub end_arrived : EndHasArrived (took rested_run Server 13) 0 5
 end_arrived = subst (λ (ps : List Packet). EndHasArrived ps 0 5) (sym took_hello) end_in_hello
@@ -316,11 +316,11 @@ unfolding once_rested
 once_expired = ran worked_policies (once_rested 4) (serves Client 1024000000 ∷ []) (answers.Timeout (Ok tt) ∷ [])
 
 -- what it has counted before and behind that: its datagram
-sent_before : (once_rested 4).client_heard ≡ record { received = 0; sent = 146; failures = 0 }
+sent_before : (once_rested 4).client_heard ≡ record { received = 0; sent = 230; failures = 0 }
 unfolding once_rested
 sent_before = refl
 
-sent_behind : once_expired.client_heard ≡ record { received = 0; sent = 146; failures = 0 }
+sent_behind : once_expired.client_heard ≡ record { received = 0; sent = 230; failures = 0 }
 unfolding once_expired
 sent_behind = refl
 
@@ -394,7 +394,7 @@ loss_moment (Some v) = moment_in (loss_timer v Client)
 
 -- the client's datagram, as it was sent
 abbrev hello_sent : SentAs
-hello_sent = record { id = server_id; number = 0; reference = 0; frames = behind_ids (stream hello_frame ∷ []); moment = 0; size = 146 }
+hello_sent = record { id = server_id; number = 0; reference = 0; frames = behind_ids (stream hello_frame ∷ []); moment = 0; size = 230 }
 
 sent_one : sents_until timed_on Client 8 ≡ hello_sent ∷ []
 unfolding client_acked

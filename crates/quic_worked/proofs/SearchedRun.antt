@@ -60,9 +60,9 @@ searched_is_honest = record { start = searched_started; keys = are_keys; ids = o
 
 -- ---- the machine's run
 
-tells_ids : IsStep worked_policies searched_start (asks_at Client 0) (gives_bytes 138) (once_searched 1)
+tells_ids : IsStep worked_policies searched_start (asks_at Client 0) (gives_bytes 222) (once_searched 1)
 unfolding once_searched
-tells_ids = record { answer = inl refl; end = refl; control = still_steady; heard = counts_so worked_policies searched_start (asks_at Client 0) (gives_bytes 138); openings = tt; others = refl; lacking = tt }
+tells_ids = record { answer = inl refl; end = refl; control = still_steady; heard = counts_so worked_policies searched_start (asks_at Client 0) (gives_bytes 222); openings = tt; others = refl; lacking = tt }
 
 probes : IsStep worked_policies (once_searched 1) (asks_at Client 0) (gives_bytes 1326) (once_searched 2)
 unfolding once_searched
@@ -160,11 +160,11 @@ idle : waits (once_searched 1).client ≡ false
 unfolding once_searched
 idle = refl
 
-ids_fly : bytes_flying searched_run Client 1 ≡ 138
+ids_fly : bytes_flying searched_run Client 1 ≡ 222
 unfolding once_searched
 ids_fly = refl
 
-room : (size : ℕ) → 138 + size < 12000 → bytes_flying searched_run Client 1 + size < 12000
+room : (size : ℕ) → 222 + size < 12000 → bytes_flying searched_run Client 1 + size < 12000
 room size fits = subst (λ (n : ℕ). n + size < 12000) (sym ids_fly) fits
 
 is_searched : IsSearched searched_run Client 1 (once_searched 1) (once_searched 2) size_sent
@@ -238,7 +238,7 @@ ack_is_small = (
 
 -- what told the ids, as it was sent
 abbrev ids_sent : Sent
-ids_sent = record { id = server_id; number = 0; reference = 0; frames = id_frames; moment = 0; size = 138 }
+ids_sent = record { id = server_id; number = 0; reference = 0; frames = id_frames; moment = 0; size = 222 }
 
 they_fly : flying searched_run Client 5 ≡ ids_sent ∷ size_sent ∷ []
 unfolding once_searched

@@ -70,9 +70,9 @@ seen_0 : ◌≡◌ {A = View} (record { client = open_view; server = server_open
 unfolding once_skipped
 seen_0 = refl
 
-step_1 : IsStep worked_policies (once_skipped 1) asks_datagram (gives_bytes 139) (once_skipped 2)
+step_1 : IsStep worked_policies (once_skipped 1) asks_datagram (gives_bytes 223) (once_skipped 2)
 unfolding once_skipped
-step_1 = record { answer = inl refl; end = refl; control = refl; heard = counts_so worked_policies (once_skipped 1) asks_datagram (gives_bytes 139); openings = tt; others = refl; lacking = tt }
+step_1 = record { answer = inl refl; end = refl; control = refl; heard = counts_so worked_policies (once_skipped 1) asks_datagram (gives_bytes 223); openings = tt; others = refl; lacking = tt }
 
 seen_1 : ◌≡◌ {A = View} (record { client = sent_view; server = server_open }) (view_of (once_skipped 2))
 unfolding once_skipped
@@ -157,7 +157,7 @@ no_blame = behind refl step_0 (behind refl step_1 (behind refl step_2 (behind re
 -- the last byte of the number in the tag of the first datagram
 abbrev first_byte : List (List ℕ) → ℕ
 first_byte [] = 9
-first_byte (d ∷ ds) = slice_index d 130
+first_byte (d ∷ ds) = slice_index d 214
 
 right_byte : first_byte (once_skipped 2).from_client ≡ 1
 unfolding once_skipped

@@ -23,9 +23,9 @@ expires : IsStep worked_policies once_sent (serves Client 1024000000) (answers.T
 unfolding once_later
 expires = record { answer = inl refl; end = refl; control = refl; heard = counts_so worked_policies once_sent (serves Client 1024000000) (answers.Timeout (Ok tt)); openings = tt; others = refl; lacking = tt }
 
-probes : IsStep worked_policies (once_later 1) (asks_at Client 1024000000) (gives_bytes 138) (once_later 2)
+probes : IsStep worked_policies (once_later 1) (asks_at Client 1024000000) (gives_bytes 222) (once_later 2)
 unfolding once_later
-probes = record { answer = inl refl; end = refl; control = refl; heard = counts_so worked_policies (once_later 1) (asks_at Client 1024000000) (gives_bytes 138); openings = tt; others = refl; lacking = tt }
+probes = record { answer = inl refl; end = refl; control = refl; heard = counts_so worked_policies (once_later 1) (asks_at Client 1024000000) (gives_bytes 222); openings = tt; others = refl; lacking = tt }
 
 takes : IsStep worked_policies (once_later 2) (comes_at Server 1030000000) (answers.Deliver receives.Taken) (once_later 3)
 unfolding once_later

@@ -87,7 +87,7 @@ unfolding once_taken
 untold_heard = refl
 
 word_opens : WasOpened (hello_packet ∷ []) Server Bi 0
-word_opens = record { index = 0; is = refl; above = 0; from = lit≤ tt; named = record { packet = hello_packet; was_taken = inl refl; frame = stream hello_frame; carried = inr (inr (inr (inr (inl refl)))); opens = refl } }
+word_opens = record { index = 0; is = refl; above = 0; from = lit≤ tt; named = record { packet = hello_packet; was_taken = inl refl; frame = stream hello_frame; carried = inr (inr (inr (inr (inr (inr (inr (inl refl))))))); opens = refl } }
 
 none_opens : WasOpened [] Server Bi 0 → ⊥
 none_opens w = w.named.was_taken

@@ -56,9 +56,9 @@ pub opens : IsStep worked_policies far_start opens_stream (answers.Open (Some 0)
 unfolding once_far
 opens = record { answer = refl; end = refl; control = refl; heard = counts_so worked_policies far_start opens_stream (answers.Open (Some 0)); openings = tt; others = refl; lacking = tt }
 
-pub writes : IsStep worked_policies (once_far 1) (writes_bytes (replicate 1060 0x61)) (answers.Write (Ok 1060)) (once_far 2)
+pub writes : IsStep worked_policies (once_far 1) (writes_bytes (replicate 976 0x61)) (answers.Write (Ok 976)) (once_far 2)
 unfolding once_far
-writes = record { answer = inl refl; end = refl; control = refl; heard = counts_so worked_policies (once_far 1) (writes_bytes (replicate 1060 0x61)) (answers.Write (Ok 1060)); openings = tt; others = refl; lacking = λ lacks. cc }
+writes = record { answer = inl refl; end = refl; control = refl; heard = counts_so worked_policies (once_far 1) (writes_bytes (replicate 976 0x61)) (answers.Write (Ok 976)); openings = tt; others = refl; lacking = λ lacks. cc }
 
 pub gives : IsStep worked_policies (once_far 2) asks_datagram (gives_bytes 1200) (once_far 3)
 unfolding once_far
@@ -144,9 +144,9 @@ near_opens : IsStep worked_policies far_start opens_stream (answers.Open (Some 0
 unfolding once_near
 near_opens = record { answer = refl; end = refl; control = refl; heard = counts_so worked_policies far_start opens_stream (answers.Open (Some 0)); openings = tt; others = refl; lacking = tt }
 
-near_writes : IsStep worked_policies (once_near 1) (writes_bytes (replicate 258 0x61)) (answers.Write (Ok 258)) (once_near 2)
+near_writes : IsStep worked_policies (once_near 1) (writes_bytes (replicate 174 0x61)) (answers.Write (Ok 174)) (once_near 2)
 unfolding once_near
-near_writes = record { answer = inl refl; end = refl; control = refl; heard = counts_so worked_policies (once_near 1) (writes_bytes (replicate 258 0x61)) (answers.Write (Ok 258)); openings = tt; others = refl; lacking = λ lacks. cc }
+near_writes = record { answer = inl refl; end = refl; control = refl; heard = counts_so worked_policies (once_near 1) (writes_bytes (replicate 174 0x61)) (answers.Write (Ok 174)); openings = tt; others = refl; lacking = λ lacks. cc }
 
 near_gives : IsStep worked_policies (once_near 2) asks_datagram (gives_bytes 400) (once_near 3)
 unfolding once_near

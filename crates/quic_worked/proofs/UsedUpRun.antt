@@ -32,9 +32,9 @@ writes = record { answer = inl refl; end = refl; control = refl; heard = counts_
 finishes : IsStep worked_policies (ran worked_policies two_left (take 2 last_events) (take 2 last_answers)) finishes_stream (answers.Finish (Ok tt)) last_ended
 finishes = record { answer = inl refl; end = refl; control = refl; heard = counts_so worked_policies (ran worked_policies two_left (take 2 last_events) (take 2 last_answers)) finishes_stream (answers.Finish (Ok tt)); openings = tt; others = refl; lacking = λ lacks. cc }
 
-gives : IsStep worked_policies last_ended asks_datagram (gives_bytes 149) last_given
+gives : IsStep worked_policies last_ended asks_datagram (gives_bytes 233) last_given
 unfolding last_given
-gives = record { answer = inl refl; end = refl; control = refl; heard = counts_so worked_policies last_ended asks_datagram (gives_bytes 149); openings = tt; others = refl; lacking = tt }
+gives = record { answer = inl refl; end = refl; control = refl; heard = counts_so worked_policies last_ended asks_datagram (gives_bytes 233); openings = tt; others = refl; lacking = tt }
 
 pings : IsStep worked_policies last_given asks_ping answers.Ping last_pinged
 unfolding last_given
@@ -151,9 +151,9 @@ early_wrong h = go (subst (λ (n : ℕ). AreUsedUp (2 ^ 31 - 17) n) early_named 
     go (inl many) = omega arith
     go (inr many) = omega arith
 
-gives_ids : IsStep worked_policies three_left asks_datagram (gives_bytes 141) ids_given
+gives_ids : IsStep worked_policies three_left asks_datagram (gives_bytes 225) ids_given
 unfolding ids_given
-gives_ids = record { answer = inl refl; end = refl; control = refl; heard = counts_so worked_policies three_left asks_datagram (gives_bytes 141); openings = tt; others = refl; lacking = tt }
+gives_ids = record { answer = inl refl; end = refl; control = refl; heard = counts_so worked_policies three_left asks_datagram (gives_bytes 225); openings = tt; others = refl; lacking = tt }
 
 pings_behind : IsStep worked_policies ids_given asks_ping answers.Ping ids_pinged
 unfolding ids_given

@@ -31,7 +31,7 @@ number_length : (s y : List ℕ) → length (masked_number s y) ≡ length y
 number_length s y = masked_length y (drop 1 s)
 
 -- sealing adds 16 bytes
-adds_tag : (mark n : ℕ) (h p : List ℕ) → length (marked mark n h p) ≡ length p + 16
+pub adds_tag : (mark n : ℕ) (h p : List ℕ) → length (marked mark n h p) ≡ length p + 16
 adds_tag mark n h p = length-append p (tag_of mark n)
 
 lawful : (own theirs : ℕ) → IsLawful (marking own theirs)
@@ -61,7 +61,7 @@ abbrev same : List ℕ → List ℕ → Bool
 same xs ys = pointwise nat_eq xs ys
 
 -- the number that a tag shows
-number_of : (mark n : ℕ) → n < 2 ^ 62 → from_be_bytes w64 (take 8 (tag_of mark n)) ≡ n
+pub number_of : (mark n : ℕ) → n < 2 ^ 62 → from_be_bytes w64 (take 8 (tag_of mark n)) ≡ n
 number_of mark n lt = from_be_bytes-to_be_bytes_8 n (omega arith)
 
 -- tags of two numbers are two tags

@@ -1,6 +1,7 @@
 -- The worked run, event by event: what each is answered, and what it leaves.
 use Rattle.std.proofs.Common.{◌≡◌, ◌<◌, ℕ, List, [], ◌∷◌, Some, Ok, Bool, true, false, refl, inl, inr, ap, subst, sym, ◌∙◌, lit<, lit≤, arith, ◌++◌}
 use Rattle.quic_wire_core.specs.declared.stream_id.Side.TheVariants.{Client, Server}
+use Rattle.quic_wire_core.specs.declared.shared.EcnCodepoint.TheVariants.{Ect0}
 use Rattle.quic_wire.specs.Value.{FrameValue, stream}
 use Rattle.quic_wire.specs.Grammar.{Numbers, Payload}
 use Rattle.quic_parameters.specs.ParametersRead.{entry_at, whole_at, met_after, met_within, met_in, values_met, judged, parameters_at}
@@ -21,7 +22,7 @@ use Rattle.quic_machine.specs.Lacking.{NextsLack}
 use Rattle.quic_machine.specs.Poll.{IsDatagram}
 use Rattle.quic_headline.specs.Runs.{Packet, WasTaken, HasArrived, EndHasArrived}
 use Rattle.quic_headline.specs.Observer.{took}
-use Rattle.quic_worked.specs.Worked.{with_server, steady, NextAnswers, ReadsAs, ReadsBy, two_chunks, worked_parameters, client_id, server_id, client_made, server_made, started, once_opened, once_written, once_ended, once_sent, once_taken, once_accepted, once_read, hello_frame, hello_payload, hello_datagram, opens_stream, writes_hello, finishes_stream, asks_datagram, delivers, accepts_stream, reads_stream, all_nexts, gives_bytes, worked_policies, worked_events, worked_answers, sent_view, worked_views, worked_run, once_again, shut, id_frame, id_payload, behind_ids, hello_whole, server_open, server_waiting, both_steady}
+use Rattle.quic_worked.specs.Worked.{with_server, steady, NextAnswers, ReadsAs, ReadsBy, two_chunks, parameters_with, worked_parameters, few_kept, few_started, few_ended, client_gives, client_id, server_id, client_made, server_made, started, once_opened, once_written, once_ended, once_sent, once_taken, once_accepted, once_read, hello_frame, hello_payload, hello_datagram, opens_stream, writes_hello, finishes_stream, asks_datagram, delivers, accepts_stream, reads_stream, all_nexts, gives_bytes, worked_policies, worked_events, worked_answers, sent_view, worked_views, worked_run, once_again, shut, id_frame, id_payload, behind_ids, hello_whole, server_open, server_waiting, both_steady}
 use Rattle.quic_worked.proofs.Steps.{server_alone, counts_so}
 
 pub parameters_say : parameters_at worked_parameters ≡ Ok (parameters_of plain_settings)
@@ -46,6 +47,21 @@ steady_is_made =
     subst (λ read. IsMade Server plain_settings steady read server_id client_id 0 true (λ n. 63) both_steady.server)
     (sym parameters_say) refl
 
+few_say : parameters_at (parameters_with 5) ≡ Ok few_kept
+unfolding parameters_at judged values_met met_in met_within met_after whole_at entry_at
+few_say = refl
+
+pub few_is_made : MadeFrom Client plain_settings steady (parameters_with 5) client_id server_id 0 true (λ n. 63)
+    few_started.client
+few_is_made =
+    subst (λ read. IsMade Client plain_settings steady read client_id server_id 0 true (λ n. 63) few_started.client)
+    (sym few_say) refl
+
+-- its first datagram tells four ids
+pub few_given : (client_gives few_ended.client 0).answer ≡ Ok (Some (record { size = 146; ecn = Some Ect0 }))
+unfolding once_taken
+few_given = refl
+
 pub opens : IsStep worked_policies started opens_stream (answers.Open (Some 0)) once_opened
 opens = record { answer = refl; end = refl; control = refl; heard = counts_so worked_policies started opens_stream (answers.Open (Some 0)); openings = tt; others = refl; lacking = tt }
 
@@ -55,9 +71,9 @@ writes = record { answer = inl refl; end = refl; control = refl; heard = counts_
 pub finishes : IsStep worked_policies once_written finishes_stream (answers.Finish (Ok tt)) once_ended
 finishes = record { answer = inl refl; end = refl; control = refl; heard = counts_so worked_policies once_written finishes_stream (answers.Finish (Ok tt)); openings = tt; others = refl; lacking = λ lacks. cc }
 
-pub gives : IsStep worked_policies once_ended asks_datagram (gives_bytes 146) once_sent
+pub gives : IsStep worked_policies once_ended asks_datagram (gives_bytes 230) once_sent
 unfolding once_sent
-gives = record { answer = inl refl; end = refl; control = refl; heard = counts_so worked_policies once_ended asks_datagram (gives_bytes 146); openings = tt; others = refl; lacking = tt }
+gives = record { answer = inl refl; end = refl; control = refl; heard = counts_so worked_policies once_ended asks_datagram (gives_bytes 230); openings = tt; others = refl; lacking = tt }
 
 pub takes : IsStep worked_policies once_sent delivers (answers.Deliver receives.Taken) once_taken
 unfolding once_taken
@@ -218,12 +234,15 @@ id_spelled number below frames rest spelled = (
   refl,
 )
 
--- the payload is the four ids, and the frame behind them
+-- the payload is the seven ids, and the frame behind them
 pub hello_spelled : Payload (behind_ids (stream hello_frame ∷ [])) hello_whole
 hello_spelled =
-    id_spelled 1 (lit< tt) (id_frame 2 ∷ id_frame 3 ∷ id_frame 4 ∷ stream hello_frame ∷ []) (id_payload 2 ++ id_payload 3 ++ id_payload 4 ++ hello_payload)
-    (id_spelled 2 (lit< tt) (id_frame 3 ∷ id_frame 4 ∷ stream hello_frame ∷ []) (id_payload 3 ++ id_payload 4 ++ hello_payload)
-    (id_spelled 3 (lit< tt) (id_frame 4 ∷ stream hello_frame ∷ []) (id_payload 4 ++ hello_payload) (id_spelled 4 (lit< tt) (stream hello_frame ∷ []) hello_payload word_spelled)))
+    id_spelled 1 (lit< tt) (id_frame 2 ∷ id_frame 3 ∷ id_frame 4 ∷ id_frame 5 ∷ id_frame 6 ∷ id_frame 7 ∷ stream hello_frame ∷ []) (id_payload 2 ++ id_payload 3 ++ id_payload 4 ++ id_payload 5 ++ id_payload 6 ++ id_payload 7 ++ hello_payload)
+    (id_spelled 2 (lit< tt) (id_frame 3 ∷ id_frame 4 ∷ id_frame 5 ∷ id_frame 6 ∷ id_frame 7 ∷ stream hello_frame ∷ []) (id_payload 3 ++ id_payload 4 ++ id_payload 5 ++ id_payload 6 ++ id_payload 7 ++ hello_payload)
+    (id_spelled 3 (lit< tt) (id_frame 4 ∷ id_frame 5 ∷ id_frame 6 ∷ id_frame 7 ∷ stream hello_frame ∷ []) (id_payload 4 ++ id_payload 5 ++ id_payload 6 ++ id_payload 7 ++ hello_payload)
+    (id_spelled 4 (lit< tt) (id_frame 5 ∷ id_frame 6 ∷ id_frame 7 ∷ stream hello_frame ∷ []) (id_payload 5 ++ id_payload 6 ++ id_payload 7 ++ hello_payload)
+    (id_spelled 5 (lit< tt) (id_frame 6 ∷ id_frame 7 ∷ stream hello_frame ∷ []) (id_payload 6 ++ id_payload 7 ++ hello_payload)
+    (id_spelled 6 (lit< tt) (id_frame 7 ∷ stream hello_frame ∷ []) (id_payload 7 ++ hello_payload) (id_spelled 7 (lit< tt) (stream hello_frame ∷ []) hello_payload word_spelled))))))
 
 pub hello_is : IsDatagram worked_policies.client 0 0 server_id (behind_ids (stream hello_frame ∷ [])) hello_datagram
 hello_is = record { payload = hello_whole; spells = hello_spelled; is = refl }
@@ -243,7 +262,7 @@ took_hello read = refl
 
 -- its frame was taken
 pub frame_taken : WasTaken (hello_packet ∷ []) hello_frame
-frame_taken = record { packet = hello_packet; was_taken = inl refl; carried = inr (inr (inr (inr (inl refl)))) }
+frame_taken = record { packet = hello_packet; was_taken = inl refl; carried = inr (inr (inr (inr (inr (inr (inr (inl refl))))))) }
 
 byte_arrives : (offset : ℕ) → offset < 5 → HasArrived (hello_packet ∷ []) 0 offset
 byte_arrives offset below = record { frame = hello_frame; taken = frame_taken; of_stream = refl; from = omega arith; below = below }

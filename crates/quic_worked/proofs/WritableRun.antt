@@ -67,7 +67,7 @@ third_seen = refl
 
 follows : (read : ReadCall) → ReadsEight read → Follows worked_policies limited_start (writable_run read).events (writable_run read).answers (writable_run read).views (once_asked 3)
 follows read by =
-    let late : Follows worked_policies limited_read (asks_server ∷ client_hears ∷ client_asks ∷ client_asks ∷ client_asks ∷ []) (gives_bytes 148 ∷ answers.Deliver receives.Taken ∷ tells_again 0 ∷ tells_again 4 ∷ answers.Event None ∷ []) (both_sent ∷ one_heard ∷ one_heard ∷ one_heard ∷ one_heard ∷ []) (once_asked 3) =
+    let late : Follows worked_policies limited_read (asks_server ∷ client_hears ∷ client_asks ∷ client_asks ∷ client_asks ∷ []) (gives_bytes 232 ∷ answers.Deliver receives.Taken ∷ tells_again 0 ∷ tells_again 4 ∷ answers.Event None ∷ []) (both_sent ∷ one_heard ∷ one_heard ∷ one_heard ∷ one_heard ∷ []) (once_asked 3) =
     (limited_given, raises, given_seen, (limited_heard, hears, heard_seen, (once_asked 1, tells_used_up, first_seen, (once_asked 2, tells_blocked, second_seen, (once_asked 3, tells_no_more, third_seen, refl))))) in (
       limited_opened,
       opens,
@@ -186,9 +186,9 @@ own_until_2_seen : both_open ≡ view_of (own_until 3)
 unfolding own_until
 own_until_2_seen = refl
 
-own_until_3 : IsStep worked_policies (own_until 3) asks_datagram (gives_bytes 149) (own_until 4)
+own_until_3 : IsStep worked_policies (own_until 3) asks_datagram (gives_bytes 233) (own_until 4)
 unfolding own_until
-own_until_3 = record { answer = inl refl; end = refl; control = refl; heard = counts_so worked_policies (own_until 3) asks_datagram (gives_bytes 149); openings = tt; others = refl; lacking = tt }
+own_until_3 = record { answer = inl refl; end = refl; control = refl; heard = counts_so worked_policies (own_until 3) asks_datagram (gives_bytes 233); openings = tt; others = refl; lacking = tt }
 
 own_until_3_seen : one_sent ≡ view_of (own_until 4)
 unfolding own_until
@@ -210,9 +210,9 @@ own_until_5_seen : one_taken ≡ view_of (own_until 6)
 unfolding own_until
 own_until_5_seen = refl
 
-own_behind_0 : IsStep worked_policies own_read asks_server (gives_bytes 148) (own_behind 1)
+own_behind_0 : IsStep worked_policies own_read asks_server (gives_bytes 232) (own_behind 1)
 unfolding own_behind
-own_behind_0 = record { answer = inl refl; end = refl; control = refl; heard = counts_so worked_policies own_read asks_server (gives_bytes 148); openings = tt; others = refl; lacking = tt }
+own_behind_0 = record { answer = inl refl; end = refl; control = refl; heard = counts_so worked_policies own_read asks_server (gives_bytes 232); openings = tt; others = refl; lacking = tt }
 
 own_behind_0_seen : both_sent ≡ view_of (own_behind 1)
 unfolding own_behind

@@ -40,9 +40,9 @@ use Rattle.quic_worked.proofs.Steps.{counts_so}
 
 -- ---- lost bytes go again with another last one
 
-gives_again : IsStep worked_policies once_lost client_polled (gives_unmarked 151) again_given
+gives_again : IsStep worked_policies once_lost client_polled (gives_unmarked 235) again_given
 unfolding again_given
-gives_again = record { answer = inl refl; end = refl; control = refl; heard = counts_so worked_policies once_lost client_polled (gives_unmarked 151); openings = tt; others = refl; lacking = tt }
+gives_again = record { answer = inl refl; end = refl; control = refl; heard = counts_so worked_policies once_lost client_polled (gives_unmarked 235); openings = tt; others = refl; lacking = tt }
 
 takes_again : IsStep worked_policies again_given (delivers_at 5) (answers.Deliver receives.Taken) again_taken
 unfolding again_taken
@@ -276,9 +276,9 @@ falls_numbers h =
     let p = h Client 6 refl in
     repeats p.0 p.4.0 p.4.1 (only_word p.4.0 p.4.3)
 
-gives_ping : IsStep worked_policies (after_ping started) asks_datagram (gives_bytes 139) ping_given
+gives_ping : IsStep worked_policies (after_ping started) asks_datagram (gives_bytes 223) ping_given
 unfolding ping_given
-gives_ping = record { answer = inl refl; end = refl; control = refl; heard = counts_so worked_policies (after_ping started) asks_datagram (gives_bytes 139); openings = tt; others = refl; lacking = tt }
+gives_ping = record { answer = inl refl; end = refl; control = refl; heard = counts_so worked_policies (after_ping started) asks_datagram (gives_bytes 223); openings = tt; others = refl; lacking = tt }
 
 opens_then : IsStep worked_policies ping_given opens_stream (answers.Open (Some 0)) (ping_and 1)
 unfolding ping_given

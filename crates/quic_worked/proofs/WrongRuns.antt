@@ -206,7 +206,7 @@ twice_numbers read h =
     let p = h Client 5 refl in
     repeats p.0 p.4.0 p.4.1 (only_number p.4.0 p.4.3)
 
-gives_again_no : IsRefused once_sent asks_datagram (gives_bytes 146)
+gives_again_no : IsRefused once_sent asks_datagram (gives_bytes 230)
 unfolding once_sent
 gives_again_no (inl e) = cc
 gives_again_no (inr e) = cc
@@ -284,7 +284,7 @@ never_four views f = not_four.never views kept_four f refl
 
 -- ---- a wrong record
 
-both_fly : in_flight both_run Client 5 ≡ (0, carrying ids_again 144 0 3 false) ∷ (1, carrying nothing_waits 33 3 6 false) ∷ []
+both_fly : in_flight both_run Client 5 ≡ (0, carrying ids_again 228 0 3 false) ∷ (1, carrying nothing_waits 33 3 6 false) ∷ []
 unfolding once_taken
 both_fly = refl
 
@@ -332,7 +332,7 @@ never_mis views f = not_mis.never views misrecorded f refl
 
 -- ---- a wrong moment
 
-first_flies : (read : ReadCall) → in_flight (sending_run read) Client 4 ≡ (0, carrying ids_again 146 0 5 true) ∷ []
+first_flies : (read : ReadCall) → in_flight (sending_run read) Client 4 ≡ (0, carrying ids_again 230 0 5 true) ∷ []
 unfolding once_taken
 first_flies read = refl
 
@@ -416,12 +416,12 @@ abbrev pub first_size : List (List ℕ) → ℕ
 first_size [] = 0
 first_size (d ∷ ds) = length d
 
-hello_size : first_size once_sent.from_client ≡ 146
+hello_size : first_size once_sent.from_client ≡ 230
 unfolding once_sent
 hello_size = refl
 
 no_size : ([] ∷ []) ≡ once_sent.from_client → ⊥
-no_size e = let clash : ◌≡◌ {A = ℕ} 0 146 = ap first_size e ∙ hello_size in omega (arith, clash)
+no_size e = let clash : ◌≡◌ {A = ℕ} 0 230 = ap first_size e ∙ hello_size in omega (arith, clash)
 
 not_nothing : NeverEnds (λ w. ([] ∷ []) ≡ w.from_client) started sending_events sending_answers
 not_nothing = behind_gives (ends_here no_size)
@@ -437,9 +437,9 @@ opens_second = record { answer = refl; end = refl; control = refl; heard = count
 writes_it : IsStep worked_policies two_opened writes_second (answers.Write (Ok 5)) two_written
 writes_it = record { answer = inl refl; end = refl; control = refl; heard = counts_so worked_policies two_opened writes_second (answers.Write (Ok 5)); openings = tt; others = refl; lacking = λ lacks. cc }
 
-gives_second : IsStep worked_policies two_written asks_datagram (gives_bytes 146) two_sent
+gives_second : IsStep worked_policies two_written asks_datagram (gives_bytes 230) two_sent
 unfolding two_sent
-gives_second = record { answer = inl refl; end = refl; control = refl; heard = counts_so worked_policies two_written asks_datagram (gives_bytes 146); openings = tt; others = refl; lacking = tt }
+gives_second = record { answer = inl refl; end = refl; control = refl; heard = counts_so worked_policies two_written asks_datagram (gives_bytes 230); openings = tt; others = refl; lacking = tt }
 
 takes_second : IsStep worked_policies two_sent delivers (answers.Deliver receives.Taken) two_taken
 unfolding two_taken
@@ -479,7 +479,7 @@ other_packet = record { number = 0; frames = behind_ids (stream other_frame ∷ 
 
 -- it opens stream 4
 other_named : WasNamed (other_packet ∷ []) 4
-other_named = record { packet = other_packet; was_taken = inl refl; frame = stream other_frame; carried = inr (inr (inr (inr (inl refl)))); opens = refl }
+other_named = record { packet = other_packet; was_taken = inl refl; frame = stream other_frame; carried = inr (inr (inr (inr (inr (inr (inr (inl refl))))))); opens = refl }
 
 twice_took : took accepted_twice Server 7 ≡ other_packet ∷ []
 unfolding once_taken

@@ -107,7 +107,7 @@ asked_events =
 -- what that is answered
 abbrev pub asked_answers : List Answer
 asked_answers =
-    gives_bytes 145
+    gives_bytes 229
     ∷ answers.Deliver receives.Taken
     ∷ answers.Timeout (Ok tt)
     ∷ gives_bytes 32
@@ -175,21 +175,21 @@ asks_as size datagram = record asked_run {
 
 -- the request has number 1, though it is the first
 abbrev pub counts_from_one : Run
-counts_from_one = asks_as 145 (first_asking 1 ten_millis)
+counts_from_one = asks_as 229 (first_asking 1 ten_millis)
 
 -- the request is for 20 ms, though 10 ms are configured
 abbrev pub asks_for_twenty : Run
-asks_for_twenty = asks_as 147 (first_asking 0 twenty_millis)
+asks_for_twenty = asks_as 231 (first_asking 0 twenty_millis)
 
 -- the client asks, though it isn't configured to
 abbrev pub asks_unasked : Run
-asks_unasked = let r : Run = asks_as 145 (first_asking 0 ten_millis) in record r { start = asking_start_with plain_settings }
+asks_unasked = let r : Run = asks_as 229 (first_asking 0 ten_millis) in record r { start = asking_start_with plain_settings }
 
 -- the client asks again in the next poll, and nothing has changed
 abbrev pub asks_again : Run
 asks_again = record asked_run {
   events = replicate 2 (asks_at Client 0);
-  answers = gives_bytes 145 ∷ gives_bytes 33 ∷ [];
+  answers = gives_bytes 229 ∷ gives_bytes 33 ∷ [];
   views = replicate 2 (seen_with (Some 1024000000) None);
   from_client = first_asking 0 ten_millis ∷ client_datagram 1 0 (request_payload 1 ten_millis) ∷ [];
   from_server = [];
@@ -201,11 +201,11 @@ again_sent = record { id = server_id; number = 1; reference = 0; frames = ack_fr
 
 -- the client gives its ids without the request
 abbrev pub leaves_request : Run
-leaves_request = asks_as 138 (client_datagram 0 0 ids_payload)
+leaves_request = asks_as 222 (client_datagram 0 0 ids_payload)
 
 -- what it gives
 abbrev pub ids_sent : Sent
-ids_sent = record { id = server_id; number = 0; reference = 0; frames = id_frames; moment = 0; size = 138 }
+ids_sent = record { id = server_id; number = 0; reference = 0; frames = id_frames; moment = 0; size = 222 }
 
 -- the client gives nothing
 abbrev pub withholds_request : Run
@@ -242,7 +242,7 @@ hundred_millis = 0x80 ∷ 0x01 ∷ 0x86 ∷ 0xa0 ∷ []
 -- the client that asks for these gave its datagram
 unfoldable pub once_patient : World
 unfolding once_asked
-once_patient = ran_so_far worked_policies (asking_start 100000000) (asks_at Client 0 ∷ []) (gives_bytes 147 ∷ []) 1
+once_patient = ran_so_far worked_policies (asking_start 100000000) (asks_at Client 0 ∷ []) (gives_bytes 231 ∷ []) 1
 
 -- the run, where the client's loss timer shows this
 abbrev pub patient_until : ℕ → Run
@@ -250,7 +250,7 @@ patient_until due = record {
   keys = worked_policies;
   start = asking_start 100000000;
   events = asks_at Client 0 ∷ [];
-  answers = gives_bytes 147 ∷ [];
+  answers = gives_bytes 231 ∷ [];
   views = seen_with (Some due) None ∷ [];
   from_client = first_asking 0 hundred_millis ∷ [];
   from_server = [];

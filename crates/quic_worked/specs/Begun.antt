@@ -26,7 +26,7 @@ use Rattle.quic_worked.specs.Raised.{raised_run, after_server_ping, third_due}
 
 -- the client is polled, and gives the bytes that it wrote
 abbrev pub sending_seen : ReadCall → Seen
-sending_seen read = seen_at (raised_run read) Client 2 (calls.Poll 0) (gives_bytes 149)
+sending_seen read = seen_at (raised_run read) Client 2 (calls.Poll 0) (gives_bytes 233)
 
 -- the server reads all that came
 abbrev pub reading_seen : ReadCall → Seen
@@ -34,7 +34,7 @@ reading_seen read = seen_at (raised_run read) Server 5 (calls.Read read) (answer
 
 -- it is polled, and says that more may come
 abbrev pub raising_seen : ReadCall → Seen
-raising_seen read = seen_at (raised_run read) Server 6 (calls.Poll 0) (gives_bytes 145)
+raising_seen read = seen_at (raised_run read) Server 6 (calls.Poll 0) (gives_bytes 229)
 
 -- it is asked for PING
 abbrev pub pinging_seen : ReadCall → Seen

@@ -53,7 +53,7 @@ small_parameters window =
     ++ (0x07 ∷ 0x04 ∷ 0x80 ∷ 0x13 ∷ 0x12 ∷ 0xd0 ∷ [])
     ++ (0x08 ∷ 0x02 ∷ 0x40 ∷ 0x64 ∷ [])
     ++ (0x09 ∷ 0x02 ∷ 0x40 ∷ 0x64 ∷ [])
-    ++ (0x0e ∷ 0x01 ∷ 0x05 ∷ [])
+    ++ (0x0e ∷ 0x01 ∷ 0x08 ∷ [])
     ++ (0x20 ∷ 0x04 ∷ 0x80 ∷ 0x00 ∷ 0xff ∷ 0xff ∷ [])
 
 -- both ends, where the server takes so many bytes in all, before anything was given
@@ -76,7 +76,7 @@ left_events = opens_stream ∷ writes_on 0 (eight ++ eight) ∷ asks_datagram �
 
 -- what that is answered
 abbrev pub left_answers : List Answer
-left_answers = answers.Open (Some 0) ∷ answers.Write (Ok 8) ∷ gives_bytes 149 ∷ resting_answers ++ answers.Write (Err write_errors.Blocked) ∷ []
+left_answers = answers.Open (Some 0) ∷ answers.Write (Ok 8) ∷ gives_bytes 233 ∷ resting_answers ++ answers.Write (Err write_errors.Blocked) ∷ []
 
 -- what the first so many of these leave
 unfoldable pub once_left : ℕ → World

@@ -84,7 +84,7 @@ answers_with count done first second id nexts =
     answers.Open (Some 0)
     ∷ answers.Write count
     ∷ answers.Finish done
-    ∷ gives_bytes 146
+    ∷ gives_bytes 230
     ∷ answers.Deliver first
     ∷ answers.Deliver second
     ∷ answers.Accept id
@@ -162,7 +162,7 @@ repeated_number = record {
   keys = worked_policies;
   start = once_ended;
   events = asks_datagram ∷ asks_datagram ∷ [];
-  answers = gives_bytes 146 ∷ gives_bytes 146 ∷ [];
+  answers = gives_bytes 230 ∷ gives_bytes 230 ∷ [];
   views = take 2 worked_views;
   from_client = hello_datagram ∷ hello_datagram ∷ [];
   from_server = [];

@@ -33,7 +33,7 @@ chunked_events buffers = opens_stream ∷ writes_buffers buffers ∷ finishes_st
 -- what is answered, where so many bytes and buffers were
 abbrev pub chunked_with : Written → List Answer
 chunked_with written =
-    answers.Open (Some 0) ∷ answers.WriteChunks (Ok written) ∷ answers.Finish (Ok tt) ∷ gives_bytes 146 ∷ []
+    answers.Open (Some 0) ∷ answers.WriteChunks (Ok written) ∷ answers.Finish (Ok tt) ∷ gives_bytes 230 ∷ []
 
 -- what a write of these buffers leaves
 abbrev pub after_buffers : End → List (List ℕ) → End
@@ -50,7 +50,7 @@ chunks_ended = after_event worked_policies chunks_written finishes_stream (answe
 -- and the datagram given
 unfoldable pub chunks_sent : World
 unfolding once_sent
-chunks_sent = after_event worked_policies chunks_ended asks_datagram (gives_bytes 146)
+chunks_sent = after_event worked_policies chunks_ended asks_datagram (gives_bytes 230)
 
 -- the run, where so many bytes and buffers were accepted: it gives the datagram of the worked run
 abbrev pub chunked_as : Written → Vec (List ℕ) Global → Run

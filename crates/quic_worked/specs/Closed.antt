@@ -43,7 +43,7 @@ refusing error reason = record {
       answers.Open (Some 0)
       ∷ answers.Write (Ok 5)
       ∷ answers.Finish (Ok tt)
-      ∷ gives_bytes 146
+      ∷ gives_bytes 230
       ∷ answers.Deliver (receives.Closed error)
       ∷ [];
   views =
@@ -107,6 +107,10 @@ drains_silently = record {
   from_server = [];
 }
 
+-- a client that fails at its first poll, though no memory lacked
+abbrev pub fails_silently : Run
+fails_silently = record drains_silently { views = record { client = record silent_view { state = states.Failed }; server = server_open } ∷ [] }
+
 -- ---- numbers that are used up
 
 -- both ends, of which the client gives two numbers more at most: no new end is so, which has given
@@ -121,7 +125,7 @@ last_events = sending_events ++ asks_ping ∷ asks_datagram ∷ []
 
 -- for which no number is left: it closes, and gives its close
 abbrev pub last_answers : List Answer
-last_answers = answers.Open (Some 0) ∷ answers.Write (Ok 5) ∷ answers.Finish (Ok tt) ∷ gives_bytes 149 ∷ answers.Ping ∷ gives_bytes 33 ∷ []
+last_answers = answers.Open (Some 0) ∷ answers.Write (Ok 5) ∷ answers.Finish (Ok tt) ∷ gives_bytes 233 ∷ answers.Ping ∷ gives_bytes 33 ∷ []
 
 -- what the events leave
 abbrev pub last_ended : World
@@ -130,7 +134,7 @@ last_ended = ran worked_policies two_left (take 3 last_events) (take 3 last_answ
 -- the datagram is given
 unfoldable pub last_given : World
 unfolding once_sent
-last_given = after_event worked_policies last_ended asks_datagram (gives_bytes 149)
+last_given = after_event worked_policies last_ended asks_datagram (gives_bytes 233)
 
 -- a PING is asked for
 abbrev pub last_pinged : World
@@ -169,12 +173,12 @@ early_events = asks_datagram ∷ asks_ping ∷ asks_datagram ∷ []
 
 -- for which a number is left: it closes all the same, and gives its close
 abbrev pub early_answers : List Answer
-early_answers = gives_bytes 141 ∷ answers.Ping ∷ gives_bytes 33 ∷ []
+early_answers = gives_bytes 225 ∷ answers.Ping ∷ gives_bytes 33 ∷ []
 
 -- its ids are given first
 unfoldable pub ids_given : World
 unfolding once_sent
-ids_given = after_event worked_policies three_left asks_datagram (gives_bytes 141)
+ids_given = after_event worked_policies three_left asks_datagram (gives_bytes 225)
 
 -- a PING is asked for
 abbrev pub ids_pinged : World

@@ -1,6 +1,7 @@
 -- Runs of machines that count no mark, that give a datagram without PING where it is asked for, or
--- none; and one of a server whose timer of acknowledgements is set anew by each packet that asks.
-use Rattle.std.specs.Prelude.{ℕ, List, [], ◌∷◌, ◌++◌, replicate, Some, None}
+-- none; and of servers whose timer of acknowledgements is set anew by each packet that asks, or by
+-- none.
+use Rattle.std.specs.Prelude.{ℕ, List, [], ◌∷◌, ◌++◌, replicate, Option, Some, None}
 use Rattle.quic_wire_core.specs.declared.stream_id.Side.TheVariants.{Server}
 use Rattle.quic_wire.specs.Value.{ping, ack}
 use Rattle.quic_machine.specs.declared.answers.Received.TheVariants as receives
@@ -24,7 +25,7 @@ use Rattle.quic_worked.specs.Hasty.{once_hasty, pings, marked_run, answers_marke
 
 -- the first datagram of the client, which has PING and tells its ids
 abbrev pub first_sent : Sent
-first_sent = record { id = server_id; number = 0; reference = 0; frames = ping ∷ id_frames; moment = 0; size = 139 }
+first_sent = record { id = server_id; number = 0; reference = 0; frames = ping ∷ id_frames; moment = 0; size = 223 }
 
 -- the server's, which acknowledges it, and counts one CE
 abbrev pub marked_sent : Sent
@@ -49,7 +50,7 @@ ping_left = record {
   keys = worked_policies;
   start = started;
   events = ping_events;
-  answers = answers.Ping ∷ gives_bytes 138 ∷ [];
+  answers = answers.Ping ∷ gives_bytes 222 ∷ [];
   views = seen_with None None ∷ seen_with (Some 1024000000) None ∷ [];
   from_client = client_datagram 0 0 ids_payload ∷ [];
   from_server = [];
@@ -57,7 +58,7 @@ ping_left = record {
 
 -- what it gives
 abbrev pub left_sent : Sent
-left_sent = record { id = server_id; number = 0; reference = 0; frames = id_frames; moment = 0; size = 138 }
+left_sent = record { id = server_id; number = 0; reference = 0; frames = id_frames; moment = 0; size = 222 }
 
 -- the client gives nothing
 abbrev pub ping_withheld : Run
@@ -114,3 +115,38 @@ twice_run moment = record {
 -- the timer is set 25 ms behind the second
 abbrev pub timer_moved : Run
 timer_moved = twice_run 26000000
+
+-- ---- one packet that asks
+
+-- a PING of the client goes, and comes
+abbrev pub single_events : List RunEvent
+single_events = ping_events ++ delivers_at 0 ∷ []
+
+-- the answers: it is taken
+abbrev pub single_answers : List Answer
+single_answers = first_ping_answers ++ answers.Deliver receives.Taken ∷ []
+
+-- what it leaves
+unfoldable pub once_single : World
+unfolding once_hasty
+once_single = ran worked_policies (once_hasty 2) (delivers_at 0 ∷ []) (answers.Deliver receives.Taken ∷ [])
+
+-- the run, where the view shows the server's timer so behind it
+abbrev pub single_run : Option ℕ → Run
+single_run moment = record {
+  keys = worked_policies;
+  start = started;
+  events = single_events;
+  answers = single_answers;
+  views = seen_with None None ∷ seen_with (Some 1024000000) None ∷ seen_with (Some 1024000000) moment ∷ [];
+  from_client = pings 1;
+  from_server = [];
+}
+
+-- the timer is set 25 ms behind the packet
+abbrev pub timer_set : Run
+timer_set = single_run (Some 25000000)
+
+-- it isn't set
+abbrev pub timer_unset : Run
+timer_unset = single_run None

@@ -77,7 +77,7 @@ abbrev pub credit_until : List Answer
 credit_until =
     answers.Open (Some 0)
     ∷ answers.Write (Ok 8)
-    ∷ gives_bytes 149
+    ∷ gives_bytes 233
     ∷ answers.Deliver receives.Taken
     ∷ answers.Accept (Some 0)
     ∷ answers.Read (Ok eight_nexts)
@@ -85,7 +85,7 @@ credit_until =
 
 -- and from there on
 abbrev pub credit_answers : List Answer
-credit_answers = credit_until ++ gives_bytes 145 ∷ answers.Deliver receives.Taken ∷ answers.Write (Ok 8) ∷ []
+credit_answers = credit_until ++ gives_bytes 229 ∷ answers.Deliver receives.Taken ∷ answers.Write (Ok 8) ∷ []
 
 -- the client's ids, and STREAM with a length and the eight bytes
 abbrev pub eight_payload : List ℕ
@@ -106,7 +106,7 @@ credit_written = after_event worked_policies credit_opened (writes_on 0 (eight +
 -- they are given
 unfoldable pub credit_sent : World
 unfolding once_sent
-credit_sent = after_event worked_policies credit_written asks_datagram (gives_bytes 149)
+credit_sent = after_event worked_policies credit_written asks_datagram (gives_bytes 233)
 
 -- and taken
 unfoldable pub credit_taken : World
@@ -124,7 +124,7 @@ credit_read = with_server credit_accepted (end_after_reads credit_accepted.serve
 -- the server gives its datagram
 unfoldable pub credit_given : World
 unfolding credit_taken
-credit_given = after_event worked_policies credit_read asks_server (gives_bytes 145)
+credit_given = after_event worked_policies credit_read asks_server (gives_bytes 229)
 
 -- which is taken
 unfoldable pub credit_heard : World
@@ -165,7 +165,7 @@ count_until =
     ∷ answers.Open None
     ∷ answers.Write (Ok 5)
     ∷ answers.Finish (Ok tt)
-    ∷ gives_bytes 146
+    ∷ gives_bytes 230
     ∷ answers.Deliver receives.Taken
     ∷ answers.Accept (Some 2)
     ∷ answers.Read (Ok all_nexts)
@@ -173,7 +173,7 @@ count_until =
 
 -- and from there on
 abbrev pub count_answers : List Answer
-count_answers = count_until ++ gives_bytes 145 ∷ answers.Deliver receives.Taken ∷ answers.Open (Some 6) ∷ []
+count_answers = count_until ++ gives_bytes 229 ∷ answers.Deliver receives.Taken ∷ answers.Open (Some 6) ∷ []
 
 -- the client's ids, and STREAM with a length and the end, stream 2, five bytes
 abbrev pub one_way_payload : List ℕ
@@ -203,7 +203,7 @@ count_ended = after_event worked_policies count_written ends_one_way (answers.Fi
 -- it is given
 unfoldable pub count_sent : World
 unfolding once_sent
-count_sent = after_event worked_policies count_ended asks_datagram (gives_bytes 146)
+count_sent = after_event worked_policies count_ended asks_datagram (gives_bytes 230)
 
 -- and taken
 unfoldable pub count_taken : World
@@ -221,7 +221,7 @@ count_read = with_server count_accepted (end_after_reads count_accepted.server 2
 -- the server gives its datagram
 unfoldable pub count_given : World
 unfolding count_taken
-count_given = after_event worked_policies count_read asks_server (gives_bytes 145)
+count_given = after_event worked_policies count_read asks_server (gives_bytes 229)
 
 -- which is taken
 unfoldable pub count_heard : World

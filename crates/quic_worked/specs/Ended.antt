@@ -111,7 +111,7 @@ idle_events = asks_datagram ∷ serves Client idle_moment ∷ []
 
 -- what that is answered
 abbrev pub idle_answers : List Answer
-idle_answers = gives_bytes 138 ∷ answers.Timeout (Ok tt) ∷ []
+idle_answers = gives_bytes 222 ∷ answers.Timeout (Ok tt) ∷ []
 
 -- what the first so many of these leave
 unfoldable pub once_idle : ℕ → World
@@ -176,7 +176,7 @@ short_run = record {
 -- a client with that key gives its ids, and closes no sooner
 abbrev pub sealed_past : Run
 sealed_past = record short_run {
-  answers = gives_bytes 138 ∷ [];
+  answers = gives_bytes 222 ∷ [];
   views = record { client = sent_view; server = server_open } ∷ [];
   from_client = from_client 0 ids_payload ∷ [];
 }

@@ -60,8 +60,8 @@ ending_events =
 -- what that is answered
 abbrev pub ending_answers : List Answer
 ending_answers =
-    gives_bytes 138
-    ∷ gives_bytes 138
+    gives_bytes 222
+    ∷ gives_bytes 222
     ∷ answers.Close
     ∷ gives_bytes 34
     ∷ answers.Deliver (receives.Dropped drops.Closing)

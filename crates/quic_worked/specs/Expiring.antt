@@ -81,7 +81,7 @@ alive_events = asks_datagram ∷ serves Client 10000000000 ∷ []
 
 -- what that is answered
 abbrev pub alive_answers : List Answer
-alive_answers = gives_bytes 138 ∷ answers.Timeout (Ok tt) ∷ []
+alive_answers = gives_bytes 222 ∷ answers.Timeout (Ok tt) ∷ []
 
 -- what the first so many of these leave
 unfoldable pub once_alive : ℕ → World

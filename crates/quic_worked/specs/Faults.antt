@@ -68,7 +68,7 @@ own_limits = record {
   keys = worked_policies;
   start = limited_start;
   events = opens_stream ∷ writes_on 0 sixteen ∷ asks_datagram ∷ delivers ∷ [];
-  answers = answers.Open (Some 0) ∷ answers.Write (Ok 7) ∷ gives_bytes 148 ∷ answers.Deliver (receives.Closed (plain_error 3)) ∷ [];
+  answers = answers.Open (Some 0) ∷ answers.Write (Ok 7) ∷ gives_bytes 232 ∷ answers.Deliver (receives.Closed (plain_error 3)) ∷ [];
   views =
       replicate 2 both_roomy
       ++ roomy_sent
@@ -93,7 +93,7 @@ one_way_parameters =
     ++ (0x07 ∷ 0x04 ∷ 0x80 ∷ 0x13 ∷ 0x12 ∷ 0xd0 ∷ [])
     ++ (0x08 ∷ 0x02 ∷ 0x40 ∷ 0x64 ∷ [])
     ++ (0x09 ∷ 0x01 ∷ 0x01 ∷ [])
-    ++ (0x0e ∷ 0x01 ∷ 0x05 ∷ [])
+    ++ (0x0e ∷ 0x01 ∷ 0x08 ∷ [])
     ++ (0x20 ∷ 0x04 ∷ 0x80 ∷ 0x00 ∷ 0xff ∷ 0xff ∷ [])
 
 -- both ends, of which the server may open one one-way stream
@@ -115,7 +115,7 @@ one_way_front = opens_one_way ∷ writes_on 2 hello ∷ asks_datagram ∷ delive
 
 -- what that is answered
 abbrev pub one_way_answers : List Answer
-one_way_answers = answers.Open (Some 2) ∷ answers.Write (Ok 5) ∷ gives_bytes 146 ∷ answers.Deliver receives.Taken ∷ []
+one_way_answers = answers.Open (Some 2) ∷ answers.Write (Ok 5) ∷ gives_bytes 230 ∷ answers.Deliver receives.Taken ∷ []
 
 -- the stream is open
 abbrev pub one_way_opened : World
@@ -128,7 +128,7 @@ one_way_written = after_event worked_policies one_way_opened (writes_on 2 hello)
 -- it is given
 unfoldable pub one_way_sent : World
 unfolding once_sent
-one_way_sent = after_event worked_policies one_way_written asks_datagram (gives_bytes 146)
+one_way_sent = after_event worked_policies one_way_written asks_datagram (gives_bytes 230)
 
 -- and taken
 unfoldable pub one_way_taken : World
@@ -173,7 +173,7 @@ below_dropped = record both_run {
 
 -- the client's datagram with another last byte, so that it doesn't open
 abbrev pub spoilt_datagram : List ℕ
-spoilt_datagram = take 145 hello_datagram ++ 0x00 ∷ []
+spoilt_datagram = take 229 hello_datagram ++ 0x00 ∷ []
 
 -- it came to the server, which counts it
 abbrev pub once_spoilt : World
@@ -316,11 +316,11 @@ answered_to count = record {
 
 -- the client writes one byte more than a full datagram takes
 abbrev pub writes_full : RunEvent
-writes_full = writes_bytes (replicate 1061 0x61)
+writes_full = writes_bytes (replicate 977 0x61)
 
 -- they are written
 abbrev pub full_written : World
-full_written = after_event worked_policies once_opened writes_full (answers.Write (Ok 1061))
+full_written = after_event worked_policies once_opened writes_full (answers.Write (Ok 977))
 
 -- a client that gives all of them in a datagram of 1201 bytes, in STREAM without a length
 abbrev pub too_long : Run
@@ -328,12 +328,12 @@ too_long = record {
   keys = worked_policies;
   start = started;
   events = opens_stream ∷ writes_full ∷ asks_datagram ∷ [];
-  answers = answers.Open (Some 0) ∷ answers.Write (Ok 1061) ∷ gives_bytes 1201 ∷ [];
+  answers = answers.Open (Some 0) ∷ answers.Write (Ok 977) ∷ gives_bytes 1201 ∷ [];
   views = replicate 2 both_open ++ one_sent ∷ [];
-  from_client = client_datagram 0 0 (told_ids ((0x08 ∷ 0x00 ∷ []) ++ replicate 1061 0x61)) ∷ [];
+  from_client = client_datagram 0 0 (told_ids ((0x08 ∷ 0x00 ∷ []) ++ replicate 977 0x61)) ∷ [];
   from_server = [];
 }
 
 -- that datagram as it was sent
 abbrev pub long_sent : Sent
-long_sent = record { id = server_id; number = 0; reference = 0; frames = behind_ids (stream (record { id = 0; offset = 0; fin = false; bytes = replicate 1061 0x61 }) ∷ []); moment = 0; size = 1201 }
+long_sent = record { id = server_id; number = 0; reference = 0; frames = behind_ids (stream (record { id = 0; offset = 0; fin = false; bytes = replicate 977 0x61 }) ∷ []); moment = 0; size = 1201 }

@@ -44,13 +44,13 @@ halving_run = record measured_run { start = halving; views = seen_with None None
 -- trip was measured, with three in flight then; and of the losses, by number and by time
 abbrev pub halving_told : List Told
 halving_told =
-    Sent 0 139 0
+    Sent 0 223 0
     ∷ Sent 0 29 1
     ∷ Sent 0 29 2
     ∷ Sent 0 29 3
     ∷ Acked 100000000 0 29 false (assumed_rtt 333000000)
-    ∷ AcksEnded 100000000 197 false (Some 3)
-    ∷ Congested 100000000 0 false 139
+    ∷ AcksEnded 100000000 281 false (Some 3)
+    ∷ Congested 100000000 0 false 223
     ∷ Congested 112500000 0 false 58
     ∷ []
 

@@ -94,15 +94,15 @@ once_held n = ran worked_policies held_start (take n held_events) (take n held_a
 -- the client's ids, and STREAM without a length, so that it goes up to the end of the datagram: on
 -- stream 0, from offset 0 on (RFC 9000, section 19.8)
 abbrev pub first_payload : List ℕ
-first_payload = told_ids ((0x08 ∷ 0x00 ∷ []) ++ replicate 1060 0x61)
+first_payload = told_ids ((0x08 ∷ 0x00 ∷ []) ++ replicate 976 0x61)
 
--- the probes: the ids once more, and STREAM from offset 1060 on, and from 2118 on
+-- the probes: the ids once more, and STREAM from offset 976 on, and from 1950 on
 abbrev pub second_payload : List ℕ
-second_payload = told_ids ((0x0c ∷ 0x00 ∷ 0x44 ∷ 0x24 ∷ []) ++ replicate 1058 0x61)
+second_payload = told_ids ((0x0c ∷ 0x00 ∷ 0x43 ∷ 0xd0 ∷ []) ++ replicate 974 0x61)
 
 -- the second of them
 abbrev pub third_payload : List ℕ
-third_payload = told_ids ((0x0c ∷ 0x00 ∷ 0x48 ∷ 0x46 ∷ []) ++ replicate 1058 0x61)
+third_payload = told_ids ((0x0c ∷ 0x00 ∷ 0x47 ∷ 0x9e ∷ []) ++ replicate 974 0x61)
 
 -- what is seen of both, where the client's loss timer is set so
 abbrev pub held_view : EndView → View
@@ -154,9 +154,9 @@ shrunk_view = record { client = record open_view { window = 1 }; server = server
 abbrev pub shrunk_run : Run
 shrunk_run = record silent_run { views = replicate 3 shrunk_view }
 
--- STREAM from offset 1060 on
+-- STREAM from offset 976 on
 abbrev pub next_payload : List ℕ
-next_payload = (0x0c ∷ 0x00 ∷ 0x44 ∷ 0x24 ∷ []) ++ replicate 1170 0x61
+next_payload = (0x0c ∷ 0x00 ∷ 0x43 ∷ 0xd0 ∷ []) ++ replicate 1170 0x61
 
 -- the client gives a second datagram, though its window is full
 abbrev pub overfull_run : Run
@@ -176,14 +176,14 @@ unprobed_run = record held_run {
   from_client = client_datagram 0 0 first_payload ∷ [];
 }
 
--- a third probe has what is left: PING, and STREAM from offset 3176 on
+-- a third probe has what is left: PING, and STREAM from offset 2924 on
 abbrev pub fourth_payload : List ℕ
-fourth_payload = (0x01 ∷ 0x0c ∷ 0x00 ∷ 0x4c ∷ 0x68 ∷ []) ++ replicate 824 0x61
+fourth_payload = (0x01 ∷ 0x0c ∷ 0x00 ∷ 0x4b ∷ 0x6c ∷ []) ++ replicate 1076 0x61
 
 -- the client's timer expires once, and three probes go past a full window
 abbrev pub third_probe_run : Run
 third_probe_run = record held_run {
-  answers = take 7 held_answers ++ gives_bytes 855 ∷ [];
+  answers = take 7 held_answers ++ gives_bytes 1107 ∷ [];
   from_client = held_run.from_client ++ client_datagram 3 0 fourth_payload ∷ [];
 }
 

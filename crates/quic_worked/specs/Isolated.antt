@@ -21,7 +21,7 @@ use Rattle.quic_worked.specs.Faults.{injects_late}
 -- the client's datagram with another last byte, which stands in its tag: the header is right, and
 -- the key refuses it
 abbrev pub forged_datagram : List ℕ
-forged_datagram = take 145 hello_datagram ++ 0x00 ∷ []
+forged_datagram = take 229 hello_datagram ++ 0x00 ∷ []
 
 -- it is injected at the server at a moment, without a mark
 abbrev pub forges : ℕ → RunEvent
@@ -75,7 +75,7 @@ quiet_run = record noisy_run {
 -- the server has counted as received the bytes of so many datagrams as long as the client's, of
 -- which so many didn't open
 abbrev pub came_in : ℕ → ℕ → World → World
-came_in count failures w = server_counting (record { received = 146 * count; sent = 0; failures = failures }) w
+came_in count failures w = server_counting (record { received = 230 * count; sent = 0; failures = failures }) w
 
 -- all that the noisy run leaves, and the other one
 abbrev pub noisy_left : World
@@ -124,6 +124,6 @@ anew_view = record { client = record open_view { timers = Some 1024000000 ∷ So
 abbrev pub idle_anew : Run
 idle_anew = record idle_run {
   events = asks_datagram ∷ injects_late ∷ asks_idle ∷ [];
-  answers = gives_bytes 138 ∷ too_short ∷ answers.Timer (Some 35000000000) ∷ [];
+  answers = gives_bytes 222 ∷ too_short ∷ answers.Timer (Some 35000000000) ∷ [];
   views = idle_view ∷ replicate 2 anew_view;
 }

@@ -1,6 +1,7 @@
 -- Ends that keep more of what came than they may: each took `hello`, and has settings that let less
--- come, or one thing changed so that it keeps too much.
-use Rattle.std.specs.Prelude.{ℕ, ◌+◌, ◌*◌, List, [], ◌∷◌, map, Some}
+-- come, or one thing changed so that it keeps too much. What they tell too often, and what they seal
+-- as they may or mayn't.
+use Rattle.std.specs.Prelude.{ℕ, ◌+◌, ◌*◌, List, [], ◌∷◌, map, Some, None, Ok}
 use Rattle.std.specs.List.{range_with_len}
 use Rattle.quic_config.specs.Transport.{Settings}
 use Rattle.quic_streams_parts.specs.declared.answers.StreamEvent.TheVariants.{Finished}
@@ -8,13 +9,17 @@ use Rattle.quic_machine.specs.declared.answers.Event.TheVariants as events
 use Rattle.quic_machine.specs.declared.answers.LostReason.TheVariants as reasons
 use Rattle.quic_machine.specs.declared.answers.DropReason.TheVariants as drops
 use Rattle.quic_machine.specs.declared.answers.Received.TheVariants as receives
+use Rattle.quic_machine.specs.declared.answers.Transmit.{Transmit}
+use Rattle.quic_machine.specs.declared.run.CloseCall.{CloseCall}
 use Rattle.quic_machine.specs.declared.run.Call.{Call}
 use Rattle.quic_machine.specs.declared.run.Call.TheVariants as calls
 use Rattle.quic_machine.specs.declared.run.Answer.{Answer}
 use Rattle.quic_machine.specs.declared.run.Answer.TheVariants as answers
 use Rattle.quic_machine.specs.End.{End}
+use Rattle.quic_machine.specs.Policy.{Policy}
 use Rattle.quic_worked.specs.Settings.{plain_settings}
-use Rattle.quic_worked.specs.Worked.{once_taken, issued, delivery}
+use Rattle.quic_worked.specs.Worked.{worked_policies, once_taken, issued, delivery}
+use Rattle.quic_worked.specs.Acknowledged.{client_datagram}
 
 -- an end that took five bytes of a stream, and its FIN
 abbrev pub took_five : End
@@ -56,9 +61,9 @@ two_empty = waits_for ([] ∷ [] ∷ [])
 abbrev pub too_many_runs : End
 too_many_runs = let e : End = took_five in record e { acknowledging = record e.acknowledging { runs = map (λ n. record { start = 2 * n; end = 2 * n + 1 }) (range_with_len 0 65) } }
 
--- five ids of the peer are known beside the one in use
+-- eight ids of the peer are known beside the one in use
 abbrev pub too_many_known : End
-too_many_known = let e : End = took_five in record e { ids = record e.ids { peer = record e.ids.peer { later = map (λ n. issued n) (range_with_len 1 5) } } }
+too_many_known = let e : End = took_five in record e { ids = record e.ids { peer = record e.ids.peer { later = map (λ n. issued n) (range_with_len 1 8) } } }
 
 -- ---- what an application is told
 
@@ -93,3 +98,66 @@ finished_twice = answers.Event (Some (events.Stream (Finished 0))) ∷ answers.E
 -- that the end is lost
 abbrev pub lost_twice : List Answer
 lost_twice = answers.Event (Some (events.Lost reasons.Idle)) ∷ answers.Event (Some (events.Lost reasons.Idle)) ∷ []
+
+-- ---- what an end seals
+
+-- three datagrams of the client: number 1 is left out, and the last is cut against number 2, which
+-- its peer named
+abbrev pub sealed_in_turn : List ℕ → List ℕ → List ℕ → List (List ℕ)
+sealed_in_turn first second third = client_datagram 0 0 first ∷ client_datagram 2 0 second ∷ client_datagram 3 2 third ∷ []
+
+-- two under one number, whichever their payloads are
+abbrev pub sealed_under_one : List ℕ → List ℕ → List (List ℕ)
+sealed_under_one first second = client_datagram 0 0 first ∷ client_datagram 0 0 second ∷ []
+
+-- the second goes under the lower number
+abbrev pub sealed_falling : List ℕ → List ℕ → List (List ℕ)
+sealed_falling first second = client_datagram 1 0 first ∷ client_datagram 0 0 second ∷ []
+
+-- the client, whose key seals two packets
+abbrev pub two_seals : Policy
+two_seals = record worked_policies.client { seals = 2 }
+
+-- ---- why an end isn't open
+
+-- a moment, and one call at it
+abbrev pub handles : ℕ → List Call
+handles now = calls.Timeout now ∷ []
+
+abbrev pub handled : List Answer
+handled = answers.Timeout (Ok tt) ∷ []
+
+-- one poll, which gives nothing
+abbrev pub polls_once : ℕ → List Call
+polls_once now = calls.Poll now ∷ []
+
+abbrev pub gave_none : List Answer
+gave_none = answers.Poll (Ok None) ∷ []
+
+-- a datagram is handed in, and is dropped
+abbrev pub hands_one : List Call
+hands_one = calls.Deliver delivery ∷ []
+
+abbrev pub one_dropped : List Answer
+one_dropped = answers.Deliver (receives.Dropped drops.NotOpened) ∷ []
+
+-- the application closes
+abbrev pub closes_it : CloseCall → List Call
+closes_it close = calls.Close close ∷ []
+
+abbrev pub was_closed : List Answer
+was_closed = answers.Close ∷ []
+
+-- two polls, each of which gives a datagram
+abbrev pub polls_twice : ℕ → List Call
+polls_twice now = calls.Poll now ∷ polls_once now
+
+abbrev pub gave_twice : Transmit → List Answer
+gave_twice t = answers.Poll (Ok (Some t)) ∷ answers.Poll (Ok (Some t)) ∷ []
+
+-- between them a datagram is handed in that opens
+abbrev pub polls_between : ℕ → List Call
+polls_between now = calls.Poll now ∷ calls.Deliver delivery ∷ polls_once now
+
+abbrev pub gave_between : Transmit → List Answer
+gave_between t = answers.Poll (Ok (Some t)) ∷ answers.Deliver (receives.Dropped drops.Closing) ∷ answers.Poll (Ok (Some t)) ∷ []

@@ -24,7 +24,7 @@ naming_events = asks_server ∷ client_hears ∷ uses_next ∷ asks_datagram ∷
 
 -- what that is answered, where asking for the next id is answered so
 abbrev pub naming_answers : Answer → List Answer
-naming_answers a = gives_bytes 138 ∷ answers.Deliver receives.Taken ∷ a ∷ gives_bytes 145 ∷ []
+naming_answers a = gives_bytes 222 ∷ answers.Deliver receives.Taken ∷ a ∷ gives_bytes 229 ∷ []
 
 -- the next id is used
 abbrev pub is_used : Answer
@@ -50,11 +50,11 @@ naming_datagram = sent worked_policies.client.header worked_policies.client.pack
 
 -- as it was sent
 abbrev pub naming_sent : Sent
-naming_sent = record { id = id_word; number = 0; reference = 0; frames = id_frames ++ (second_sent id_word).frames; moment = 0; size = 145 }
+naming_sent = record { id = id_word; number = 0; reference = 0; frames = id_frames ++ (second_sent id_word).frames; moment = 0; size = 229 }
 
 -- the server's datagram as it was sent
 abbrev pub telling_sent : Sent
-telling_sent = record { id = client_id; number = 0; reference = 0; frames = id_frames; moment = 0; size = 138 }
+telling_sent = record { id = client_id; number = 0; reference = 0; frames = id_frames; moment = 0; size = 222 }
 
 -- the run from two ends
 abbrev pub naming_run : World → Run
@@ -103,10 +103,10 @@ made_up = record asking_early { answers = is_used ∷ [] }
 
 -- ---- ends that aren't new
 
--- fifty retirements wait at the client to be told
-abbrev pub fifty_wait : World
-fifty_wait = with_client both_steady (with_frames both_steady.client (record both_steady.client.waiting.frames { retire_cids = replicate 50 0 }))
+-- eighty retirements wait at the client to be told
+abbrev pub eighty_wait : World
+eighty_wait = with_client both_steady (with_frames both_steady.client (record both_steady.client.waiting.frames { retire_cids = replicate 80 0 }))
 
--- the server knows its first id alone, and tells four more
+-- the server knows its first id alone, and tells seven more
 abbrev pub forgetful : World
 forgetful = with_server both_steady (with_ids both_steady.server (record both_steady.server.ids { living = take 1 both_steady.server.ids.living }))

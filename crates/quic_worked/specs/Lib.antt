@@ -47,3 +47,4 @@ pub mod Changed
 pub mod Asking
 pub mod Obeying
 pub mod Hastened
+pub mod Shortened

@@ -45,7 +45,7 @@ narrow_parameters =
     ++ (0x07 ∷ 0x01 ∷ 0x05 ∷ [])
     ++ (0x08 ∷ 0x02 ∷ 0x40 ∷ 0x64 ∷ [])
     ++ (0x09 ∷ 0x02 ∷ 0x40 ∷ 0x64 ∷ [])
-    ++ (0x0e ∷ 0x01 ∷ 0x05 ∷ [])
+    ++ (0x0e ∷ 0x01 ∷ 0x08 ∷ [])
     ++ (0x20 ∷ 0x04 ∷ 0x80 ∷ 0x00 ∷ 0xff ∷ 0xff ∷ [])
 
 -- both, before anything was given
@@ -89,11 +89,11 @@ limited_answers =
     ∷ answers.Write (Ok 5)
     ∷ answers.Write (Ok 2)
     ∷ answers.Write (Err write_errors.Blocked)
-    ∷ gives_bytes 151
+    ∷ gives_bytes 235
     ∷ answers.Deliver receives.Taken
     ∷ answers.Accept (Some 0)
     ∷ answers.Read (Ok hello_nexts)
-    ∷ gives_bytes 148
+    ∷ gives_bytes 232
     ∷ answers.Deliver receives.Taken
     ∷ answers.Write (Ok 5)
     ∷ answers.Write (Ok 1)
@@ -138,7 +138,7 @@ limited_blocked = after_event worked_policies limited_second (writes_on 4 sixtee
 -- the datagram is given
 unfoldable pub limited_sent : World
 unfolding once_sent with_offsets with_range joining pieces
-limited_sent = after_event worked_policies limited_blocked asks_datagram (gives_bytes 151)
+limited_sent = after_event worked_policies limited_blocked asks_datagram (gives_bytes 235)
 
 -- and taken
 unfoldable pub limited_taken : World
@@ -156,7 +156,7 @@ limited_read = with_server limited_accepted (end_after_reads limited_accepted.se
 -- the server gives its datagram
 unfoldable pub limited_given : World
 unfolding limited_taken
-limited_given = after_event worked_policies limited_read asks_server (gives_bytes 148)
+limited_given = after_event worked_policies limited_read asks_server (gives_bytes 232)
 
 -- which is taken
 unfoldable pub limited_heard : World

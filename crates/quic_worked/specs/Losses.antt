@@ -76,7 +76,7 @@ losing_answers =
 
 -- what that is answered where it is the first that goes, which tells the ids behind PING
 abbrev pub first_ping_answers : List Answer
-first_ping_answers = answers.Ping ∷ gives_bytes 139 ∷ []
+first_ping_answers = answers.Ping ∷ gives_bytes 223 ∷ []
 
 -- ---- what they leave
 
@@ -200,14 +200,14 @@ client_polled = record { side = Client; call = calls.Poll 25000000 }
 abbrev pub changed_again : ReadCall → Run
 changed_again read =
     losing_run (client_polled ∷ delivers_at 5 ∷ accepts_stream ∷ reads_stream read ∷ [])
-    (gives_unmarked 151 ∷ answers.Deliver receives.Taken ∷ answers.Accept (Some 0) ∷ answers.Read (Ok (gives_chunk hellp ∷ [])) ∷ [])
+    (gives_unmarked 235 ∷ answers.Deliver receives.Taken ∷ answers.Accept (Some 0) ∷ answers.Read (Ok (gives_chunk hellp ∷ [])) ∷ [])
 
 -- ---- what is lost goes again
 
 -- it gives what was lost
 unfoldable pub again_given : World
 unfolding once_lost
-again_given = after_event worked_policies once_lost client_polled (gives_unmarked 151)
+again_given = after_event worked_policies once_lost client_polled (gives_unmarked 235)
 
 -- which comes
 unfoldable pub again_taken : World

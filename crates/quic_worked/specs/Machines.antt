@@ -85,7 +85,7 @@ long_opens = injecting (injects Server (replicate 1201 0) ∷ []) (answers.Opens
 abbrev pub used_twice : ReadCall → Run
 used_twice read = record (worked_run read) {
   events = sending_events ++ asks_datagram ∷ [];
-  answers = sending_answers ++ gives_bytes 146 ∷ [];
+  answers = sending_answers ++ gives_bytes 230 ∷ [];
   from_client = hello_datagram ∷ hello_datagram ∷ [];
 }
 
@@ -175,7 +175,7 @@ second_answers =
     answers.Open (Some 0)
     ∷ answers.Open (Some 4)
     ∷ answers.Write (Ok 5)
-    ∷ gives_bytes 146
+    ∷ gives_bytes 230
     ∷ answers.Deliver receives.Taken
     ∷ []
 
@@ -190,7 +190,7 @@ two_written = after_event worked_policies two_opened writes_second (answers.Writ
 -- the datagram is given
 unfoldable pub two_sent : World
 unfolding once_sent
-two_sent = after_event worked_policies two_written asks_datagram (gives_bytes 146)
+two_sent = after_event worked_policies two_written asks_datagram (gives_bytes 230)
 
 -- and taken
 unfoldable pub two_taken : World

@@ -85,7 +85,7 @@ tells_message = answers.Event (Some events.Message)
 
 -- what is answered until the datagram came once
 abbrev pub message_front : List Answer
-message_front = is_sent ∷ gives_bytes 144 ∷ answers.Deliver receives.Taken ∷ []
+message_front = is_sent ∷ gives_bytes 228 ∷ answers.Deliver receives.Taken ∷ []
 
 -- the answers: the datagram is dropped when it comes again, and the message is told once and read
 -- once
@@ -221,12 +221,12 @@ lossy_events =
 abbrev pub lossy_answers : List Answer
 lossy_answers =
     is_sent
-    ∷ gives_bytes 144
+    ∷ gives_bytes 228
     ∷ answers.Ping
     ∷ gives_bytes 29
     ∷ answers.Deliver receives.Taken
     ∷ answers.Ping
-    ∷ gives_bytes 144
+    ∷ gives_bytes 228
     ∷ answers.Deliver receives.Taken
     ∷ []
 
@@ -331,7 +331,7 @@ two_events = sends_message ping_message ∷ sends_message pong_message ∷ asks_
 
 -- what that is answered
 abbrev pub two_answers : List Answer
-two_answers = is_sent ∷ is_sent ∷ gives_bytes 150 ∷ []
+two_answers = is_sent ∷ is_sent ∷ gives_bytes 234 ∷ []
 
 -- what the first so many of these leave
 unfoldable pub once_two : ℕ → World
@@ -352,4 +352,4 @@ two_run first second = record {
 
 -- the datagram as it was sent
 abbrev pub two_sent : List ℕ → List ℕ → Sent
-two_sent first second = record { id = server_id; number = 0; reference = 0; frames = behind_ids (datagram first ∷ datagram second ∷ []); moment = 0; size = 150 }
+two_sent first second = record { id = server_id; number = 0; reference = 0; frames = behind_ids (datagram first ∷ datagram second ∷ []); moment = 0; size = 234 }

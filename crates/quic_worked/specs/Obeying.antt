@@ -46,7 +46,7 @@ stale_events =
 -- what that is answered
 abbrev pub stale_answers : List Answer
 stale_answers =
-    gives_bytes 147
+    gives_bytes 231
     ∷ answers.Ping
     ∷ gives_bytes 29
     ∷ answers.Deliver receives.Taken
@@ -125,7 +125,7 @@ probing_events = asks_at Client 0 ∷ serves Client 1024000000 ∷ asks_at Clien
 
 -- what that is answered, with this to the server's poll
 abbrev pub answers_probing : Answer → List Answer
-answers_probing last = gives_bytes 145 ∷ answers.Timeout (Ok tt) ∷ gives_bytes 146 ∷ answers.Deliver receives.Taken ∷ last ∷ []
+answers_probing last = gives_bytes 229 ∷ answers.Timeout (Ok tt) ∷ gives_bytes 230 ∷ answers.Deliver receives.Taken ∷ last ∷ []
 
 -- what the first so many of these leave, where it gives an ACK frame
 unfoldable pub once_probing : ℕ → World

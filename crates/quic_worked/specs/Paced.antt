@@ -36,7 +36,7 @@ paced_events = opens_stream ∷ writes_hello ∷ asks_at Client 0 ∷ asks_at Cl
 
 -- what that is answered
 abbrev pub paced_answers : List Answer
-paced_answers = answers.Open (Some 0) ∷ answers.Write (Ok 5) ∷ gives_nothing ∷ gives_bytes 146 ∷ []
+paced_answers = answers.Open (Some 0) ∷ answers.Write (Ok 5) ∷ gives_nothing ∷ gives_bytes 230 ∷ []
 
 -- what the first so many of these leave
 unfoldable pub once_paced : ℕ → World
@@ -85,7 +85,7 @@ needlessly_paced = with_client once_written (with_pacing_timer once_written.clie
 abbrev pub unheld_run : Run
 unheld_run = record paced_run {
   events = opens_stream ∷ writes_hello ∷ asks_at Client 0 ∷ [];
-  answers = answers.Open (Some 0) ∷ answers.Write (Ok 5) ∷ gives_bytes 146 ∷ [];
+  answers = answers.Open (Some 0) ∷ answers.Write (Ok 5) ∷ gives_bytes 230 ∷ [];
   views = replicate 2 (record { client = open_view; server = server_open }) ++ record { client = sent_view; server = server_open } ∷ [];
 }
 
@@ -95,10 +95,10 @@ unheld_run = record paced_run {
 abbrev pub first_expiry : ℕ
 first_expiry = 1024000000
 
--- both ends, of which the client has tokens for one datagram of 1200 bytes and 146 bytes more, and
+-- both ends, of which the client has tokens for one datagram of 1200 bytes and 230 bytes more, and
 -- gets no others before then
 abbrev pub scarce_start : World
-scarce_start = with_client started (with_tokens 1346 first_expiry started.client)
+scarce_start = with_client started (with_tokens 1430 first_expiry started.client)
 
 -- The client writes the word, and gives it. Its loss timer expires, and two probes go, each with
 -- its ids. It writes the word again, and is asked for a datagram at once.
@@ -119,10 +119,10 @@ abbrev pub scarce_answers : List Answer
 scarce_answers =
     answers.Open (Some 0)
     ∷ answers.Write (Ok 5)
-    ∷ gives_bytes 146
+    ∷ gives_bytes 230
     ∷ answers.Timeout (Ok tt)
-    ∷ gives_bytes 138
-    ∷ gives_bytes 138
+    ∷ gives_bytes 222
+    ∷ gives_bytes 222
     ∷ answers.Write (Ok 5)
     ∷ []
 

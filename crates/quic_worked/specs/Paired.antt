@@ -77,7 +77,7 @@ giving_answers =
     ∷ answers.Write (Ok 3)
     ∷ answers.Write (Ok 3)
     ∷ answers.Reset (Ok tt)
-    ∷ gives_bytes 148
+    ∷ gives_bytes 232
     ∷ []
 
 -- all events
@@ -120,7 +120,7 @@ paired_answers =
     ∷ answers.ReceivedReset (Ok (Some 7))
     ∷ answers.Read (Ok second_nexts)
     ∷ answers.Stop (Ok tt)
-    ∷ gives_bytes 146
+    ∷ gives_bytes 230
     ∷ answers.Deliver receives.Taken
     ∷ tells_stopped
     ∷ answers.Event None
@@ -171,7 +171,7 @@ first_reset = after_event worked_policies both_written (resets_with 7) (answers.
 -- the datagram is given
 unfoldable pub pair_sent : World
 unfolding first_reset once_sent
-pair_sent = after_event worked_policies first_reset asks_datagram (gives_bytes 148)
+pair_sent = after_event worked_policies first_reset asks_datagram (gives_bytes 232)
 
 -- and taken
 unfoldable pub pair_taken : World
@@ -203,7 +203,7 @@ second_stopped = after_event worked_policies second_read stops_second (answers.S
 -- the server gives its datagram
 unfoldable pub stop_sent : World
 unfolding second_stopped
-stop_sent = after_event worked_policies second_stopped asks_server (gives_bytes 146)
+stop_sent = after_event worked_policies second_stopped asks_server (gives_bytes 230)
 
 -- which is taken
 unfoldable pub stop_taken : World

@@ -27,9 +27,9 @@ use Rattle.quic_worked.specs.Timed.{serves, asks_at}
 abbrev pub later_events : List RunEvent
 later_events = serves Client 1024000000 ∷ asks_at Client 1024000000 ∷ []
 
--- the probe has 142 bytes
+-- the probe has 226 bytes
 abbrev pub later_answers : List Answer
-later_answers = answers.Timeout (Ok tt) ∷ gives_bytes 142 ∷ []
+later_answers = answers.Timeout (Ok tt) ∷ gives_bytes 226 ∷ []
 
 -- what the first so many of these leave
 unfoldable pub once_probed : ℕ → World
@@ -88,7 +88,7 @@ the_reset = record ids_again { reset_stream = (0, 7) ∷ [] }
 
 -- the first datagram, of which this has to be sent again, and the probe
 abbrev pub both_with : Retransmits → Table TrackedPacket
-both_with again = (0, telling 148 0 (second_bytes ∷ []) again) ∷ (1, telling 142 1024000000 [] the_reset) ∷ []
+both_with again = (0, telling 232 0 (second_bytes ∷ []) again) ∷ (1, telling 226 1024000000 [] the_reset) ∷ []
 
 -- ---- machines that go wrong there
 

@@ -73,7 +73,7 @@ ping_told = answers.Ping ∷ gives_bytes 32 ∷ []
 abbrev pub losing_told : List Answer
 losing_told =
     credit_until
-    ++ gives_bytes 145
+    ++ gives_bytes 229
     ∷ ping_told
     ++ ping_told
     ++ ping_told
@@ -85,7 +85,7 @@ losing_told =
 
 -- and what all of it is answered
 abbrev pub raised_told : List Answer
-raised_told = losing_told ++ gives_unmarked 145 ∷ answers.Deliver receives.Taken ∷ answers.Write (Ok 8) ∷ []
+raised_told = losing_told ++ gives_unmarked 229 ∷ answers.Deliver receives.Taken ∷ answers.Write (Ok 8) ∷ []
 
 -- ---- what they leave
 
@@ -130,7 +130,7 @@ limit_lost = after_event worked_policies third_named ack_comes (answers.Deliver 
 -- the limit goes again
 unfoldable pub limit_again : World
 unfolding limit_lost
-limit_again = after_event worked_policies limit_lost server_polled (gives_unmarked 145)
+limit_again = after_event worked_policies limit_lost server_polled (gives_unmarked 229)
 
 -- it comes
 unfoldable pub limit_came : World

@@ -37,8 +37,8 @@ renaming_events = asks_datagram ∷ asks_server ∷ client_hears ∷ uses_next �
 -- what that is answered: the last was sent to an id that the server knows no more
 abbrev pub renaming_answers : List Answer
 renaming_answers =
-    gives_bytes 138
-    ∷ gives_bytes 138
+    gives_bytes 222
+    ∷ gives_bytes 222
     ∷ answers.Deliver receives.Taken
     ∷ answers.UseNextId (Ok tt)
     ∷ gives_bytes 33
@@ -85,7 +85,7 @@ renaming_run = renaming_to id_word
 
 -- the first datagram as it was sent
 abbrev pub ids_sent : Sent
-ids_sent = record { id = server_id; number = 0; reference = 0; frames = id_frames; moment = 0; size = 138 }
+ids_sent = record { id = server_id; number = 0; reference = 0; frames = id_frames; moment = 0; size = 222 }
 
 -- the second, to an id
 abbrev pub second_sent : List ℕ → Sent
@@ -130,7 +130,7 @@ old_used = record renaming_run {
 abbrev pub forgets_early : Run
 forgets_early = record renaming_run {
   events = asks_datagram ∷ delivers_at 0 ∷ [];
-  answers = gives_bytes 138 ∷ answers.Deliver (receives.Dropped drops.UnknownId) ∷ [];
+  answers = gives_bytes 222 ∷ answers.Deliver (receives.Dropped drops.UnknownId) ∷ [];
   views = record { client = sent_view; server = open_view } ∷ record { client = sent_view; server = open_view } ∷ [];
   from_client = client_datagram 0 0 ids_payload ∷ [];
   from_server = [];
@@ -142,7 +142,7 @@ client_hears_second = record { side = Client; call = calls.Deliver (record { now
 
 -- two ids more, and an acknowledgement of number 1
 abbrev pub two_payload : List ℕ
-two_payload = id_payload 5 ++ id_payload 6 ++ ack_of_unsent
+two_payload = id_payload 8 ++ id_payload 9 ++ ack_of_unsent
 
 -- a server that issues two ids for the one that is retired, so that its peer is told of one more
 -- than it takes, and closes by CONNECTION_ID_LIMIT_ERROR (section 5.1.1)

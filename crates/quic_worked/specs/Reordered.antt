@@ -62,7 +62,7 @@ abbrev pub both_answers : List Answer
 both_answers =
     answers.Open (Some 0)
     ∷ answers.Write (Ok 3)
-    ∷ gives_bytes 144
+    ∷ gives_bytes 228
     ∷ answers.Write (Ok 3)
     ∷ gives_bytes 33
     ∷ []

@@ -27,7 +27,7 @@ resetting asks told = record {
   keys = worked_policies;
   start = started;
   events = opens_stream ∷ writes_bytes abc ∷ asks_datagram ∷ resets_with 7 ∷ asks_datagram ∷ delivers_at 0 ∷ server_asks ∷ delivers_at 1 ∷ asks;
-  answers = answers.Open (Some 0) ∷ answers.Write (Ok 3) ∷ gives_bytes 144 ∷ answers.Reset (Ok tt) ∷ gives_bytes 30 ∷ answers.Deliver receives.Taken ∷ tells_opened ∷ answers.Deliver receives.Taken ∷ told;
+  answers = answers.Open (Some 0) ∷ answers.Write (Ok 3) ∷ gives_bytes 228 ∷ answers.Reset (Ok tt) ∷ gives_bytes 30 ∷ answers.Deliver receives.Taken ∷ tells_opened ∷ answers.Deliver receives.Taken ∷ told;
   views =
       replicate 2 (record { client = open_view; server = server_open })
       ++ replicate 3 (record { client = sent_view; server = server_open })

@@ -80,7 +80,7 @@ abbrev pub resting_answers : List Answer
 resting_answers =
     answers.Deliver receives.Taken
     ∷ answers.Timeout (Ok tt)
-    ∷ gives_bytes 144
+    ∷ gives_bytes 228
     ∷ answers.Deliver receives.Taken
     ∷ answers.Timeout (Ok tt)
     ∷ gives_unmarked 32

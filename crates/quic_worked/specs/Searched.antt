@@ -47,7 +47,7 @@ searched_events =
 -- what that is answered
 abbrev pub searched_answers : List Answer
 searched_answers =
-    gives_bytes 138
+    gives_bytes 222
     ∷ gives_bytes 1326
     ∷ answers.Deliver receives.Taken
     ∷ answers.Timeout (Ok tt)
@@ -73,11 +73,11 @@ size_sent = record { id = server_id; number = 1; reference = 0; frames = ping �
 -- on; and the ids are in flight
 abbrev pub told_of_size : List congestion.Told
 told_of_size =
-    congestion.Sent 0 138 0
+    congestion.Sent 0 222 0
     ∷ congestion.Sent 0 1326 1
     ∷ congestion.Acked 40000000 0 1326 false (assumed_rtt 333000000)
     ∷ congestion.Resized 1326
-    ∷ congestion.AcksEnded 40000000 138 false (Some 1)
+    ∷ congestion.AcksEnded 40000000 222 false (Some 1)
     ∷ []
 
 -- what is seen of a client with the larger size: what it gave before the probe counts as lost once

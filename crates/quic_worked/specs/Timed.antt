@@ -48,7 +48,7 @@ later_events =
 abbrev pub later_answers : List Answer
 later_answers =
     answers.Timeout (Ok tt)
-    ∷ gives_bytes 138
+    ∷ gives_bytes 222
     ∷ answers.Deliver receives.Taken
     ∷ answers.Timeout (Ok tt)
     ∷ gives_bytes 32

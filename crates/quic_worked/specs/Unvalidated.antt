@@ -37,11 +37,11 @@ far_start = with_server both_steady (new_end Server plain_settings steady (param
 
 -- the client gives a full datagram, which comes to the server; then that is asked for one
 abbrev pub far_events : List RunEvent
-far_events = opens_stream ∷ writes_bytes (replicate 1060 0x61) ∷ asks_datagram ∷ delivers ∷ asks_server ∷ []
+far_events = opens_stream ∷ writes_bytes (replicate 976 0x61) ∷ asks_datagram ∷ delivers ∷ asks_server ∷ []
 
 -- what that is answered
 abbrev pub far_answers : List Answer
-far_answers = answers.Open (Some 0) ∷ answers.Write (Ok 1060) ∷ gives_bytes 1200 ∷ answers.Deliver receives.Taken ∷ gives_bytes 1200 ∷ []
+far_answers = answers.Open (Some 0) ∷ answers.Write (Ok 976) ∷ gives_bytes 1200 ∷ answers.Deliver receives.Taken ∷ gives_bytes 1200 ∷ []
 
 -- what the first so many of these leave
 unfoldable pub once_far : ℕ → World
@@ -51,7 +51,7 @@ once_far n = ran_so_far worked_policies far_start far_events far_answers n
 -- PATH_CHALLENGE of a word of the random source (section 19.17), the server's ids, an
 -- acknowledgement, and PADDING up to 1200 bytes in all
 abbrev pub asking_payload : List ℕ
-asking_payload = (0x1a ∷ id_word) ++ told_ids (ack_at_once ++ replicate 1048 0x00)
+asking_payload = (0x1a ∷ id_word) ++ told_ids (ack_at_once ++ replicate 964 0x00)
 
 -- what is seen of a server that asks its peer to answer within 3072 ms, with the timers of losses
 -- and of acknowledgements set so
@@ -99,11 +99,11 @@ server_closes = record { side = Server; call = calls.Close (record { now = 0; er
 -- the client gives 400 bytes, which come to the server; that is asked for a datagram, and for PING
 -- and one more
 abbrev pub near_events : List RunEvent
-near_events = opens_stream ∷ writes_bytes (replicate 258 0x61) ∷ asks_datagram ∷ delivers ∷ asks_server ∷ server_pings ∷ asks_server ∷ []
+near_events = opens_stream ∷ writes_bytes (replicate 174 0x61) ∷ asks_datagram ∷ delivers ∷ asks_server ∷ server_pings ∷ asks_server ∷ []
 
 -- what that is answered: nothing more may go
 abbrev pub near_answers : List Answer
-near_answers = answers.Open (Some 0) ∷ answers.Write (Ok 258) ∷ gives_bytes 400 ∷ answers.Deliver receives.Taken ∷ gives_bytes 1200 ∷ answers.Ping ∷ gives_nothing ∷ []
+near_answers = answers.Open (Some 0) ∷ answers.Write (Ok 174) ∷ gives_bytes 400 ∷ answers.Deliver receives.Taken ∷ gives_bytes 1200 ∷ answers.Ping ∷ gives_nothing ∷ []
 
 -- what the first so many of these leave
 unfoldable pub once_near : ℕ → World
@@ -112,7 +112,7 @@ once_near n = ran_so_far worked_policies far_start near_events near_answers n
 
 -- the client's ids, and STREAM with a length: on stream 0, from offset 0 on (section 19.8)
 abbrev pub near_payload : List ℕ
-near_payload = told_ids ((0x0a ∷ 0x00 ∷ 0x41 ∷ 0x02 ∷ []) ++ replicate 258 0x61)
+near_payload = told_ids ((0x0a ∷ 0x00 ∷ 0x40 ∷ 0xae ∷ []) ++ replicate 174 0x61)
 
 -- what is seen until the server gave its datagram
 abbrev pub near_views : List View

@@ -11,6 +11,7 @@ use Rattle.quic_wire_core.specs.declared.stream_id.Dir.{Dir}
 use Rattle.quic_wire_core.specs.declared.stream_id.Dir.TheVariants.{Bi}
 use Rattle.quic_wire_core.specs.declared.shared.EcnCodepoint.TheVariants.{Ect0}
 use Rattle.quic_wire_core.specs.declared.shared.IssuedCid.{IssuedCid}
+use Rattle.quic_parameters.specs.Parameters.{ParameterValues}
 use Rattle.quic_config.specs.Transport.{Settings, parameters_of}
 use Rattle.quic_worked.specs.Settings.{plain_settings, search_settings}
 use Rattle.quic_sets.specs.Offsets.{without_offsets, parts_from}
@@ -193,18 +194,22 @@ client_id = replicate 8 0xc0
 abbrev pub server_id : List ℕ
 server_id = replicate 8 0x50
 
--- what each end tells the other: 2^62 - 1 bytes in all, 1250000 on each stream, 100
--- streams of each kind, 5 ids, DATAGRAM frames of 65535 bytes (RFC 9000, section 18.2)
-abbrev pub worked_parameters : List ℕ
-worked_parameters =
+-- what an end tells that keeps so many ids: 2^62 - 1 bytes in all, 1250000 on each stream, 100
+-- streams of each kind, the ids, DATAGRAM frames of 65535 bytes (RFC 9000, section 18.2)
+abbrev pub parameters_with : ℕ → List ℕ
+parameters_with ids =
     (0x04 ∷ 0x08 ∷ 0xff ∷ 0xff ∷ 0xff ∷ 0xff ∷ 0xff ∷ 0xff ∷ 0xff ∷ 0xff ∷ [])
     ++ (0x05 ∷ 0x04 ∷ 0x80 ∷ 0x13 ∷ 0x12 ∷ 0xd0 ∷ [])
     ++ (0x06 ∷ 0x04 ∷ 0x80 ∷ 0x13 ∷ 0x12 ∷ 0xd0 ∷ [])
     ++ (0x07 ∷ 0x04 ∷ 0x80 ∷ 0x13 ∷ 0x12 ∷ 0xd0 ∷ [])
     ++ (0x08 ∷ 0x02 ∷ 0x40 ∷ 0x64 ∷ [])
     ++ (0x09 ∷ 0x02 ∷ 0x40 ∷ 0x64 ∷ [])
-    ++ (0x0e ∷ 0x01 ∷ 0x05 ∷ [])
+    ++ (0x0e ∷ 0x01 ∷ ids ∷ [])
     ++ (0x20 ∷ 0x04 ∷ 0x80 ∷ 0x00 ∷ 0xff ∷ 0xff ∷ [])
+
+-- each end here keeps eight
+abbrev pub worked_parameters : List ℕ
+worked_parameters = parameters_with 8
 
 -- the client before the first event: open at moment 0, on a validated path; of its numbers 63 is
 -- the first that is left out
@@ -230,6 +235,14 @@ started = record {
   server_heard = nothing_heard;
 }
 
+-- what a peer tells that keeps five ids
+abbrev pub few_kept : ParameterValues
+few_kept = record (parameters_of plain_settings) { active_connection_id_limit = 5 }
+
+-- both ends, of which the client has such a peer
+abbrev pub few_started : World
+few_started = record started { client = new_end Client plain_settings steady few_kept client_id server_id 0 true (λ n. 63) }
+
 -- ---- the ids that each end issues at once
 
 -- eight bytes of a word of the random source
@@ -240,9 +253,9 @@ id_word = replicate 7 0x00 ++ 0x3f ∷ []
 abbrev pub issued : ℕ → IssuedCid
 issued number = record { sequence = number; id = id_word; reset_token = id_word ++ id_word }
 
--- those under numbers 1 to 4, as the peer takes five in all
+-- those under numbers 1 to 7, as the peer takes eight in all
 abbrev pub issued_ids : List IssuedCid
-issued_ids = issued 1 ∷ issued 2 ∷ issued 3 ∷ issued 4 ∷ []
+issued_ids = issued 1 ∷ issued 2 ∷ issued 3 ∷ issued 4 ∷ issued 5 ∷ issued 6 ∷ issued 7 ∷ []
 
 -- NEW_CONNECTION_ID of a number, which asks for none to be retired (RFC 9000, section 19.15)
 abbrev pub id_frame : ℕ → FrameValue
@@ -252,13 +265,13 @@ id_frame number = new_connection_id (record { sequence = number; retire_prior_to
 abbrev pub id_payload : ℕ → List ℕ
 id_payload number = 0x18 ∷ number ∷ 0x00 ∷ 0x08 ∷ id_word ++ id_word ++ id_word
 
--- the frames with which an end tells all four, before the bytes of its streams
+-- the frames with which an end tells all seven, before the bytes of its streams
 abbrev pub id_frames : List FrameValue
-id_frames = id_frame 1 ∷ id_frame 2 ∷ id_frame 3 ∷ id_frame 4 ∷ []
+id_frames = id_frame 1 ∷ id_frame 2 ∷ id_frame 3 ∷ id_frame 4 ∷ id_frame 5 ∷ id_frame 6 ∷ id_frame 7 ∷ []
 
--- how they are written: 112 bytes
+-- how they are written: 196 bytes
 abbrev pub ids_payload : List ℕ
-ids_payload = id_payload 1 ++ id_payload 2 ++ id_payload 3 ++ id_payload 4
+ids_payload = id_payload 1 ++ id_payload 2 ++ id_payload 3 ++ id_payload 4 ++ id_payload 5 ++ id_payload 6 ++ id_payload 7
 
 -- the frames of the first packet of an end, which tells its ids before these
 abbrev pub behind_ids : List FrameValue → List FrameValue
@@ -531,7 +544,7 @@ sending_events = opens_stream ∷ writes_hello ∷ finishes_stream ∷ asks_data
 -- their answers
 abbrev pub sending_answers : List Answer
 sending_answers =
-    answers.Open (Some 0) ∷ answers.Write (Ok 5) ∷ answers.Finish (Ok tt) ∷ gives_bytes 146 ∷ []
+    answers.Open (Some 0) ∷ answers.Write (Ok 5) ∷ answers.Finish (Ok tt) ∷ gives_bytes 230 ∷ []
 
 -- all events; `read` asks for two chunks
 abbrev pub worked_events : ReadCall → List RunEvent
@@ -560,6 +573,10 @@ once_written = ran worked_policies started (take 2 sending_events) (take 2 sendi
 -- and the end behind them
 abbrev pub once_ended : World
 once_ended = ran worked_policies started (take 3 sending_events) (take 3 sending_answers)
+
+-- the same of a client whose peer keeps five ids
+abbrev pub few_ended : World
+few_ended = ran worked_policies few_started (take 3 sending_events) (take 3 sending_answers)
 
 -- all is sent, in one datagram
 unfoldable pub once_sent : World

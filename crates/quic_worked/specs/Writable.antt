@@ -71,7 +71,7 @@ own_front = opens_stream ∷ writes_on 0 sixteen ∷ writes_on 0 sixteen ∷ ask
 
 -- the answers to these: five bytes are written, and the second write is blocked
 abbrev pub own_told : List Answer
-own_told = answers.Open (Some 0) ∷ answers.Write (Ok 5) ∷ answers.Write (Err write_errors.Blocked) ∷ gives_bytes 149 ∷ answers.Deliver receives.Taken ∷ answers.Accept (Some 0) ∷ []
+own_told = answers.Open (Some 0) ∷ answers.Write (Ok 5) ∷ answers.Write (Err write_errors.Blocked) ∷ gives_bytes 233 ∷ answers.Deliver receives.Taken ∷ answers.Accept (Some 0) ∷ []
 
 -- once the stream is read, limits are raised, and the client's application asks twice
 abbrev pub own_back : List RunEvent
@@ -79,7 +79,7 @@ own_back = asks_server ∷ client_hears ∷ client_asks ∷ client_asks ∷ []
 
 -- the answers to these: the client is told once that the stream is writable
 abbrev pub told_back : List Answer
-told_back = gives_bytes 148 ∷ answers.Deliver receives.Taken ∷ tells_again 0 ∷ answers.Event None ∷ []
+told_back = gives_bytes 232 ∷ answers.Deliver receives.Taken ∷ tells_again 0 ∷ answers.Event None ∷ []
 
 -- what the first so many leave
 unfoldable pub own_until : ℕ → World

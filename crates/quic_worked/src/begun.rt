@@ -25,8 +25,8 @@ pub fn frames_have_causes()
     ensures response { IsPending (once_answered 1).client Response }
     ensures used { HasCause using_seen (Frame (Retirement 0)) }
     ensures retirement { IsPending (once_renamed 4).client (Frame (Retirement 0)) }
-    ensures retired { HasCause retired_seen (Frame (NewId 5)) }
-    ensures new_id { IsPending (once_renamed 6).server (Frame (NewId 5)) }
+    ensures retired { HasCause retired_seen (Frame (NewId 8)) }
+    ensures new_id { IsPending (once_renamed 6).server (Frame (NewId 8)) }
     ensures challenge { IsPending unanswered_server Challenge }
 {}
 

@@ -164,7 +164,7 @@ pub fn forgotten_bytes_show()
 pub fn forgotten_datagram_shows()
     ensures before { (read : ReadCall) → in_flight (answered_run read) Client 3 ≡ [] }
     ensures given { (read : ReadCall)
-        → in_flight (answered_run read) Client 7 ≡ (0, carrying ids_again 146 0 5 true) ∷ [] }
+        → in_flight (answered_run read) Client 7 ≡ (0, carrying ids_again 230 0 5 true) ∷ [] }
     ensures answered { (read : ReadCall) → in_flight (answered_run read) Client 8 ≡ [] }
     ensures silent { (read : ReadCall)
         → in_flight (answered_run read) Server 8 ≡ (0, acknowledging 25000000 0) ∷ [] }

@@ -153,18 +153,20 @@ pub fn tokens_have_words_of_their_own()
 /// number is left out, and each id draws three.
 pub fn new_ids_differ()
     ensures living { map (λ i. i.id) counting_client.ids.living
-        ≡ client_id ∷ word_bytes 1 ∷ word_bytes 4 ∷ word_bytes 7 ∷ word_bytes 10 ∷ [] }
+        ≡ client_id ∷ word_bytes 1 ∷ word_bytes 4 ∷ word_bytes 7 ∷ word_bytes 10 ∷ word_bytes 13
+        ∷ word_bytes 16 ∷ word_bytes 19 ∷ [] }
     ensures told { map (λ c. c.id) counting_client.waiting.frames.new_cids
-        ≡ word_bytes 1 ∷ word_bytes 4 ∷ word_bytes 7 ∷ word_bytes 10 ∷ [] }
+        ≡ word_bytes 1 ∷ word_bytes 4 ∷ word_bytes 7 ∷ word_bytes 10 ∷ word_bytes 13
+        ∷ word_bytes 16 ∷ word_bytes 19 ∷ [] }
 {}
 
 /// A challenge that wasn't answered in time is followed by one with other data (section 8.2.1):
-/// twelve words went for ids and one for numbers, the next is that of the first challenge, and the
+/// 21 words went for ids and one for numbers, the next is that of the first challenge, and the
 /// one behind it that of the second.
 pub fn second_challenge_differs()
-    ensures first { asking_server.validation.challenge ≡ Some 13 }
-    ensures second { (path_expired counting true asking_server).validation.challenge ≡ Some 14 }
-    ensures waits { (path_expired counting true asking_server).waiting.signals.challenge ≡ Some 14 }
+    ensures first { asking_server.validation.challenge ≡ Some 22 }
+    ensures second { (path_expired counting true asking_server).validation.challenge ≡ Some 23 }
+    ensures waits { (path_expired counting true asking_server).waiting.signals.challenge ≡ Some 23 }
 {}
 
 /// Of two challenges that of the packet with the greater number is answered, whichever comes last.

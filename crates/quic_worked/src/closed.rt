@@ -4,17 +4,19 @@
 ghost use Rattle.std.specs.Prelude.{◌≡◌, ◌-◌, ◌^◌, [], ◌∷◌, Some};
 ghost use Rattle.quic_wire_core.specs.declared.stream_id.Side.TheVariants.{Client, Server};
 ghost use Rattle.quic_machine.specs.declared.run.ReadCall.{ReadCall};
+ghost use Rattle.quic_machine.specs.declared.run.Call.TheVariants as calls;
 ghost use Rattle.quic_machine.specs.declared.run.Answer.TheVariants as answers;
 ghost use Rattle.quic_machine.specs.declared.answers.Received.TheVariants as receives;
 ghost use Rattle.quic_headline.specs.Runs.{until};
 ghost use Rattle.quic_machine.specs.declared.answers.LostReason.TheVariants as reasons;
 ghost use Rattle.quic_headline.specs.Observer.{next_number};
-ghost use Rattle.quic_headline.specs.Headline.{IsRun};
-ghost use Rattle.quic_headline.specs.Reasons.{ClosedHasAReason};
-ghost use Rattle.quic_headline.specs.Causes.{Shows, NoBlame, ordinary, NumberLimit, PacketCame, TooManyPieces, TakenOrTooMany};
-ghost use Rattle.quic_worked.specs.Worked.{worked_policies, worked_run, hello_datagram};
-ghost use Rattle.quic_worked.specs.Broken.{IsNoRun};
-ghost use Rattle.quic_worked.specs.Closed.{below_limits, early_pieces, early_limit, drains_silently, last_run, last_closed, early_last};
+ghost use Rattle.quic_headline.specs.Headline.{IsAt, IsRun};
+ghost use Rattle.quic_headline.specs.Reasons.{ClosedHasAReason, NeverFails};
+ghost use Rattle.quic_headline.specs.Causes.{Shows, NoBlame, ordinary, NumberLimit, came_by, PacketCame, TooManyPieces, TakenOrTooMany};
+ghost use Rattle.quic_headline.specs.Taken.{CameAgain};
+ghost use Rattle.quic_worked.specs.Worked.{worked_policies, worked_run, delivery, hello_datagram};
+ghost use Rattle.quic_worked.specs.Broken.{IsNoRun, duplicate};
+ghost use Rattle.quic_worked.specs.Closed.{below_limits, early_pieces, early_limit, drains_silently, fails_silently, last_run, last_closed, early_last};
 ghost use Rattle.quic_worked.specs.Timed.{NeverShows};
 
 /// In the worked run the packet of the client comes to the server, which takes it.
@@ -23,6 +25,15 @@ pub fn hello_is_taken()
         → (c : PacketCame worked_policies.server (hello_datagram ∷ [])
         (until (worked_run read) Server 8))
         × (c.call.answer ≡ answers.Deliver receives.Taken) }
+{}
+
+/// It comes once more, and the server drops it: by the lists it opens to a number that came before.
+pub fn hello_comes_again()
+    ensures first { (read : ReadCall) → IsAt (worked_run read) 4 Server (calls.Deliver delivery) (answers.Deliver receives.Taken) }
+    ensures second { (read : ReadCall) → IsAt (worked_run read) 5 Server (calls.Deliver delivery) (answers.Deliver duplicate) }
+    ensures again { (read : ReadCall)
+        → CameAgain worked_policies.server (came_by worked_policies.server (hello_datagram ∷ []) (until (worked_run read) Server 5))
+        (answers.Deliver duplicate) hello_datagram }
 {}
 
 /// A machine that refuses bytes below the limits that it told blames the other end, and doesn't
@@ -62,6 +73,13 @@ pub fn silent_end_shows()
     ensures meets { ClosedHasAReason last_run }
     ensures reasons { ClosedHasAReason drains_silently → ⊥ }
     ensures machine { NeverShows drains_silently }
+{}
+
+/// A client that fails at its first poll, which answers that nothing goes, and not that memory ran
+/// out, is none of the machine's.
+pub fn silent_failure_shows()
+    ensures failure { NeverFails fails_silently → ⊥ }
+    ensures machine { NeverShows fails_silently }
 {}
 
 /// A client that may give two numbers more gives one, and closes at the next poll for used-up

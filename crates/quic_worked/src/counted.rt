@@ -1,18 +1,18 @@
-//! Marks that are counted, PING that goes, and a timer that waits for the first packet, computed on
-//! worked runs; and runs of machines that break it. Each function does nothing: its contract is the
-//! law.
+//! Marks that are counted, PING that goes, and a timer that is set for the first packet, computed
+//! on worked runs; and runs of machines that break it. Each function does nothing: its contract is
+//! the law.
 ghost use Rattle.std.specs.Prelude.{◌≡◌, ◌∷◌, [], false, true, Some, None};
 ghost use Rattle.quic_wire_core.specs.declared.stream_id.Side.TheVariants.{Client, Server};
 ghost use Rattle.quic_headline.specs.Runs.{until};
-ghost use Rattle.quic_headline.specs.Headline.{IsHonest};
+ghost use Rattle.quic_headline.specs.Headline.{IsHonest, IsRun};
 ghost use Rattle.quic_headline.specs.Moments.{debt, AckMoments};
-ghost use Rattle.quic_headline.specs.Waited.{wants};
+ghost use Rattle.quic_headline.specs.Waited.{wants, wants_ack, AckTimersAreSet};
 ghost use Rattle.quic_headline.specs.Pings.{PingsGo};
 ghost use Rattle.quic_headline.specs.AckFrames.{counts_told, AcksCountMarks};
 ghost use Rattle.quic_worked.specs.Broken.{IsNoRun};
 ghost use Rattle.quic_worked.specs.Timed.{NeverShows};
 ghost use Rattle.quic_worked.specs.Hasty.{marked_run};
-ghost use Rattle.quic_worked.specs.Counted.{mark_uncounted, ping_left, ping_withheld, timer_moved};
+ghost use Rattle.quic_worked.specs.Counted.{mark_uncounted, ping_left, ping_withheld, timer_moved, once_single, timer_set, timer_unset};
 
 /// A packet that comes with CE is counted once it was taken, and so says the ACK frame. The machine
 /// keeps the clause.
@@ -55,4 +55,24 @@ pub fn moved_timer_shows()
     ensures moments { AckMoments timer_moved → ⊥ }
     ensures honest { IsHonest timer_moved }
     ensures machine { NeverShows timer_moved }
+{}
+
+/// A server that took one packet that asks owes an acknowledgement, and no ACK frame is wanted of
+/// it: its timer is set 25 ms behind that packet. The machine keeps the clause.
+pub fn owed_timer_is_set()
+    ensures owed { (debt timer_set Server 3).deadlines ≡ 25000000 ∷ [] }
+    ensures unwanted { wants_ack timer_set Server 3 ≡ false }
+    ensures timers { AckTimersAreSet timer_set }
+    ensures honest { IsHonest timer_set }
+    ensures run { IsRun timer_set once_single }
+{}
+
+/// A server that owes the same, and whose timer isn't set, breaks the clause. The machine never
+/// shows that.
+pub fn unset_timer_shows()
+    ensures owed { (debt timer_unset Server 3).deadlines ≡ 25000000 ∷ [] }
+    ensures unwanted { wants_ack timer_unset Server 3 ≡ false }
+    ensures timers { AckTimersAreSet timer_unset → ⊥ }
+    ensures honest { IsHonest timer_unset }
+    ensures machine { NeverShows timer_unset }
 {}

@@ -10,6 +10,7 @@ ghost use Rattle.quic_headline.specs.Observer.{sents_until};
 ghost use Rattle.quic_headline.specs.Headline.{IsHonest, IsRun};
 ghost use Rattle.quic_headline.specs.Polls.{GaveOne, seen_at};
 ghost use Rattle.quic_headline.specs.Causes.{Shows};
+ghost use Rattle.quic_headline.specs.Reasons.{NeverFails};
 ghost use Rattle.quic_headline.specs.Expiring.{ClosedTimers, CloseMoments, CloseMomentsStay, DrainsInTime};
 ghost use Rattle.quic_headline.specs.Closes.{SaysWhy, ClosesSayWhy, GaveClose, IsToldAs, PeerClosesCome, owed, ClosesAreOwed, MayClose, OwedClosesGo, DrainedAreSilent};
 ghost use Rattle.quic_worked.specs.Broken.{IsNoRun};
@@ -20,7 +21,7 @@ ghost use Rattle.quic_worked.specs.Ending.{once_silent, ending_run, close_said, 
 
 /// A client whose application closes gives its close once, and once more behind a datagram that
 /// came. The server takes it, and the client is drained three probe timeouts behind (RFC 9000,
-/// section 10.2). The view shows the timer of its close alone until then.
+/// section 10.2). The view shows the timer of its close alone until then. Neither end has failed.
 pub fn close_runs_out()
     ensures honest { IsHonest ending_run }
     ensures run { IsRun ending_run once_silent }
@@ -28,6 +29,7 @@ pub fn close_runs_out()
     ensures moments { CloseMoments ending_run }
     ensures stay { CloseMomentsStay ending_run }
     ensures drains { DrainsInTime ending_run }
+    ensures unfailed { NeverFails ending_run }
 {}
 
 /// The close says what the application said, both times; and the server shows what came.

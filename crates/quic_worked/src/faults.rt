@@ -9,6 +9,7 @@ ghost use Rattle.quic_headline.specs.Runs.{In, until, accepts, WasNamed};
 ghost use Rattle.quic_headline.specs.Observer.{took};
 ghost use Rattle.quic_headline.specs.Amounts.{WritesTakeWhatLimitsAllow};
 ghost use Rattle.quic_headline.specs.Causes.{NoBlame, TakenOrTooMany};
+ghost use Rattle.quic_headline.specs.Taken.{TakenExactly};
 ghost use Rattle.quic_headline.specs.Moments.{LossMoments, LossTimerQuiet, AllNamed};
 ghost use Rattle.quic_headline.specs.Polls.{GaveNothing, IsFull, IsHeldBack};
 ghost use Rattle.quic_headline.specs.Sizes.{DatagramsAreSized};
@@ -66,6 +67,7 @@ pub fn packet_never_opens()
 /// Receiving: a packet is dropped whose number lies below the greatest that came.
 pub fn lower_number_is_dropped()
     ensures taken { TakenOrTooMany below_dropped → ⊥ }
+    ensures again { TakenExactly below_dropped → ⊥ }
     ensures premises { IsHonest below_dropped }
     ensures machine { IsNoRun below_dropped }
 {}
@@ -73,6 +75,7 @@ pub fn lower_number_is_dropped()
 /// Receiving: a number counts as one that came before its packet has opened.
 pub fn unopened_number_is_noted()
     ensures taken { TakenOrTooMany noted_early → ⊥ }
+    ensures again { TakenExactly noted_early → ⊥ }
     ensures premises { IsHonest noted_early }
     ensures machine { IsNoRun noted_early }
 {}

@@ -32,11 +32,11 @@ pub fn window_holds_back()
         ≡ Sent 0 1200 0 ∷ Sent 1024000000 1200 1 ∷ Sent 1024000000 1200 2 ∷ [] }
 {}
 
-/// Where that poll gives nothing, a byte waits: that at offset 1060 was written, and is in no
+/// Where that poll gives nothing, a byte waits: that at offset 976 was written, and is in no
 /// datagram. It is held back, since the window that is seen there has no room.
 pub fn waiting_byte_is_held()
     ensures gave { GaveNothing held_run Client 3 0 full_view }
-    ensures waits { IsByteToGo held_run Client 4 0 1060 }
+    ensures waits { IsByteToGo held_run Client 4 0 976 }
     ensures full { IsFull held_run Client 4 full_view }
 {}
 

@@ -9,16 +9,16 @@ ghost use Rattle.quic_worked.specs.Isolated.{noisy_run, quiet_run, noisy_left, q
 
 /// A forged datagram is refused before and behind the client's own, which comes twice. Less the
 /// forged ones and the second copy it is the run in which the datagram comes once, and both lead to
-/// the same ends, which have counted four datagrams or one: 146 bytes each, of which two didn't
+/// the same ends, which have counted four datagrams or one: 230 bytes each, of which two didn't
 /// open.
 pub fn noise_changes_nothing()
     ensures noisy { IsRun noisy_run noisy_left }
     ensures quiet { IsRun quiet_run quiet_left }
     ensures erased { erased (answered_idle noisy_run) noisy_run ≡ quiet_run }
     ensures same { SameButCounts noisy_left quiet_left }
-    ensures sent { noisy_left.client_heard ≡ record { received = 0; sent = 146; failures = 0 } }
-    ensures counted { noisy_left.server_heard ≡ record { received = 584; sent = 0; failures = 2 } }
-    ensures fewer { quiet_left.server_heard ≡ record { received = 146; sent = 0; failures = 0 } }
+    ensures sent { noisy_left.client_heard ≡ record { received = 0; sent = 230; failures = 0 } }
+    ensures counted { noisy_left.server_heard ≡ record { received = 920; sent = 0; failures = 2 } }
+    ensures fewer { quiet_left.server_heard ≡ record { received = 230; sent = 0; failures = 0 } }
 {}
 
 /// Receiving: the number of a datagram counts as seen before the key opened it, so a forged one

@@ -1,10 +1,21 @@
-//! What an end may keep of what its peer sends, and what it may tell of it; and ends that keep
-//! more, or tell more. Each function does nothing: its contract is the law.
-ghost use Rattle.std.specs.Prelude.{ℕ, List, [], ◌∷◌};
+//! What an end may keep of what its peer sends, what it may tell of it, and what it may seal; and
+//! ends that keep, tell or seal more. Each function does nothing: its contract is the law.
+ghost use Rattle.std.specs.Prelude.{ℕ, List, [], ◌∷◌, ◌≡◌, ◌<◌, ◌≤◌, Some};
+ghost use Rattle.quic_wire_core.specs.TransportError.{ErrorValue};
+ghost use Rattle.quic_machine.specs.declared.answers.State.TheVariants.{Open, Closing, Drained};
+ghost use Rattle.quic_machine.specs.declared.answers.LostReason.TheVariants.{Application, Transport};
+ghost use Rattle.quic_machine.specs.declared.answers.Transmit.{Transmit};
+ghost use Rattle.quic_machine.specs.declared.run.CloseCall.{CloseCall};
+ghost use Rattle.quic_machine.specs.Policy.{Policy};
+ghost use Rattle.quic_headline.specs.Alone.{Lone};
+ghost use Rattle.quic_headline.specs.LoneCloses.{ClosedForCause, DrainedForCause};
+ghost use Rattle.quic_headline.specs.FewCloses.{CloseFew};
 ghost use Rattle.quic_headline.specs.Keeping.{KeepsWithin};
 ghost use Rattle.quic_headline.specs.FewEvents.{TellFew, EventsAreFew};
+ghost use Rattle.quic_headline.specs.Nonces.{SealedOnce};
+ghost use Rattle.quic_worked.specs.Worked.{worked_policies};
 ghost use Rattle.quic_worked.specs.Settings.{plain_settings};
-ghost use Rattle.quic_worked.specs.Kept.{took_five, four_on_a_stream, four_on_all, one_at_once, two_opened, room_of_one, two_bytes, two_empty, too_many_runs, too_many_known, asks_once, told_once, hands_in_before, taken_before, dropped_before, asks_twice, finished_twice, lost_twice};
+ghost use Rattle.quic_worked.specs.Kept.{took_five, four_on_a_stream, four_on_all, one_at_once, two_opened, room_of_one, two_bytes, two_empty, too_many_runs, too_many_known, asks_once, told_once, hands_in_before, taken_before, dropped_before, asks_twice, finished_twice, lost_twice, sealed_in_turn, sealed_under_one, sealed_falling, two_seals, handles, handled, polls_once, gave_none, hands_one, one_dropped, closes_it, was_closed, polls_twice, gave_twice, polls_between, gave_between};
 
 /// An end that took five bytes keeps more than it may where four may come, of a stream or of all;
 /// so does one whose peer has two streams open of which one may be (RFC 9000, sections 4.1 and
@@ -22,7 +33,7 @@ pub fn kept_messages_show()
     ensures empty { KeepsWithin room_of_one two_empty → ⊥ }
 {}
 
-/// 65 runs of numbers to be acknowledged are one more than an end may keep, and so are five
+/// 65 runs of numbers to be acknowledged are one more than an end may keep, and so are eight
 /// connection IDs beside the one in use (RFC 9000, sections 5.1.1 and 13.2.3).
 pub fn kept_numbers_show()
     ensures numbers { KeepsWithin plain_settings too_many_runs → ⊥ }
@@ -39,4 +50,38 @@ pub fn told_too_often_shows()
     ensures dropped { (byte : ℕ) (bytes : List ℕ) → EventsAreFew ((byte ∷ bytes) ∷ []) hands_in_before dropped_before → ⊥ }
     ensures again { EventsAreFew [] asks_twice finished_twice → ⊥ }
     ensures lost { EventsAreFew [] asks_twice lost_twice → ⊥ }
+{}
+
+/// Datagrams under numbers that rise were sealed as they may be, also where one is left out, and
+/// where the peer said what they are cut against. Two that were sealed under one number weren't,
+/// whatever is in them, nor were two of which the second has the lower number; nor was a third, by
+/// a key that seals two (RFC 9000, section 12.3; RFC 9001, sections 5.3 and 6.6).
+pub fn sealed_twice_shows()
+    ensures in_turn { (first second third : List ℕ) → SealedOnce worked_policies.client (sealed_in_turn first second third) }
+    ensures under_one { (first second : List ℕ) → SealedOnce worked_policies.client (sealed_under_one first second) → ⊥ }
+    ensures falling { (first second : List ℕ) → SealedOnce worked_policies.client (sealed_falling first second) → ⊥ }
+    ensures third { (first second third : List ℕ) → SealedOnce two_seals (sealed_in_turn first second third) → ⊥ }
+{}
+
+/// An open end closes for its application where that closes it. One that closes so at a moment, or
+/// for a broken rule at a datagram that it dropped, has no cause (RFC 9000, section 10).
+pub fn closed_without_cause_shows()
+    ensures called { (p : Policy) (theirs : List (List ℕ)) (x left : Lone) (close : CloseCall) → x.end.closing.state ≡ Open → left.end.closing.state ≡ Closing → left.end.closing.reason ≡ Some Application → ClosedForCause p theirs x (closes_it close) was_closed left }
+    ensures uncalled { (p : Policy) (theirs : List (List ℕ)) (x left : Lone) (now : ℕ) → left.end.closing.reason ≡ Some Application → ClosedForCause p theirs x (handles now) handled left → ⊥ }
+    ensures dropped { (p : Policy) (theirs : List (List ℕ)) (x left : Lone) (error : ErrorValue) → left.end.closing.reason ≡ Some (Transport error) → ClosedForCause p theirs x hands_one one_dropped left → ⊥ }
+{}
+
+/// An open end may be drained at the moment of its idle timer. One that is drained before it, or at
+/// a poll, has no cause (RFC 9000, section 10.1).
+pub fn drained_without_cause_shows()
+    ensures idle { (p : Policy) (theirs : List (List ℕ)) (x left : Lone) (moment now : ℕ) → x.end.closing.state ≡ Open → x.end.timers.idle ≡ Some moment → moment ≤ now → DrainedForCause p theirs x (handles now) handled left }
+    ensures early { (p : Policy) (theirs : List (List ℕ)) (x left : Lone) (moment now : ℕ) → x.end.closing.state ≡ Open → x.end.timers.idle ≡ Some moment → x.end.closing.clock < moment → now < moment → left.end.closing.state ≡ Drained → DrainedForCause p theirs x (handles now) handled left → ⊥ }
+    ensures polled { (p : Policy) (theirs : List (List ℕ)) (x left : Lone) (now : ℕ) → left.end.closing.state ≡ Drained → DrainedForCause p theirs x (polls_once now) gave_none left → ⊥ }
+{}
+
+/// A closing end gives its close once more for a datagram that opens; without one it may not (RFC
+/// 9000, section 10.2.1).
+pub fn closes_too_often_show()
+    ensures once_more { (now : ℕ) (t : Transmit) → CloseFew (polls_between now) (gave_between t) }
+    ensures unasked { (now : ℕ) (t : Transmit) → CloseFew (polls_twice now) (gave_twice t) → ⊥ }
 {}

@@ -11,7 +11,7 @@ ghost use Rattle.quic_headline.specs.ConnectionIds.{ToldIdsAreKnown, NewestOpens
 ghost use Rattle.quic_headline.specs.InUse.{in_use, next_id};
 ghost use Rattle.quic_worked.specs.Worked.{both_steady, id_word};
 ghost use Rattle.quic_worked.specs.Broken.{IsNoRun, NeverLeadsFrom};
-ghost use Rattle.quic_worked.specs.Known.{naming_events, naming_answers, is_used, has_none, has_too_many, once_named, naming_datagram, naming_sent, naming_run, asking_run, asking_early, asked_early, made_up, fifty_wait, forgetful};
+ghost use Rattle.quic_worked.specs.Known.{naming_events, naming_answers, is_used, has_none, has_too_many, once_named, naming_datagram, naming_sent, naming_run, asking_run, asking_early, asked_early, made_up, eighty_wait, forgetful};
 
 /// The client takes the ids of the server, asks for the next one, of number 1, and sends to it. The
 /// server knows it, and the datagram opens there as it was sent (RFC 9000, sections 5.1.2 and 5.2).
@@ -34,13 +34,13 @@ pub fn no_id_is_told()
     ensures next { next_id asking_early Client 0 ≡ None }
 {}
 
-/// Where fifty retirements wait at the client already, the next id is refused. It is a run of the
+/// Where eighty retirements wait at the client already, the next id is refused. It is a run of the
 /// machine, but from no new ends.
 pub fn retirements_wait()
-    ensures run { IsRun (asking_run fifty_wait has_too_many) (once_named fifty_wait has_too_many 3) }
-    ensures used { in_use (asking_run fifty_wait has_too_many) Client 2 ≡ 0 }
-    ensures next { next_id (asking_run fifty_wait has_too_many) Client 2 ≡ Some 1 }
-    ensures past { IsPastLimit (once_named fifty_wait has_too_many 2).client 0 1 }
+    ensures run { IsRun (asking_run eighty_wait has_too_many) (once_named eighty_wait has_too_many 3) }
+    ensures used { in_use (asking_run eighty_wait has_too_many) Client 2 ≡ 0 }
+    ensures next { next_id (asking_run eighty_wait has_too_many) Client 2 ≡ Some 1 }
+    ensures past { IsPastLimit (once_named eighty_wait has_too_many 2).client 0 1 }
 {}
 
 /// Application calls: there is never a next id, whatever the peer told.
@@ -64,11 +64,11 @@ pub fn one_retirement_is_too_many()
     ensures machine { IsNoRun (asking_run both_steady has_too_many) }
 {}
 
-/// Application calls: the next id is used though fifty retirements wait. The run begins at ends
+/// Application calls: the next id is used though eighty retirements wait. The run begins at ends
 /// that aren't new.
 pub fn retirements_are_not_counted()
-    ensures exact { TooManyIsExact (asking_run fifty_wait is_used) → ⊥ }
-    ensures machine { IsNoRun (asking_run fifty_wait is_used) }
+    ensures exact { TooManyIsExact (asking_run eighty_wait is_used) → ⊥ }
+    ensures machine { IsNoRun (asking_run eighty_wait is_used) }
 {}
 
 /// Receiving: of the ids that it tells a server knows none, so that what is sent to one of them

@@ -43,6 +43,7 @@ pub mod repeated;
 pub mod reset;
 pub mod rested;
 pub mod searched;
+pub mod shortened;
 pub mod timed;
 pub mod told;
 pub mod undone;

@@ -10,6 +10,7 @@ ghost use Rattle.quic_worked.specs.Losses.{losing_events, losing_answers, losing
 ghost use Rattle.quic_headline.specs.InFlight.{TracksAt};
 ghost use Rattle.quic_headline.specs.AckFrames.{AcksNameAll};
 ghost use Rattle.quic_headline.specs.Headline.{OrderedPrefix, Once, EndAfterAll, BlockedOnlyWithoutBytes, AcceptsAll, FinishedMeansArrived, FinishedIsTold, AcknowledgedWereTaken, NamesWereTaken, OpensExactly, NumbersRise, LossTimersFollow, IsHonest};
+ghost use Rattle.quic_headline.specs.Taken.{TakenExactly};
 ghost use Rattle.quic_worked.specs.Worked.{ReadsBy, two_chunks, run_with, sending_events, sending_answers};
 ghost use Rattle.quic_worked.specs.Broken.{IsNoRun, NeverLeads, sending_run, asked_run, tells_finished};
 ghost use Rattle.quic_worked.specs.Machines.{unaccepted, taken_again, cut_frame, hidden_end, skipped_byte, all_dropped, refused_named, long_opens, used_twice, kept_four, writing_run, late_timed, misrecorded, both_run, mistimed, told_early, taken_early, nothing_given, NeverGives, accepted_twice, accepted_last, other_stream};
@@ -18,6 +19,7 @@ ghost use Rattle.quic_worked.specs.Reordered.{both_events, both_answers};
 /// Receiving: a duplicate is taken again, and its bytes come a second time.
 pub fn duplicate_is_taken_again()
     ensures once { (read : ReadCall) → read.id ≡ 0 → Once (run_with read taken_again) → ⊥ }
+    ensures taken { (read : ReadCall) → TakenExactly (run_with read taken_again) → ⊥ }
     ensures machine { (read : ReadCall) → IsNoRun (run_with read taken_again) }
 {}
 

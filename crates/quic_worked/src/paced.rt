@@ -32,7 +32,7 @@ pub fn pacer_holds_back()
 /// A client gives its datagram all the same. The machine doesn't.
 pub fn token_is_never_asked_for()
     ensures { (next : World)
-        → IsStep worked_policies (once_paced 2) (asks_at Client 0) (gives_bytes 146) next → ⊥ }
+        → IsStep worked_policies (once_paced 2) (asks_at Client 0) (gives_bytes 230) next → ⊥ }
 {}
 
 /// A client whose pacer has tokens sets the timer of its pacer all the same, and gives nothing. The
@@ -51,7 +51,7 @@ pub fn pacer_is_reckoned()
     ensures held { (pacer_at paced_run Client 3).tokens ≡ 0 }
     ensures names { named_at paced_run Client 2 0 ≡ Some full_again }
     ensures names_none { named_at paced_run Client 3 full_again ≡ None }
-    ensures left { (pacer_at paced_run Client 4).tokens ≡ 11854 }
+    ensures left { (pacer_at paced_run Client 4).tokens ≡ 11770 }
     ensures paid { (pacer_at held_run Client 3).tokens ≡ 10800 }
     ensures probes { (pacer_at held_run Client 8).tokens ≡ 8400 }
     ensures clause { PacerIsOfHistory held_run }
@@ -69,7 +69,7 @@ pub fn unheld_datagram_shows()
 pub fn uncharged_probes_show()
     ensures probes { (watch uncharged_run Client 4).flight.probes ≡ 2 }
     ensures before { (pacer_at uncharged_run Client 4).tokens ≡ 1200 }
-    ensures behind { (pacer_at uncharged_run Client 7).tokens ≡ 924 }
+    ensures behind { (pacer_at uncharged_run Client 7).tokens ≡ 756 }
     ensures clause { PacerIsOfHistory uncharged_run → ⊥ }
     ensures machine { IsNoRun uncharged_run }
 {}

@@ -31,6 +31,7 @@ ghost use Rattle.quic_recovery_core.specs.Duplicates.{is_duplicate};
 ghost use Rattle.quic_recovery_core.specs.DuplicateRuns.{seen_after};
 ghost use Rattle.quic_streams_state.specs.Writing.{finish_answer};
 ghost use Rattle.quic_streams_state.specs.Reading.{read_answer};
+ghost use Rattle.quic_machine.specs.Ids.{first_ids, words_behind};
 ghost use Rattle.quic_machine.specs.End.{MadeFrom, new_end, refusal_of, drained_by, with_waiting, with_window};
 ghost use Rattle.quic_machine.specs.Parts.{nothing_waits};
 ghost use Rattle.quic_machine.specs.Poll.{IsDatagram};
@@ -42,7 +43,7 @@ ghost use Rattle.quic_headline.specs.Observer.{took, references_until};
 ghost use Rattle.quic_machine.specs.Start.{AreStarted, AreKeys};
 ghost use Rattle.quic_headline.specs.Headline.{IsHonest, IsRun};
 ghost use Rattle.quic_worked.specs.Broken.{once_full, once_failed};
-ghost use Rattle.quic_worked.specs.Worked.{steady_window, steady, long_keys, unprotected_hello, hello_opening, client_gives, searching, no_two_way, end_opens, end_accepts, end_writes, end_after_write, end_next, write_lacks, finish_lacks, read_lacks, next_lacks, poll_lacks, ReadsBy, two_chunks, worked_parameters, client_id, server_id, client_made, server_made, started, with_server, once_opened, once_written, once_ended, once_sent, once_taken, once_read, hello, hello_frame, hello_payload, hello_datagram, writes_hello, finishes_stream, asks_datagram, delivers, reads_stream, failed_end, numbered_from, from_client, client_packet, at_server, within, worked_policies, worked_events, worked_answers, worked_views, worked_run, shut, id_frames, ids_payload, behind_ids, hello_whole};
+ghost use Rattle.quic_worked.specs.Worked.{steady_window, steady, long_keys, unprotected_hello, hello_opening, client_gives, searching, no_two_way, end_opens, end_accepts, end_writes, end_after_write, end_next, write_lacks, finish_lacks, read_lacks, next_lacks, poll_lacks, ReadsBy, two_chunks, parameters_with, worked_parameters, few_started, few_ended, issued, client_id, server_id, client_made, server_made, started, with_server, once_opened, once_written, once_ended, once_sent, once_taken, once_read, hello, hello_frame, hello_payload, hello_datagram, writes_hello, finishes_stream, asks_datagram, delivers, reads_stream, failed_end, numbered_from, from_client, client_packet, at_server, within, worked_policies, worked_events, worked_answers, worked_views, worked_run, shut, id_frames, ids_payload, behind_ids, hello_whole};
 
 /// Each end is made of the other's parameters and first id, at moment 0 on a validated path. The
 /// window of the server is shut, so that it only acknowledges.
@@ -53,19 +54,35 @@ pub fn ends_are_made()
         true (λ n. 63) server_made }
 {}
 
-/// The frame with the five bytes and the end, behind those that tell four ids, under number 0 and
-/// the server's first id, is the datagram of 146 bytes.
+/// The frame with the five bytes and the end, behind those that tell seven ids, under number 0 and
+/// the server's first id, is the datagram of 230 bytes.
 #[tactic(auto, unfolding(crate::specs::Worked::once_sent))]
 pub fn hello_is_given()
     ensures spelling { spelling (stream hello_frame) ≡ hello_payload }
     ensures ids { spelled_all id_frames ≡ ids_payload }
     ensures bytes { from_client 0 hello_whole ≡ hello_datagram }
-    ensures size { length hello_datagram ≡ 146 }
+    ensures size { length hello_datagram ≡ 230 }
     ensures sealed { protected worked_policies.client.header worked_policies.client.packet 9 0
         ((0x40 ∷ server_id) ++ (0x00 ∷ hello_whole)) ≡ hello_datagram }
     ensures is { IsDatagram worked_policies.client 0 0 server_id
         (behind_ids (stream hello_frame ∷ [])) hello_datagram }
     ensures against { (read : ReadCall) → references_until (worked_run read) Client 8 ≡ 0 ∷ [] }
+{}
+
+/// An endpoint issues as many ids as its peer keeps, and no more (RFC 9000, section 5.1.1): to one
+/// that keeps five, a client tells four beside the one with which it began, under numbers 1 to 4.
+/// So its first datagram has 146 bytes.
+pub fn peer_may_keep_fewer()
+    ensures made { MadeFrom Client plain_settings steady (parameters_with 5) client_id server_id 0
+        true (λ n. 63) few_started.client }
+    ensures ids { few_started.client.ids
+        ≡ first_ids client_id server_id 5 0 (words_behind 1 (λ n. 63)) }
+    ensures living { map (λ i. i.number) few_started.client.ids.living
+        ≡ 0 ∷ 1 ∷ 2 ∷ 3 ∷ 4 ∷ [] }
+    ensures told { few_started.client.waiting.frames.new_cids
+        ≡ issued 1 ∷ issued 2 ∷ issued 3 ∷ issued 4 ∷ [] }
+    ensures size { (client_gives few_ended.client 0).answer
+        ≡ Ok (Some (record { size = 146; ecn = Some Ect0 })) }
 {}
 
 /// The datagram shows the server's id, its number and its frame to the server, and nothing to
@@ -98,8 +115,8 @@ pub fn worked_run_follows()
     ensures tracked { map (λ p. p.0) once_read.client.tracking.packets ≡ 0 ∷ [] }
     ensures pending { once_read.server.acknowledging.runs ≡ record { start = 0; end = 1 } ∷ [] }
     ensures read { once_read.server.streams.receiving.halves.live ≡ [] }
-    ensures sent { once_read.client_heard ≡ record { received = 0; sent = 146; failures = 0 } }
-    ensures received { once_read.server_heard ≡ record { received = 292; sent = 0; failures = 0 } }
+    ensures sent { once_read.client_heard ≡ record { received = 0; sent = 230; failures = 0 } }
+    ensures received { once_read.server_heard ≡ record { received = 460; sent = 0; failures = 0 } }
 {}
 
 /// It meets the premises of the headline: what is proved of every run holds of this one.
@@ -143,17 +160,17 @@ pub fn hello_arrives()
     ensures end { (read : ReadCall) → EndHasArrived (took (worked_run read) Server 8) 0 5 }
 {}
 
-/// A number is a duplicate of itself, and of a number that is 129 above it (RFC 9000, section
+/// A number is a duplicate of itself, and of a number that is 257 above it (RFC 9000, section
 /// 12.3).
 pub fn duplicates_are_told()
     ensures same { is_again 0 (0 ∷ []) ≡ true }
-    ensures old { is_again 0 (129 ∷ []) ≡ true }
+    ensures old { is_again 0 (257 ∷ []) ≡ true }
     ensures new { is_again 1 (0 ∷ []) ≡ false }
-    ensures late { is_again 0 (128 ∷ []) ≡ false }
+    ensures late { is_again 0 (256 ∷ []) ≡ false }
     ensures same_opened { is_duplicate (seen_after (0 ∷ [])) 0 ≡ true }
-    ensures old_opened { is_duplicate (seen_after (129 ∷ [])) 0 ≡ true }
+    ensures old_opened { is_duplicate (seen_after (257 ∷ [])) 0 ≡ true }
     ensures new_opened { is_duplicate (seen_after (0 ∷ [])) 1 ≡ false }
-    ensures late_opened { is_duplicate (seen_after (128 ∷ [])) 0 ≡ false }
+    ensures late_opened { is_duplicate (seen_after (256 ∷ [])) 0 ≡ false }
 {}
 
 /// A datagram that isn't for the server, or doesn't open, is dropped (RFC 9000, sections 5.2 and
@@ -243,7 +260,7 @@ pub fn calls_are_bounded()
     ensures no_number_left { (client_gives (numbered_from (2 ^ 31 - 16) once_ended.client) 0).answer
         ≡ Ok (Some (record { size = 33; ecn = Some Ect0 })) }
     ensures last_number { (client_gives (numbered_from (2 ^ 31 - 17) once_ended.client) 0).answer
-        ≡ Ok (Some (record { size = 149; ecn = Some Ect0 })) }
+        ≡ Ok (Some (record { size = 233; ecn = Some Ect0 })) }
     ensures bad_parameters { refusal_of plain_settings steady_window long_keys
         (parameters_at (0x04 ∷ 0x01 ∷ [])) client_id server_id ≡ Some Parameters }
     ensures short_id { refusal_of plain_settings steady_window long_keys

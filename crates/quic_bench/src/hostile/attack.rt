@@ -45,7 +45,7 @@ pub enum Attack {
     NewIds,
     /// NEW_CONNECTION_ID, each of which brings another id into use, of a byte and of 20 in turn,
     /// while 10,000 messages wait that the window doesn't let go, and one that is too long with the
-    /// longer id. No more than 50 retirements may wait, so that `count` is 1.
+    /// longer id. No more than 80 retirements may wait, so that `count` is 1.
     LongerIds,
     /// NEW_CONNECTION_ID of numbers that were retired.
     LateIds,

@@ -12,12 +12,12 @@ const COVERED: usize = 512;
 const OPENED: u64 = 10_000;
 
 /// The first id of the peer that it didn't give when the connection began.
-const NEXT_ID: u64 = 5;
+const NEXT_ID: u64 = 8;
 
 /// How many of the peer's first ids are given again once they are retired.
 const LATE_IDS: u64 = 30;
 
-/// How many of the server's ids are retired in turn, less than the 50 that it lets wait to be told.
+/// How many of the server's ids are retired in turn, less than the 80 that it lets wait to be told.
 const LIVING_IDS: u64 = 40;
 
 /// In how many frames they are: more than a datagram has.
@@ -183,10 +183,10 @@ fn put_id(out: &mut Vec<u8>, sequence: u64, least: u64) -> Result<(), AllocError
     Ok(())
 }
 
-/// Appends a NEW_CONNECTION_ID frame for the next number, which leaves it and four before.
+/// Appends a NEW_CONNECTION_ID frame for the next number, which leaves it and seven before.
 fn put_new_id(out: &mut Vec<u8>, index: u64) -> Result<(), AllocError> {
     let sequence = index.saturating_add(NEXT_ID);
-    put_id(out, sequence, sequence.saturating_sub(4))
+    put_id(out, sequence, sequence.saturating_sub(7))
 }
 
 /// Appends a PATH_CHALLENGE frame.

@@ -46,7 +46,7 @@ impl EnabledMtuDiscovery {
         }
     }
 
-    /// The same configuration, and nothing was searched.
+    /// A discovery of this configuration that hasn't searched yet.
     pub(super) fn anew(self) -> Self
         ensures { result ≡ plan_anew self }
     {

@@ -32,8 +32,8 @@ impl Model for SuspiciousBursts {
     ghost inverse_ok = { places_of_sizes };
 }
 
-/// What a place has once a size came to it, the greater of the two, and what goes on to the next
-/// place.
+/// Insertion step: returns the larger size, which stays in the slot, and the smaller, which moves
+/// on.
 fn exchanged(place: Option<u16>, size: Option<u16>) -> (Option<u16>, Option<u16>)
     ensures stays { result.0 ≡ greater place size }
     ensures goes_on { result.1 ≡ lesser place size }
@@ -45,7 +45,7 @@ fn exchanged(place: Option<u16>, size: Option<u16>) -> (Option<u16>, Option<u16>
     }
 }
 
-/// What stays in a place: its size, if that is above the given one.
+/// What stays in a slot: its size, if that is above the given one.
 fn kept_if_above(place: Option<u16>, size: u16) -> Option<u16>
     ensures { result ≡ above size place }
 {

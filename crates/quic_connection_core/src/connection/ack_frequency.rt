@@ -22,10 +22,10 @@ use quic_wire::frame::AckFrequency;
 use quic_wire_core::VarInt;
 use rand_core::Rng;
 
-/// The greatest number that a frame can tell (RFC 9000, section 16).
+/// The greatest sequence number that ACK_FREQUENCY can carry (RFC 9000, section 16).
 const MAX_VARINT: u64 = (1 << 62) - 1;
 
-/// The same settings with a delay in whole microseconds, as frames tell it.
+/// These settings with the delay in whole microseconds, as frames carry it.
 fn in_micros(config: AckFrequencyConfig) -> AckFrequencyConfig
     ensures { result ≡ in_micros config }
 {
@@ -50,10 +50,9 @@ impl<H: HeaderKey + Drop, K: PacketKey + Drop, R: Rng + Drop, C: Controller> Con
         self.space.acknowledging.require();
     }
 
-    /// Takes ACK_FREQUENCY: packets that come from now on are acknowledged as it asks, this one
-    /// among them; a timer of acknowledgements that runs isn't moved. A frame that is no newer than
-    /// one that came changes nothing, and one that asks for less than 1 ms breaks a rule (section
-    /// 4).
+    /// Takes ACK_FREQUENCY: packets that come from now on are acknowledged as it requests, this one
+    /// among them; an ACK timer that is set isn't moved. A frame that is no newer than one that
+    /// came changes nothing, and one with a delay below 1 ms is a protocol violation (section 4).
     pub(crate) fn take_ack_frequency(&mut self, frame: &AckFrequency) -> Result<(), Trouble>
         ensures takes { TakesAs result (take_frequency (ack_frequency_view frame.now) self.old.end) self.new.end }
         ensures others { self.new ≡ with_end self.old self.new.end }
@@ -68,9 +67,9 @@ impl<H: HeaderKey + Drop, K: PacketKey + Drop, R: Rng + Drop, C: Controller> Con
         }
     }
 
-    /// Sees that ACK_FREQUENCY waits where the peer is to be asked anew how often to acknowledge:
-    /// at first, and where another delay is wanted by then. A peer that advertised no min_ack_delay
-    /// isn't asked (section 3).
+    /// Queues ACK_FREQUENCY if the peer is to get a new request how often to acknowledge: at first,
+    /// and whenever the delay to request has changed. A peer that advertised no min_ack_delay gets
+    /// none (section 3).
     pub(crate) fn queue_ack_frequency(&mut self)
         ensures { self.new ≡ with_end self.old (request_queued self.old.end) }
     {
@@ -79,7 +78,7 @@ impl<H: HeaderKey + Drop, K: PacketKey + Drop, R: Rng + Drop, C: Controller> Con
         }
     }
 
-    /// Whether the peer is to be asked anew how often to acknowledge.
+    /// Whether the peer is to get a new request how often to acknowledge.
     fn asks_anew(&self) -> bool
         ensures { result ≡ asks_anew self.now.end.transport.ack_frequency_config self.now.end }
     {
@@ -94,7 +93,7 @@ impl<H: HeaderKey + Drop, K: PacketKey + Drop, R: Rng + Drop, C: Controller> Con
                 .should_send_ack_frequency(rtt, &config, &self.peer_params)
     }
 
-    /// How the peer is asked to acknowledge.
+    /// What to request of the peer's acknowledgements.
     fn ack_frequency_config(&self) -> AckFrequencyConfig
         ensures { result ≡ frequency_settings self.now.end }
     {
@@ -104,7 +103,7 @@ impl<H: HeaderKey + Drop, K: PacketKey + Drop, R: Rng + Drop, C: Controller> Con
         }
     }
 
-    /// The delay to ask the peer for, in whole microseconds.
+    /// The delay to request of the peer, in whole microseconds.
     fn wanted_ack_delay(&self, config: &AckFrequencyConfig) -> VarInt
         ensures { result ≡ written (candidate self.now.end.frequency (best_rtt self.now.end.path.rtt) config.now self.now.end.peer_params / 1000) }
     {
@@ -115,8 +114,8 @@ impl<H: HeaderKey + Drop, K: PacketKey + Drop, R: Rng + Drop, C: Controller> Con
         VarInt::from_u64_unchecked(delay.as_micros().min(MAX_VARINT))
     }
 
-    /// The number of the next ACK_FREQUENCY frame, which counts as given: the last that a frame can
-    /// tell goes again and again.
+    /// The sequence number of the next ACK_FREQUENCY frame, which counts as used. The last that a
+    /// frame can carry is used again and again.
     fn next_request_number(&mut self) -> VarInt
         ensures value { result ≡ written self.old.end.frequency.next }
         ensures end { self.new ≡ with_end self.old (with_frequency self.old.end (record self.old.end.frequency { next = min (self.old.end.frequency.next + 1) most_requests })) }
@@ -128,7 +127,7 @@ impl<H: HeaderKey + Drop, K: PacketKey + Drop, R: Rng + Drop, C: Controller> Con
         self.ack_frequency.next_sequence_number()
     }
 
-    /// The ACK_FREQUENCY frame of this moment, whose number counts as given.
+    /// The ACK_FREQUENCY frame to send now, whose number counts as used.
     fn next_ack_frequency(&mut self) -> AckFrequency
         ensures value { ack_frequency_view result ≡ request_of self.old.end }
         ensures form { Fits (ack_frequency (ack_frequency_view result)) }
@@ -144,8 +143,8 @@ impl<H: HeaderKey + Drop, K: PacketKey + Drop, R: Rng + Drop, C: Controller> Con
         }
     }
 
-    /// Appends ACK_FREQUENCY if it waits, for which there is room, with what the endpoint is
-    /// configured to ask for: whether it did. It goes in the datagram that goes next.
+    /// Appends ACK_FREQUENCY if it is pending, for which there is room, with what the endpoint is
+    /// configured to request: whether it did. It goes in the datagram that is sent next.
     pub(crate) fn put_request(&mut self, out: &mut Vec<u8>) -> bool
         requires { vec_len out.old + 34 ≤ vec_capacity out.old }
         ensures waited { result ≡ self.old.end.waiting.frames.ack_frequency }
@@ -162,7 +161,7 @@ impl<H: HeaderKey + Drop, K: PacketKey + Drop, R: Rng + Drop, C: Controller> Con
         true
     }
 
-    /// Appends ACK_FREQUENCY, for which there is room: it waits no more.
+    /// Appends ACK_FREQUENCY, for which there is room: it is no longer pending.
     fn put_queued_request(&mut self, out: &mut Vec<u8>)
         requires { vec_len out.old + 34 ≤ vec_capacity out.old }
         ensures items { out.new.items ≡ out.old.items ++ spelling (ack_frequency (request_of self.old.end)) }

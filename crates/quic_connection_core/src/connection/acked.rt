@@ -37,11 +37,11 @@ impl<H: HeaderKey + Drop, K: PacketKey + Drop, R: Rng + Drop, C: Controller> Con
     R,
     C,
 > {
-    /// Takes an ACK frame whose greatest number is counted already, and lies above all that were
-    /// named before or doesn't. The tracked packets that it names are acknowledged, the round trip
-    /// is measured where it can be, packets that are late by number or by time are lost, and its
-    /// counts of marks are judged. One that names no tracked packet changes nothing. An error is
-    /// want of memory; the end is of no more use then.
+    /// Takes an ACK frame whose greatest number is noted already; `rises` says whether it is above
+    /// all that were acknowledged before. The tracked packets that it names are acknowledged, the
+    /// round trip is sampled where it can be, packets that are late by number or by time are lost,
+    /// and its ECN counts are validated. A frame that names no tracked packet changes nothing.
+    /// Fails if out of memory; the endpoint is then unusable.
     pub(crate) fn on_ack_received(&mut self, frame: &Ack<'_>, rises: bool) -> Result<(), AllocError>
         ensures ok { OnOk result (self.new ≡ telling C.steps self.old (told_acked rises frame.now self.old.end) (after_acked rises frame.now self.old.end)) }
         ensures others { KeepsRest self.old self.new }
@@ -53,8 +53,8 @@ impl<H: HeaderKey + Drop, K: PacketKey + Drop, R: Rng + Drop, C: Controller> Con
         Ok(())
     }
 
-    /// The same, but for the counts of marks: how many packets are newly acknowledged, and when the
-    /// last of them went, if there are some.
+    /// Takes an ACK frame but for its ECN counts. Returns how many packets are newly acknowledged,
+    /// and when the last of them was sent, if there are some.
     fn take_acked(
         &mut self,
         frame: &Ack<'_>,
@@ -81,11 +81,11 @@ impl<H: HeaderKey + Drop, K: PacketKey + Drop, R: Rng + Drop, C: Controller> Con
         Ok(Some((newly, last)))
     }
 
-    /// Judges the counts of marks of an ACK frame, while datagrams are marked: it newly
-    /// acknowledged so many packets, the last of which went at this moment. They are judged where
-    /// its greatest number lies above all that were named before. Where none come, or they can't be
-    /// right, nothing is marked any more; where that of CE grew, the path is congested (RFC 9000,
-    /// section 13.4.2; RFC 9002, section 7.1).
+    /// Validates the ECN counts of an ACK frame, while datagrams carry a codepoint. It newly
+    /// acknowledged so many packets, the last of which was sent at `last`. Counts are validated if
+    /// the frame's greatest number is above all that were acknowledged before. If there are none,
+    /// or they can't be right, no later datagram carries a codepoint; if the CE count grew, the
+    /// path is congested (RFC 9000, section 13.4.2; RFC 9002, section 7.1).
     fn see_marks(&mut self, frame: &Ack<'_>, rises: bool, newly: u64, last: Instant)
         ensures { self.new ≡ telling C.steps self.old (told_seen self.old.end.path.marking rises newly frame.now.ecn last self.old.end) (marks_seen rises newly frame.now self.old.end) }
     {
@@ -99,7 +99,7 @@ impl<H: HeaderKey + Drop, K: PacketKey + Drop, R: Rng + Drop, C: Controller> Con
         }
     }
 
-    /// The same of counts that are judged.
+    /// Validates these ECN counts, which the frame has and which are to be validated.
     fn judge_marks(&mut self, counts: &EcnCounts, newly: u64, last: Instant)
         ensures { let answer = counts_answer self.old.end newly (counts_view counts.now) in
             self.new ≡ telling C.steps self.old (told_grown answer self.old.end.closing.clock last) (counts_judged answer (counts_view counts.now) self.old.end) }
@@ -116,7 +116,7 @@ impl<H: HeaderKey + Drop, K: PacketKey + Drop, R: Rng + Drop, C: Controller> Con
     }
 
     /// Takes out the tracked packets that an ACK frame names, the greatest number first: they are
-    /// no longer in flight. An error is want of memory; nothing is tracked then.
+    /// no longer in flight. Fails if out of memory; nothing is tracked then.
     fn take_named(&mut self, frame: &Ack<'_>) -> Result<Vec<(u64, SentPacket)>, AllocError>
         ensures acked { IfOk result (λ acked. reverse acked.items ≡ acked_by frame.now self.old.end.tracking.packets) }
         ensures ok { OnOk result (self.new ≡ with_end self.old (with_tracking self.old.end (record self.old.end.tracking { packets = not_acked_by frame.now self.old.end.tracking.packets }))) }
@@ -133,14 +133,14 @@ impl<H: HeaderKey + Drop, K: PacketKey + Drop, R: Rng + Drop, C: Controller> Con
         Ok(acked)
     }
 
-    /// When the tracked packet of this number went, if there is one.
+    /// When the tracked packet of this number was sent, if there is one.
     fn sent_at(&self, number: u64) -> Option<Instant>
         ensures { result ≡ option_map (λ p. p.time_sent) (at self.now.end.tracking.packets number) }
     {
         Some(self.space.tracking.packets().get(number)?.time_sent)
     }
 
-    /// Packets are acknowledged, the last of the list first: they came with the greatest number
+    /// Acknowledges these packets, the last of the list first: they came with the greatest number
     /// first.
     fn on_packets_acked(&mut self, mut acked: Vec<(u64, SentPacket)>) -> Result<(), AllocError>
         ensures ok { OnOk result (self.new ≡ telling C.steps self.old (told_packets self.old.end (reverse acked.items)) (packets_acked (reverse acked.items) self.old.end)) }
@@ -155,8 +155,8 @@ impl<H: HeaderKey + Drop, K: PacketKey + Drop, R: Rng + Drop, C: Controller> Con
         Ok(())
     }
 
-    /// The congestion controller is told that a packet is acknowledged, where it asks; but not
-    /// while the peer has a challenge to answer.
+    /// Notifies the congestion controller of an acknowledged packet, if that is ack-eliciting; but
+    /// not while the peer has a PATH_CHALLENGE to answer.
     fn tell_acked(&mut self, packet: &SentPacket)
         ensures { (number : ℕ) → self.new ≡ telling C.steps self.old (told_packet self.old.end (number, packet.now)) self.old.end }
     {
@@ -167,7 +167,8 @@ impl<H: HeaderKey + Drop, K: PacketKey + Drop, R: Rng + Drop, C: Controller> Con
         tell_ack(&mut self.path, now, packet, self.app_limited);
     }
 
-    /// The congestion controller is told that all packets are acknowledged that an ACK frame named.
+    /// Notifies the congestion controller that all packets are acknowledged that an ACK frame
+    /// named.
     fn end_acks(&mut self)
         ensures { self.new ≡ telling C.steps self.old (told_acks_ended self.old.end) self.old.end }
     {
@@ -177,17 +178,16 @@ impl<H: HeaderKey + Drop, K: PacketKey + Drop, R: Rng + Drop, C: Controller> Con
         tell_acks_ended(&mut self.path, now, in_flight, self.app_limited, largest);
     }
 
-    /// The bytes in flight on the path: the sizes of the datagrams that ask for an acknowledgement
-    /// and are neither acknowledged, lost nor forgotten (RFC 9002, section 2; quinn-proto's
-    /// `bytes_in_flight`).
+    /// The bytes in flight on the path: the sizes of the ack-eliciting datagrams that are neither
+    /// acknowledged, lost nor forgotten (RFC 9002, section 2; quinn-proto's `bytes_in_flight`).
     pub fn bytes_in_flight(&self) -> u128
         ensures { result ≡ bytes_in_flight self.now.end }
     {
         self.path.in_flight.bytes()
     }
 
-    /// The peer knows that the numbers up to one came, if a packet that came acknowledged any: they
-    /// need no more acknowledgement.
+    /// Drops the numbers up to this one, if there is one, from those to acknowledge: the peer knows
+    /// that they came, as it acknowledged a packet that said so.
     fn forget_known(&mut self, largest_acked: Option<u64>)
         ensures { self.new ≡ with_end self.old (without_known largest_acked self.old.end) }
     {
@@ -196,8 +196,8 @@ impl<H: HeaderKey + Drop, K: PacketKey + Drop, R: Rng + Drop, C: Controller> Con
         }
     }
 
-    /// A packet is acknowledged: the numbers that its ACK frame named need no more acknowledgement,
-    /// and what it carried of streams never goes again.
+    /// Acknowledges a packet: the numbers that its ACK frame named need no more acknowledgement,
+    /// and its stream data and control frames are never sent again.
     fn on_packet_acked(&mut self, packet: SentPacket) -> Result<(), AllocError>
         ensures ok { OnOk result (self.new ≡ with_end self.old (carried_acked packet.carried self.old.end)) }
         ensures others { self.new ≡ with_end self.old self.new.end }
@@ -207,8 +207,8 @@ impl<H: HeaderKey + Drop, K: PacketKey + Drop, R: Rng + Drop, C: Controller> Con
         Ok(())
     }
 
-    /// Takes the round trip of a packet that went at this moment as a sample, if there is one (RFC
-    /// 9002, section 5).
+    /// Takes the round trip of a packet that was sent at this time as a sample, if there is one
+    /// (RFC 9002, section 5).
     fn update_rtt(&mut self, frame: &Ack<'_>, sent: Option<Instant>)
         ensures { self.new ≡ with_end self.old (sampled_at sent frame.now self.old.end) }
     {
@@ -220,8 +220,8 @@ impl<H: HeaderKey + Drop, K: PacketKey + Drop, R: Rng + Drop, C: Controller> Con
         }
     }
 
-    /// A round trip was measured: the number that is next is the first behind it, where none was
-    /// measured before (RFC 9002, section 7.6.2).
+    /// Notes a round-trip sample: the next number is the first after it, unless there was a sample
+    /// before (RFC 9002, section 7.6.2).
     fn note_sampled(&mut self)
         ensures { self.new ≡ with_end self.old (with_rtt self.old.end self.old.end.path.rtt (first_measured self.old.end.path.first_after_rtt self.old.end.numbers.next)) }
     {
@@ -230,8 +230,8 @@ impl<H: HeaderKey + Drop, K: PacketKey + Drop, R: Rng + Drop, C: Controller> Con
         }
     }
 
-    /// How long the peer says that it held an acknowledgement back, but no longer than it may (RFC
-    /// 9002, section 5.3; RFC 9000, section 19.3).
+    /// The ACK delay that the peer reports, cut to its max_ack_delay (RFC 9002, section 5.3; RFC
+    /// 9000, section 19.3).
     fn told_delay(&self, frame: &Ack<'_>) -> Duration
         ensures { result ≡ told_delay self.now.end frame.now }
     {
@@ -240,7 +240,7 @@ impl<H: HeaderKey + Drop, K: PacketKey + Drop, R: Rng + Drop, C: Controller> Con
         Duration::from_micros(micros).min(self.peer_delay())
     }
 
-    /// How late a packet may be at this moment (RFC 9002, section 6.1).
+    /// Which packets count as lost now (RFC 9002, section 6.1).
     fn verdict(&self) -> Verdict
         ensures { result ≡ verdict self.now.end }
     {
@@ -254,10 +254,10 @@ impl<H: HeaderKey + Drop, K: PacketKey + Drop, R: Rng + Drop, C: Controller> Con
         )
     }
 
-    /// The packets that are late by number or by time are lost: what they carried goes again (RFC
-    /// 9002, section 6.1), and the path is congested where one was in flight. `by_ack` says whether
-    /// an ACK shows it, which alone shows that congestion persists. An error is want of memory; the
-    /// end is of no more use then.
+    /// Declares packets lost that are late by number or by time: what they carried is queued again
+    /// (RFC 9002, section 6.1), and the path is congested if one was in flight. `by_ack` says
+    /// whether an ACK shows it, as only that can show persistent congestion. Fails if out of
+    /// memory; the endpoint is then unusable.
     pub(crate) fn detect_lost_packets(&mut self, by_ack: bool) -> Result<(), AllocError>
         ensures ok { OnOk result (self.new ≡ telling C.steps self.old (told_detected by_ack self.old.end) (losses_detected self.old.end)) }
         ensures others { KeepsRest self.old self.new }
@@ -281,8 +281,8 @@ impl<H: HeaderKey + Drop, K: PacketKey + Drop, R: Rng + Drop, C: Controller> Con
         Losses::new(period, self.path.first_packet_after_rtt_sample)
     }
 
-    /// The packets that a verdict finds lost are: what they carried goes again, and they count
-    /// among these losses.
+    /// Declares the packets lost that this verdict finds: what they carried is queued again, and
+    /// they count among these losses.
     fn on_packets_lost(&mut self, verdict: &Verdict, losses: &mut Losses) -> Result<(), AllocError>
         ensures ok { OnOk result (self.new ≡ with_end self.old (after_losses (open_probe self.old.end.path.discovery) verdict.now self.old.end)) }
         ensures losses { OnOk result (losses.new ≡ all_lost self.old.end.path.generation (open_probe self.old.end.path.discovery) losses.old (lost_by verdict.now self.old.end.tracking.packets)) }
@@ -302,7 +302,7 @@ impl<H: HeaderKey + Drop, K: PacketKey + Drop, R: Rng + Drop, C: Controller> Con
         Ok(())
     }
 
-    /// The congestion controller is told of packets that were lost, where one was in flight.
+    /// Notifies the congestion controller of lost packets, if one was in flight.
     fn tell_lost(&mut self, by_ack: bool, losses: &Losses)
         ensures { self.new ≡ telling C.steps self.old (told_lost by_ack self.old.end.closing.clock losses.now) self.old.end }
     {
@@ -320,7 +320,7 @@ impl<H: HeaderKey + Drop, K: PacketKey + Drop, R: Rng + Drop, C: Controller> Con
         }
     }
 
-    /// A packet is lost: what it carried goes again.
+    /// Declares a packet lost: what it carried is queued again.
     fn on_packet_lost(&mut self, packet: &SentPacket) -> Result<(), AllocError>
         ensures ok { OnOk result (self.new ≡ with_end self.old (carried_lost packet.now.carried self.old.end)) }
         ensures others { self.new ≡ with_end self.old self.new.end }

@@ -14,7 +14,7 @@ ghost use Rattle.quic_machine.specs.End.{number_of, with_end, with_closing, with
 ghost use Rattle.quic_machine.specs.Calls.{end_after_close};
 ghost use Rattle.quic_machine.specs.Timeouts.{close_expired};
 ghost use Rattle.quic_machine.specs.Receive.{plain_error};
-ghost use Rattle.quic_machine.specs.Poll.{closing, draft_as, datagram_of, fitted, close_to_go, closes, frame_room};
+ghost use Rattle.quic_machine.specs.Poll.{closing, draft_as, datagram_of, fitted, close_to_go, closes, close_room};
 ghost use Rattle.quic_connection_parts.specs.Closes.{close_frame};
 ghost use Rattle.quic_connection_parts.specs.Given.{given_bytes};
 ghost use Rattle.quic_connection_parts.specs.Drawn.{words_of, after_words};
@@ -31,7 +31,7 @@ use quic_packet::crypto::{HeaderKey, PacketKey};
 use quic_wire_core::{Code, Reason, TransportError, VarInt};
 use rand_core::Rng;
 
-/// How many probe timeouts an end is closing (RFC 9000, section 10.2).
+/// How many probe timeouts an endpoint is closing (RFC 9000, section 10.2).
 const CLOSING_TIMEOUTS: u64 = 3;
 
 impl<H: HeaderKey + Drop, K: PacketKey + Drop, R: Rng + Drop, C: Controller> Connection<
@@ -40,13 +40,14 @@ impl<H: HeaderKey + Drop, K: PacketKey + Drop, R: Rng + Drop, C: Controller> Con
     R,
     C,
 > {
-    /// Closes the connection at this moment: the peer is told this code and this text, which is for
+    /// Closes the connection at this time. The peer gets this code and this text, which is for
     /// people to read, as much of it as a datagram has room for (RFC 9000, sections 10.2 and
     /// 19.19).
     ///
-    /// The end is closing then: it gives its close at the next poll, and once more for each new
-    /// packet that comes, reads no packet any more, and is drained after three probe timeouts
-    /// ([`Timer::Close`]). An end that isn't open stays as it is, and takes no moment over.
+    /// The endpoint is closing then: it sends CONNECTION_CLOSE at the next poll, and once more for
+    /// each new packet that comes, reads no packet any more, and is drained after three probe
+    /// timeouts ([`Timer::Close`]). An endpoint that isn't open stays as it is, and ignores the
+    /// time.
     pub fn close(&mut self, now: Instant, error_code: VarInt, reason: Bytes)
         ensures { self.new ≡ with_end self.old (end_after_close now error_code reason self.old.end) }
     {
@@ -59,7 +60,7 @@ impl<H: HeaderKey + Drop, K: PacketKey + Drop, R: Rng + Drop, C: Controller> Con
         self.begin_closing(LostReason::Application, close);
     }
 
-    /// Closes for a reason, of which the peer is told this code alone.
+    /// Closes for a reason, of which the peer gets this code alone.
     pub(crate) fn close_by(&mut self, reason: LostReason, code: Code)
         requires text { text_len reason ≡ 0 }
         requires code { code ≡ code_of reason }
@@ -68,8 +69,7 @@ impl<H: HeaderKey + Drop, K: PacketKey + Drop, R: Rng + Drop, C: Controller> Con
         self.begin_closing(reason, OwnClose::Transport(code));
     }
 
-    /// Closes for a reason, of which the peer is told this; none of the timers stays set but that
-    /// of the close.
+    /// Closes for a reason, with this CONNECTION_CLOSE; no timer stays set but that of the close.
     fn begin_closing(&mut self, reason: LostReason, close: OwnClose)
         requires { text_len reason ≡ 0 }
         ensures { self.new ≡ with_end self.old (closing_by reason (close_frame close) self.old.end) }
@@ -82,7 +82,7 @@ impl<H: HeaderKey + Drop, K: PacketKey + Drop, R: Rng + Drop, C: Controller> Con
             .set(Timer::Close, self.closing.clock() + timeout);
     }
 
-    /// The rule that a packet broke closes the end.
+    /// Closes for a protocol error of the peer.
     pub(crate) fn close_for_error(&mut self, error: TransportError) -> Received
         ensures answer { result ≡ Received.Closed error }
         ensures end { self.new ≡ with_end self.old (closed_by (reasons.Transport error) self.old.end) }
@@ -93,7 +93,7 @@ impl<H: HeaderKey + Drop, K: PacketKey + Drop, R: Rng + Drop, C: Controller> Con
         answer
     }
 
-    /// Too many runs of a stream wait: the end closes.
+    /// Closes because a stream has too many separate ranges of unread bytes.
     pub(crate) fn close_for_pieces(&mut self) -> Received
         ensures answer { result ≡ Received.Closed (plain_error 1) }
         ensures end { self.new ≡ with_end self.old (closed_by reasons.Pieces self.old.end) }
@@ -103,7 +103,8 @@ impl<H: HeaderKey + Drop, K: PacketKey + Drop, R: Rng + Drop, C: Controller> Con
         Received::Closed(TransportError::new(code, None, Reason::TooManyPieces))
     }
 
-    /// The peer closed: the end is drained at once, and gives nothing more (section 10.2.2).
+    /// Notes that the peer closed: the endpoint is drained at once, and sends nothing more (section
+    /// 10.2.2).
     pub(crate) fn close_by_peer(&mut self, close: CloseTold)
         ensures { self.new ≡ with_end self.old (drained_by (reasons.Peer close.kept) self.old.end) }
     {
@@ -113,7 +114,7 @@ impl<H: HeaderKey + Drop, K: PacketKey + Drop, R: Rng + Drop, C: Controller> Con
         self.stop_timers();
     }
 
-    /// The end was closing for long enough: it is drained, where that timer has come.
+    /// Drains a closing endpoint if its timer has expired.
     pub(crate) fn expire_close_timer(&mut self, now: Instant)
         ensures { self.new ≡ with_end self.old (close_expired (has_come self.old.end.timers.close (ticked self.old.end.closing now).clock) (with_closing self.old.end (ticked self.old.end.closing now))) }
     {
@@ -124,7 +125,7 @@ impl<H: HeaderKey + Drop, K: PacketKey + Drop, R: Rng + Drop, C: Controller> Con
         }
     }
 
-    /// What a closing end gives at a poll: its close, where it is owed.
+    /// What a closing endpoint gives at a poll: its CONNECTION_CLOSE, if that is due.
     pub(crate) fn poll_closing(
         &mut self,
         now: Instant,
@@ -147,8 +148,8 @@ impl<H: HeaderKey + Drop, K: PacketKey + Drop, R: Rng + Drop, C: Controller> Con
         self.give_close(out)
     }
 
-    /// Appends the datagram of the close, where it is owed and may go, and counts it as given.
-    /// Where memory lacks, nothing is appended, and the end fails for good.
+    /// Appends the datagram of CONNECTION_CLOSE, if that is due and may be sent, and counts it as
+    /// sent. If out of memory, nothing is appended, and the endpoint fails for good.
     #[tactic(auto, using(quic_connection_parts::proofs::Drawing::draws_same))]
     pub(crate) fn give_close(&mut self, out: &mut Vec<u8>) -> Result<Option<Transmit>, Failed>
         ensures answer { OnOk result (result ≡ (closes (policy_of H.protection K.aead K.seal_limit K.refusal_limit (words_of R.stream) self.old) self.old.end).answer) }
@@ -180,7 +181,7 @@ impl<H: HeaderKey + Drop, K: PacketKey + Drop, R: Rng + Drop, C: Controller> Con
         }))
     }
 
-    /// Whether the close is owed, and may go.
+    /// Whether CONNECTION_CLOSE is due and may be sent.
     fn close_goes(&self) -> bool
         ensures { result ≡ is_some (close_to_go (policy_of H.protection K.aead K.seal_limit K.refusal_limit (words_of R.stream) self.now) self.now.end) }
     {
@@ -193,15 +194,15 @@ impl<H: HeaderKey + Drop, K: PacketKey + Drop, R: Rng + Drop, C: Controller> Con
         self.can_close()
     }
 
-    /// The close went.
+    /// Notes that CONNECTION_CLOSE was sent.
     fn end_close(&mut self)
         ensures { self.new ≡ with_end self.old (with_closing self.old.end (close_given self.old.end.closing)) }
     {
         self.closing.told();
     }
 
-    /// Appends the datagram of the close, for which there is room: its frame stands alone in it.
-    /// Its number is given, and it isn't tracked. This answers its size.
+    /// Appends the datagram of CONNECTION_CLOSE, for which there is room: the frame is alone in it.
+    /// Its number is used up, and it isn't tracked. Returns its size.
     #[tactic(auto, unfolding(rand_core::specs::Stream::next_u64))]
     fn put_close(&mut self, out: &mut Vec<u8>) -> usize
         requires goes { IsSome (close_to_go (policy_of H.protection K.aead K.seal_limit K.refusal_limit (words_of R.stream) self.old) self.old.end) }
@@ -229,16 +230,16 @@ impl<H: HeaderKey + Drop, K: PacketKey + Drop, R: Rng + Drop, C: Controller> Con
         size
     }
 
-    /// Appends the frame of the close, if it is owed, for which there is room.
+    /// Appends the CONNECTION_CLOSE frame, if it is due, for which there is room.
     fn put_close_frame(&self, out: &mut Vec<u8>)
         requires number { may_give self.now.end.numbers (number_of self.now.end) ≡ true }
-        requires room { vec_len out.old + frame_room self.now.end ≤ vec_capacity out.old }
-        ensures items { IfSome (close_owed self.now.end.closing) (λ f. out.new.items ≡ out.old.items ++ spelling (fitted (frame_room self.now.end) f)) }
-        ensures form { IfSome (close_owed self.now.end.closing) (λ f. (asks (fitted (frame_room self.now.end) f) ≡ false) × (vec_len out.old + 3 ≤ vec_len out.new) × (3 ≤ length (spelling (fitted (frame_room self.now.end) f)))) }
-        ensures within { vec_len out.new ≤ vec_len out.old + frame_room self.now.end }
+        requires room { vec_len out.old + close_room self.now.end ≤ vec_capacity out.old }
+        ensures items { IfSome (close_owed self.now.end.closing) (λ f. out.new.items ≡ out.old.items ++ spelling (fitted (close_room self.now.end) f)) }
+        ensures form { IfSome (close_owed self.now.end.closing) (λ f. (asks (fitted (close_room self.now.end) f) ≡ false) × (vec_len out.old + 3 ≤ vec_len out.new) × (3 ≤ length (spelling (fitted (close_room self.now.end) f)))) }
+        ensures within { vec_len out.new ≤ vec_len out.old + close_room self.now.end }
         ensures capacity { vec_capacity out.old ≤ vec_capacity out.new }
     {
-        let room = self.frame_room();
+        let room = self.close_room();
         match self.closing.owed() {
             Some(OwnClose::Transport(code)) => put_transport_close(out, *code),
             Some(OwnClose::Application(code, reason)) => {
@@ -248,7 +249,18 @@ impl<H: HeaderKey + Drop, K: PacketKey + Drop, R: Rng + Drop, C: Controller> Con
         }
     }
 
-    /// A close of so many bytes goes.
+    /// How many bytes the datagram of CONNECTION_CLOSE has left for its frame: those of the current
+    /// size, whether a PTO probe is pending or not.
+    fn close_room(&self) -> usize
+        requires number { may_give self.now.end.numbers (number_of self.now.end) ≡ true }
+        ensures room { result ≡ close_room self.now.end }
+        ensures some { 1159 ≤ result }
+        ensures few { result < 2 ^ 16 }
+    {
+        usize::from(self.path.current_mtu()) - self.beside_frames()
+    }
+
+    /// Counts a CONNECTION_CLOSE datagram of so many bytes.
     fn count_close(&mut self, size: usize)
         requires { size < 2 ^ 16 }
         ensures { self.new ≡ self.old }

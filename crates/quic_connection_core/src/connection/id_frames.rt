@@ -18,13 +18,14 @@ use quic_connection_parts::receiving::Trouble;
 use quic_ids::InsertError;
 use quic_machine::NextIdError;
 use quic_packet::crypto::{HeaderKey, PacketKey};
+use quic_retransmits::MAX_PENDING_RETIRED_CIDS;
 use quic_wire::frame::NewConnectionId;
 use rand_core::Rng;
 use std::alloc::AllocError;
 
 /// Where so many own ids wait to be told, no other is issued (RFC 9000, section 5.1.1, which names
 /// no number).
-const MAX_UNTOLD_IDS: usize = 50;
+const MAX_UNTOLD_IDS: usize = MAX_PENDING_RETIRED_CIDS as usize;
 
 impl<H: HeaderKey + Drop, K: PacketKey + Drop, R: Rng + Drop, C: Controller> Connection<
     H,
@@ -32,11 +33,11 @@ impl<H: HeaderKey + Drop, K: PacketKey + Drop, R: Rng + Drop, C: Controller> Con
     R,
     C,
 > {
-    /// Takes a NEW_CONNECTION_ID frame (RFC 9000, section 19.15): an id of the peer is known. Those
-    /// that it asks to be retired are, and another is used where that in use is among them; where
-    /// as many retirements wait as may, or the peer gives more ids than it may, a rule is broken
-    /// (sections 5.1.1 and 5.1.2). One that comes late, for a number that was retired, is to be
-    /// retired once more.
+    /// Takes a NEW_CONNECTION_ID frame (RFC 9000, section 19.15): an id of the peer is known. IDs
+    /// below `retire_prior_to` are retired, switching away from the active one if it is among them.
+    /// Too many pending retirements, or more IDs than the limit, is an error that closes the
+    /// connection (sections 5.1.1 and 5.1.2). One that comes late, for a number that was retired,
+    /// is to be retired once more.
     pub(crate) fn take_new_id(&mut self, frame: NewConnectionId) -> Result<(), Trouble>
         requires number { frame.sequence < 2 ^ 62 }
         requires prior { frame.retire_prior_to ≤ frame.sequence }
@@ -60,7 +61,7 @@ impl<H: HeaderKey + Drop, K: PacketKey + Drop, R: Rng + Drop, C: Controller> Con
 
     /// Takes a RETIRE_CONNECTION_ID frame (RFC 9000, section 19.16): an own id lives no more, and
     /// the next one is issued in its place, of which the peer has to be told (section 5.1.1),
-    /// unless 50 wait to be told. It is drawn behind the frames of the packet.
+    /// unless 80 wait to be told. It is drawn behind the frames of the packet.
     pub(crate) fn take_retirement(&mut self, sequence: u64) -> Result<(), Trouble>
         ensures takes { TakesAs result (take_retirement sequence self.old.end) self.new.end }
         ensures others { self.new ≡ with_end self.old self.new.end }
@@ -113,7 +114,7 @@ impl<H: HeaderKey + Drop, K: PacketKey + Drop, R: Rng + Drop, C: Controller> Con
     /// # Errors
     ///
     /// - [`NextIdError::NoId`]: no later ID is known. Nothing changes.
-    /// - [`NextIdError::TooManyPending`]: more than 50 retirements would wait. Nothing changes.
+    /// - [`NextIdError::TooManyPending`]: more than 80 retirements would wait. Nothing changes.
     /// - [`NextIdError::Memory`]: an allocation fails. Nothing changes.
     pub fn use_next_id(&mut self) -> Result<(), NextIdError>
         ensures ok { OnOk result (self.new ≡ with_end self.old (after_next_id self.old.end)) }

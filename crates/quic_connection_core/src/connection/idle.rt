@@ -20,7 +20,7 @@ impl<H: HeaderKey + Drop, K: PacketKey + Drop, R: Rng + Drop, C: Controller> Con
     R,
     C,
 > {
-    /// The idle timeout begins anew at this moment: it has three probe timeouts at least.
+    /// Restarts the idle timeout now: it has three probe timeouts at least.
     fn reset_idle_timeout(&mut self)
         ensures { self.new ≡ with_end self.old (idle_reset self.old.end) }
     {
@@ -31,7 +31,7 @@ impl<H: HeaderKey + Drop, K: PacketKey + Drop, R: Rng + Drop, C: Controller> Con
         }
     }
 
-    /// The time without a packet, after which one is sent, begins anew.
+    /// Restarts the keep-alive interval.
     fn reset_keep_alive(&mut self)
         ensures { self.new ≡ with_end self.old (keep_alive_reset self.old.end) }
     {
@@ -41,8 +41,8 @@ impl<H: HeaderKey + Drop, K: PacketKey + Drop, R: Rng + Drop, C: Controller> Con
         }
     }
 
-    /// A packet was taken: the idle timeout begins anew, and does so again with the next packet
-    /// that asks for an acknowledgement.
+    /// Notes that a packet was received: the idle timeout restarts, and does so again with the next
+    /// ack-eliciting packet that is sent.
     pub(crate) fn on_packet_taken(&mut self)
         ensures { self.new ≡ with_end self.old (packet_heard self.old.end) }
     {
@@ -51,8 +51,8 @@ impl<H: HeaderKey + Drop, K: PacketKey + Drop, R: Rng + Drop, C: Controller> Con
         self.reset_keep_alive();
     }
 
-    /// A packet was given that is no close. Where it asks for an acknowledgement and is the first
-    /// such since one was taken, or since the end was made, the idle timeout begins anew.
+    /// Notes that a packet was sent that is no close. If it is ack-eliciting and the first such
+    /// since one was received, or since the endpoint was made, the idle timeout restarts.
     pub(crate) fn on_packet_given(&mut self, asks: bool)
         ensures { self.new ≡ with_end self.old (packet_given asks self.old.end) }
     {
@@ -63,8 +63,8 @@ impl<H: HeaderKey + Drop, K: PacketKey + Drop, R: Rng + Drop, C: Controller> Con
         self.reset_keep_alive();
     }
 
-    /// Where nothing came for the idle timeout, the end is drained, and the peer isn't told:
-    /// whether that is so.
+    /// Drains the endpoint if nothing came for the idle timeout, without a word to the peer.
+    /// Returns whether that is so.
     pub(crate) fn expire_idle_timer(&mut self) -> bool
         ensures expired { result ≡ has_come self.old.end.timers.idle self.old.end.closing.clock }
         ensures end { self.new ≡ with_end self.old (if has_come self.old.end.timers.idle self.old.end.closing.clock then drained_by reasons.Idle self.old.end else self.old.end) }
@@ -77,8 +77,8 @@ impl<H: HeaderKey + Drop, K: PacketKey + Drop, R: Rng + Drop, C: Controller> Con
         true
     }
 
-    /// Where no packet came or went for the interval, PING is asked for, and the timer is stopped
-    /// until it goes (RFC 9000, section 10.1.2).
+    /// Queues a PING if no packet came or went for the keep-alive interval, and stops the timer
+    /// until the PING is sent (RFC 9000, section 10.1.2).
     pub(crate) fn expire_keep_alive_timer(&mut self)
         ensures { self.new ≡ with_end self.old (keep_alive_expired (has_come self.old.end.timers.keep_alive self.old.end.closing.clock) self.old.end) }
     {

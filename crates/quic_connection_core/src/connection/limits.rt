@@ -24,8 +24,8 @@ impl<H: HeaderKey + Drop, K: PacketKey + Drop, R: Rng + Drop, C: Controller> Con
     R,
     C,
 > {
-    /// Why no ordinary packet may be given any more, if none may, and the code that says so to the
-    /// peer: numbers are used up, or the packets that the key may seal. Some of both are kept for
+    /// Why no ordinary packet may be sent any more, if none may, and the code for the peer: the
+    /// packet numbers are used up, or the packets that the key may seal. Some of both are kept for
     /// closes.
     pub(crate) fn bound_reached(&self) -> Option<(LostReason, Code)>
         ensures { MatchOption result
@@ -60,8 +60,8 @@ impl<H: HeaderKey + Drop, K: PacketKey + Drop, R: Rng + Drop, C: Controller> Con
             && sealed < self.keys.packet.local.confidentiality_limit()
     }
 
-    /// A packet didn't open: it is dropped; or an open end closes, where the peer's key refused as
-    /// many as it may.
+    /// Drops a packet that didn't open. An open endpoint closes if the peer's key refused as many
+    /// as it may.
     pub(crate) fn refuse_packet(&mut self, now: Instant) -> Received
         ensures answer { result ≡ (unopened_in self.old.end.closing.state (is_last (K.refusal_limit self.old.keys.packet.remote) self.old.heard) (arriving now None (is_last (K.refusal_limit self.old.keys.packet.remote) self.old.heard)) self.old.end).answer }
         ensures end { self.new ≡ with_end (hearing self.old (heard_answer result self.old.heard)) (unopened_in self.old.end.closing.state (is_last (K.refusal_limit self.old.keys.packet.remote) self.old.heard) (arriving now None (is_last (K.refusal_limit self.old.keys.packet.remote) self.old.heard)) self.old.end).end }
@@ -79,7 +79,7 @@ impl<H: HeaderKey + Drop, K: PacketKey + Drop, R: Rng + Drop, C: Controller> Con
         Received::Closed(TransportError::new(code, None, Reason::Unsaid))
     }
 
-    /// A packet didn't open (RFC 9001, section 6.6).
+    /// Counts a packet that didn't open (RFC 9001, section 6.6).
     fn count_failure(&mut self)
         ensures { self.new ≡ hearing self.old (heard_failure self.old.heard) }
     {

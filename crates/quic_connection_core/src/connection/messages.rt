@@ -24,8 +24,9 @@ impl<H: HeaderKey + Drop, K: PacketKey + Drop, R: Rng + Drop, C: Controller> Con
     R,
     C,
 > {
-    /// Takes a message: it waits to be read, for which the oldest unread may go. One that this end
-    /// told that it doesn't take breaks a rule (RFC 9221, section 3).
+    /// Takes a message: it is queued to be read, for which the oldest unread may be dropped. If
+    /// this endpoint advertised that it takes none so long, that is a protocol violation (RFC 9221,
+    /// section 3).
     pub(crate) fn take_message(&mut self, message: &[u8]) -> Result<(), Trouble>
         ensures takes { TakesAs result (take_message message.now self.old.end) self.new.end }
         ensures others { self.new ≡ with_end self.old self.new.end }
@@ -43,7 +44,7 @@ impl<H: HeaderKey + Drop, K: PacketKey + Drop, R: Rng + Drop, C: Controller> Con
         }
     }
 
-    /// The application is told that a message came, where it is to be told so: whether it was.
+    /// Queues the event that a message came, if it is due: whether it was.
     pub(crate) fn tell_message(&mut self) -> bool
         ensures told { result ≡ tells_message self.old.end }
         ensures end { self.new ≡ with_end self.old (if tells_message self.old.end then message_told self.old.end else self.old.end) }
@@ -55,13 +56,13 @@ impl<H: HeaderKey + Drop, K: PacketKey + Drop, R: Rng + Drop, C: Controller> Con
         true
     }
 
-    /// Whether a message waits that a datagram takes, whichever number it has.
+    /// Whether a message is pending that fits a datagram, whichever packet number that has.
     pub(crate) fn message_waits(&self) -> bool
         ensures { result ≡ message_waits self.now.end }
     {
         let header = 1 + self.ids.destination().len() + MAX_NUMBER_LENGTH;
         self.datagrams
-            .can_send(usize::from(self.path.current_mtu()) - (header + TAG_LEN))
+            .can_send(usize::from(self.most_ordinary()) - (header + TAG_LEN))
     }
 }
 
@@ -72,7 +73,7 @@ impl<H, K, R, C: Controller> Connection<H, K, R, C> {
     ghost use Rattle.quic_messages.specs.contracts.state.DatagramState.{the_row as datagrams_row};
     ghost use Rattle.quic_connection_core.specs.Handed.{messages_back};
 
-    /// What bounds the messages of the end: its settings, what the peer takes, and the size of
+    /// What bounds the messages of the endpoint: its settings, what the peer takes, and the size of
     /// datagrams.
     pub fn datagram_limits(&self) -> DatagramLimits
         ensures { result ≡ limits_of self.now.end }
@@ -89,8 +90,8 @@ impl<H, K, R, C: Controller> Connection<H, K, R, C> {
         }
     }
 
-    /// The messages of the end that wait to be sent, and those that came and weren't read: what
-    /// [`Datagrams`] borrows.
+    /// The messages of the endpoint that are queued to be sent, and those that came and weren't
+    /// read: what [`Datagrams`] borrows.
     pub fn datagrams_mut(&mut self) -> &mut DatagramState
         ensures* writes_back { sem 𝓛 (follows (connection_row H.row K.row R.row C.row C.Controller) datagrams_row self.entry.ghost_name result.ghost_name (messages_back self.old)) }
         ensures state { result.now ≡ self.old.end.messages.queues }
@@ -98,7 +99,7 @@ impl<H, K, R, C: Controller> Connection<H, K, R, C> {
         &mut self.datagrams
     }
 
-    /// The messages of the end (quinn-proto's `Connection::datagrams`).
+    /// The messages of the endpoint (quinn-proto's `Connection::datagrams`).
     pub fn datagrams(&mut self) -> Datagrams<'_>
         ensures* writes_back { sem 𝓛 (follows (connection_row H.row K.row R.row C.row C.Controller) datagrams_row self.entry.ghost_name result.datagrams.ghost_name (messages_back self.old)) }
         ensures state { result.datagrams.now ≡ self.old.end.messages.queues }

@@ -14,7 +14,7 @@ ghost use Rattle.quic_spaces.specs.Acknowledging.{most_ack_bytes};
 ghost use Rattle.quic_spaces.specs.Numbers.{can_number, may_give, cut_against};
 ghost use Rattle.quic_machine.specs.Tracking.{carried_in};
 ghost use Rattle.quic_machine.specs.DraftLaws.{MayGo, MayLeave};
-ghost use Rattle.quic_machine.specs.Poll.{draft_left, draft_as, lazied_as, most_of, composed, frame_room, payload_of, datagram_of, datagram_size, paid_if, told_draft, after_given, asking, tracked, ack_of, after_ack};
+ghost use Rattle.quic_machine.specs.Poll.{draft_left, draft_as, lazied_as, most_of, most_ordinary, beside_frames, composed, frame_room, payload_of, datagram_of, datagram_size, paid_if, told_draft, after_given, asking, tracked, ack_of, after_ack};
 ghost use Rattle.quic_connection_parts.specs.Leaving.{leaving_of, IsLooked, least_of, pads_left};
 ghost use Rattle.quic_machine.specs.Idle.{packet_given};
 ghost use Rattle.quic_machine.specs.Validation.{path_waits};
@@ -42,8 +42,8 @@ impl<H: HeaderKey + Drop, K: PacketKey + Drop, R: Rng + Drop, C: Controller> Con
     R,
     C,
 > {
-    /// A packet is made: an acknowledgement is due where many packets came that don't ask. A probe
-    /// of a size carries none.
+    /// About to build a packet: an ACK becomes due if more than ten non-ack-eliciting packets have
+    /// arrived. MTU probes carry no ACK.
     fn lazy(&mut self, leaving: Leaving)
         ensures { self.new ≡ with_end self.old (lazied_as (leaving_of leaving) self.old.end) }
     {
@@ -53,18 +53,35 @@ impl<H: HeaderKey + Drop, K: PacketKey + Drop, R: Rng + Drop, C: Controller> Con
         }
     }
 
-    /// How many bytes the datagram of what leaves has at most.
+    /// How many bytes an ordinary datagram has at most: the current size, and while a PTO probe is
+    /// pending no more than `min_mtu`, so that the probe arrives if the path carries less than it
+    /// did (RFC 8899, section 4.3; RFC 9000, section 14.3).
+    pub(crate) fn most_ordinary(&self) -> u16
+        ensures size { result ≡ most_ordinary self.now.end }
+        ensures least { 1200 ≤ result }
+        ensures within { result ≤ current_mtu self.now.end.path }
+    {
+        // The proof reads that the current size has 1200 bytes at least.
+        let size = self.path.current_mtu();
+        if self.space.tracking.has_probes() {
+            self.transport.get_min_mtu().min(size)
+        } else {
+            size
+        }
+    }
+
+    /// How many bytes a datagram of this kind has at most.
     fn most_size(&self, leaving: Leaving) -> usize
         ensures { result ≡ most_of (leaving_of leaving) self.now.end }
     {
         match leaving {
-            Leaving::Whole | Leaving::Alone => usize::from(self.path.current_mtu()),
+            Leaving::Whole | Leaving::Alone => usize::from(self.most_ordinary()),
             Leaving::Probe(size) => usize::from(size.max(self.path.current_mtu())),
         }
     }
 
-    /// Appends the datagram of what leaves, tracks it, and counts it as given: its size. Where
-    /// memory lacks, nothing is appended, and the end fails for good.
+    /// Appends a datagram of this kind, tracks it, and counts it as sent: its size. If out of
+    /// memory, nothing is appended, and the endpoint fails for good.
     pub(crate) fn give(&mut self, leaving: Leaving, out: &mut Vec<u8>) -> Result<usize, Failed>
         requires number { can_number self.old.end.numbers ≡ true }
         requires due { MayLeave (leaving_of leaving) self.old.end }
@@ -89,8 +106,8 @@ impl<H: HeaderKey + Drop, K: PacketKey + Drop, R: Rng + Drop, C: Controller> Con
         self.put_datagram(leaving, out)
     }
 
-    /// The same, where there is room for the datagram, and an acknowledgement is due if many
-    /// packets came that don't ask.
+    /// Appends a datagram of this kind, for which there is room, tracks it, and counts it as sent:
+    /// its size. If out of memory, nothing is appended, and the endpoint fails for good.
     fn put_datagram(&mut self, leaving: Leaving, out: &mut Vec<u8>) -> Result<usize, Failed>
         requires number { can_number self.old.end.numbers ≡ true }
         requires due { MayGo (leaving_of leaving) self.old.end }
@@ -121,9 +138,9 @@ impl<H: HeaderKey + Drop, K: PacketKey + Drop, R: Rng + Drop, C: Controller> Con
         Ok(out.len() - start)
     }
 
-    /// Appends the packet of what waits, for which there is room, unsealed, tracks it, and counts
-    /// its number as given. An error is want of memory; the end is of no more use then, and some of
-    /// the packet may stand in `out`.
+    /// Appends the packet of what is pending, for which there is room, unsealed, tracks it, and
+    /// counts its number as used. Fails if out of memory; the endpoint is then unusable, and some
+    /// of the packet may be in `out`.
     fn put_tracked(&mut self, leaving: Leaving, out: &mut Vec<u8>) -> Result<(), AllocError>
         requires number { can_number self.old.end.numbers ≡ true }
         requires due { MayGo (leaving_of leaving) self.old.end }
@@ -151,9 +168,9 @@ impl<H: HeaderKey + Drop, K: PacketKey + Drop, R: Rng + Drop, C: Controller> Con
         self.track(size, sent)
     }
 
-    /// Appends the packet of what waits, for which there is room, unsealed; its frames are taken:
-    /// what went. An error is want of memory; the end is of no more use then, and some of the
-    /// packet may stand in `out`.
+    /// Appends the packet of what is pending, for which there is room, unsealed; its frames are
+    /// taken off. Returns what it carries. Fails if out of memory; the endpoint is then unusable,
+    /// and some of the packet may be in `out`.
     fn put_plain(&mut self, leaving: Leaving, out: &mut Vec<u8>) -> Result<SentFrames, AllocError>
         requires number { can_number self.old.end.numbers ≡ true }
         requires due { MayGo (leaving_of leaving) self.old.end }
@@ -175,8 +192,8 @@ impl<H: HeaderKey + Drop, K: PacketKey + Drop, R: Rng + Drop, C: Controller> Con
         ensures grows { vec_len out.old ≤ vec_len out.new }
         ensures others { self.new ≡ with_end self.old self.new.end }
     {
-        // The proof reads that a datagram has 1200 bytes at least.
-        let _ = &self.path;
+        // The proof reads that a datagram may have 1200 bytes.
+        let _most = self.most_ordinary();
         let start = out.len();
         let width = self.put_header(out);
         let body = out.len();
@@ -187,9 +204,10 @@ impl<H: HeaderKey + Drop, K: PacketKey + Drop, R: Rng + Drop, C: Controller> Con
         Ok(sent)
     }
 
-    /// Appends the frames of what leaves as a payload, for which there is room: of all that waits,
-    /// a due ACK alone, or PING as a probe of a size. This answers what went. An error is want of
-    /// memory; the end is of no more use then, and some of the frames may stand in `out`.
+    /// Appends the frames of a datagram of this kind as a payload, for which there is room: of all
+    /// that is pending, a due ACK alone, or the PING of an MTU probe. Returns what they carry.
+    /// Fails if out of memory; the endpoint is then unusable, and some of the frames may be in
+    /// `out`.
     fn put_leave(&mut self, leaving: Leaving, out: &mut Vec<u8>) -> Result<SentFrames, AllocError>
         requires number { can_number self.old.end.numbers ≡ true }
         requires due { MayGo (leaving_of leaving) self.old.end }
@@ -222,8 +240,8 @@ impl<H: HeaderKey + Drop, K: PacketKey + Drop, R: Rng + Drop, C: Controller> Con
         }
     }
 
-    /// How many bytes a datagram has at least: a probe has its size, one with a frame of path
-    /// validation 1200, and one that asks that of its path, where `pad_to_mtu` is set.
+    /// How many bytes a datagram has at least: an MTU probe has its size, one with PATH_CHALLENGE
+    /// or PATH_RESPONSE 1200, and with `pad_to_mtu` an ack-eliciting one as many as it may have.
     fn least_size(&self, leaving: Leaving, sent: &SentFrames) -> usize
         ensures { result ≡ least_of (leaving_of leaving) sent.now.requires_padding sent.now.asks self.now.end }
     {
@@ -233,16 +251,16 @@ impl<H: HeaderKey + Drop, K: PacketKey + Drop, R: Rng + Drop, C: Controller> Con
             Leaving::Probe(size) => size,
         };
         if self.transport.get_pad_to_mtu() && sent.asks {
-            usize::from(size.max(self.path.current_mtu()))
+            usize::from(size.max(self.most_ordinary()))
         } else {
             usize::from(size)
         }
     }
 
-    /// Appends the frames of what waits as a payload, for which there is room. A due ACK goes
-    /// first, so that it always fits; one that isn't due goes last, where it fits, so that it takes
-    /// no room from what waits. This answers what went. An error is want of memory; the end is of
-    /// no more use then, and some of the frames may stand in `out`.
+    /// Appends the pending frames as a payload, for which there is room. A due ACK goes first, so
+    /// that it always fits; one that isn't due goes last, if it fits, so that it takes no room from
+    /// what is pending. Returns what they carry. Fails if out of memory; the endpoint is then
+    /// unusable, and some of the frames may be in `out`.
     fn put_frames(&mut self, out: &mut Vec<u8>) -> Result<SentFrames, AllocError>
         requires number { can_number self.old.end.numbers ≡ true }
         requires some { 1159 ≤ frame_room self.old.end }
@@ -277,9 +295,9 @@ impl<H: HeaderKey + Drop, K: PacketKey + Drop, R: Rng + Drop, C: Controller> Con
         self.space.acknowledging.is_due()
     }
 
-    /// Appends an ACK where there is a number to acknowledge and its frame fits behind the frames
-    /// of the packet whose payload begins at `body`; there is room for the whole payload. This
-    /// answers the greatest number that it names.
+    /// Appends an ACK if there is a number to acknowledge and the frame fits behind the frames of
+    /// the packet whose payload begins at `body`; there is room for the whole payload. Returns the
+    /// greatest number that it names.
     fn put_late_ack(&mut self, body: usize, out: &mut Vec<u8>) -> Option<u64>
         requires number { can_number self.old.end.numbers ≡ true }
         requires body { body ≤ vec_len out.old }
@@ -311,7 +329,7 @@ impl<H: HeaderKey + Drop, K: PacketKey + Drop, R: Rng + Drop, C: Controller> Con
         self.space.acknowledging.is_filled() && self.ack_size() <= room
     }
 
-    /// How many bytes the ACK frame of this moment takes. There is a number to acknowledge.
+    /// How many bytes an ACK frame takes now. There is a number to acknowledge.
     fn ack_size(&self) -> usize
         requires { is_filled self.now.end.acknowledging.runs ≡ true }
         ensures { result ≡ frame_size (ack (ack_of self.now.end)) }
@@ -322,8 +340,8 @@ impl<H: HeaderKey + Drop, K: PacketKey + Drop, R: Rng + Drop, C: Controller> Con
             .size(self.closing.clock(), counts.as_ref())
     }
 
-    /// Appends an ACK, for which there is room, and stops its timer: the greatest number that it
-    /// names. There is a number to acknowledge.
+    /// Appends an ACK, for which there is room, and stops its timer. Returns the greatest number
+    /// that it names. There is a number to acknowledge.
     fn put_ack(&mut self, out: &mut Vec<u8>) -> u64
         requires some { is_filled self.old.end.acknowledging.runs ≡ true }
         requires room { length self.old.end.acknowledging.runs ≤ MAX_ACK_RUNS → vec_len out.old + frame_size (ack (ack_of self.old.end)) ≤ vec_capacity out.old }
@@ -343,10 +361,10 @@ impl<H: HeaderKey + Drop, K: PacketKey + Drop, R: Rng + Drop, C: Controller> Con
         largest
     }
 
-    /// Appends what asks for an acknowledgement, frames of path validation, PING, IMMEDIATE_ACK,
+    /// Appends the ack-eliciting frames, PATH_CHALLENGE and PATH_RESPONSE, PING, IMMEDIATE_ACK,
     /// ACK_FREQUENCY, messages and frames about streams, behind the frames of the packet whose
-    /// payload begins at `body`: none, or an ACK. There is room for the whole payload. This answers
-    /// what went. An error is want of memory; the end is of no more use then.
+    /// payload begins at `body`: none, or an ACK. There is room for the whole payload. Returns what
+    /// they carry. Fails if out of memory; the endpoint is then unusable.
     fn put_asking(&mut self, body: usize, out: &mut Vec<u8>) -> Result<SentFrames, AllocError>
         requires number { can_number self.old.end.numbers ≡ true }
         requires body { body ≤ vec_len out.old }
@@ -376,7 +394,7 @@ impl<H: HeaderKey + Drop, K: PacketKey + Drop, R: Rng + Drop, C: Controller> Con
         })
     }
 
-    /// Appends PING and IMMEDIATE_ACK, each if it waits, for which there is room.
+    /// Appends PING and IMMEDIATE_ACK, each if it is pending, for which there is room.
     fn put_bare_signals(&mut self, out: &mut Vec<u8>)
         requires { vec_len out.old + 2 ≤ vec_capacity out.old }
         ensures items { out.new.items ≡ out.old.items ++ bare_bytes self.old.end.waiting.signals }
@@ -389,7 +407,7 @@ impl<H: HeaderKey + Drop, K: PacketKey + Drop, R: Rng + Drop, C: Controller> Con
         self.put_immediate_ack(out);
     }
 
-    /// Appends IMMEDIATE_ACK if it waits, for which there is room.
+    /// Appends IMMEDIATE_ACK if it is pending, for which there is room.
     fn put_immediate_ack(&mut self, out: &mut Vec<u8>)
         requires { vec_len out.old + 1 ≤ vec_capacity out.old }
         ensures items { out.new.items ≡ out.old.items ++ immediate_bytes self.old.end.waiting.signals.immediate }
@@ -404,7 +422,7 @@ impl<H: HeaderKey + Drop, K: PacketKey + Drop, R: Rng + Drop, C: Controller> Con
         }
     }
 
-    /// Appends PING if it waits, for which there is room.
+    /// Appends PING if it is pending, for which there is room.
     fn put_ping(&mut self, out: &mut Vec<u8>)
         requires { vec_len out.old + 1 ≤ vec_capacity out.old }
         ensures items { out.new.items ≡ out.old.items ++ ping_bytes self.old.end.waiting.signals.ping }
@@ -420,9 +438,9 @@ impl<H: HeaderKey + Drop, K: PacketKey + Drop, R: Rng + Drop, C: Controller> Con
     }
 
     /// Appends messages and frames about streams behind the frames of the packet whose payload
-    /// begins at `body`; there is room for the whole payload. This answers what they carry, with
-    /// ACK_FREQUENCY where `requests` says that it went before them. An error is want of memory;
-    /// the end is of no more use then.
+    /// begins at `body`; there is room for the whole payload. Returns what they carry, with
+    /// ACK_FREQUENCY if `requests` says that it went before them. Fails if out of memory; the
+    /// endpoint is then unusable.
     #[tactic(auto, using(crate::proofs::Plain::can_give))]
     fn put_content(
         &mut self,
@@ -467,7 +485,8 @@ impl<H: HeaderKey + Drop, K: PacketKey + Drop, R: Rng + Drop, C: Controller> Con
         self.filter.peek(&self.space.numbers)
     }
 
-    /// That number as it is written, cut against the greatest that was acknowledged.
+    /// The number of the next datagram as it is written, truncated against the greatest that was
+    /// acknowledged.
     fn packet_number(&self) -> PacketNumber
         requires { may_give self.now.end.numbers (number_of self.now.end) ≡ true }
         ensures value { result ≡ truncated (number_of self.now.end) (cut_against self.now.end.numbers) }
@@ -480,16 +499,23 @@ impl<H: HeaderKey + Drop, K: PacketKey + Drop, R: Rng + Drop, C: Controller> Con
         numbers.packet_number(self.number())
     }
 
+    /// How many bytes of the next datagram aren't frames: header, number and tag.
+    pub(crate) fn beside_frames(&self) -> usize
+        requires number { may_give self.now.end.numbers (number_of self.now.end) ≡ true }
+        ensures beside { result ≡ beside_frames self.now.end }
+        ensures few { result ≤ 41 }
+    {
+        1 + self.ids.destination().len() + self.packet_number().len() + TAG_LEN
+    }
+
     /// How many bytes are left for frames in the next datagram.
-    pub(crate) fn frame_room(&self) -> usize
+    fn frame_room(&self) -> usize
         requires number { may_give self.now.end.numbers (number_of self.now.end) ≡ true }
         ensures room { result ≡ frame_room self.now.end }
         ensures some { 1159 ≤ result }
-        ensures whole { 1 + length self.now.end.ids.peer.id + (truncated (number_of self.now.end) (cut_against self.now.end.numbers)).width + result + 16 ≡ current_mtu self.now.end.path }
         ensures few { result < 2 ^ 16 }
     {
-        let header = 1 + self.ids.destination().len() + self.packet_number().len();
-        usize::from(self.path.current_mtu()) - (header + TAG_LEN)
+        usize::from(self.most_ordinary()) - self.beside_frames()
     }
 
     /// Appends the header of the next datagram, for which there is room: how many bytes its number

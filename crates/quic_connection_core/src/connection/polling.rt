@@ -31,42 +31,46 @@ impl<H: HeaderKey + Drop, K: PacketKey + Drop, R: Rng + Drop, C: Controller> Con
     R,
     C,
 > {
-    /// Appends the next datagram to `out`, if there is something to send at this moment: a due
-    /// acknowledgement, PATH_CHALLENGE, PATH_RESPONSE, PING, IMMEDIATE_ACK, ACK_FREQUENCY, what has
-    /// to be told of streams, messages, or bytes of streams (RFC 9000, sections 8.2, 13.2 and 13.3;
-    /// RFC 9221, section 5). An acknowledgement that isn't due goes along where it fits. Where a
-    /// PTO probe waits and nothing has to be told of streams, what a tracked packet carried of it
-    /// is told once more, or a PING goes (RFC 9002, section 6.2.4). An IMMEDIATE_ACK goes with each
-    /// PTO probe to a peer that advertised min_ack_delay, and in the place of that PING (QUIC
-    /// Acknowledgement Frequency, section 5). The datagram is tracked until it is acknowledged,
-    /// lost or forgotten, and sets the loss timer anew. Where its number is the one above one that
-    /// is left out, a word of the random source says which is left out next. Its bytes count as
-    /// sent (section 8.1).
+    /// Appends the next datagram to `out`, if there is something to send at this time: a due ACK,
+    /// PATH_CHALLENGE, PATH_RESPONSE, PING, IMMEDIATE_ACK, ACK_FREQUENCY, control frames of streams
+    /// and IDs, messages, or stream data (RFC 9000, sections 8.2, 13.2 and 13.3; RFC 9221, section
+    /// 5). An ACK that isn't due goes along where it fits. The datagram is tracked until it is
+    /// acknowledged, lost or forgotten, and sets the loss timer anew. If its number is the one
+    /// after a skipped one, a random value says which is skipped next. Its bytes count as sent
+    /// (section 8.1).
     ///
-    /// What asks for an acknowledgement waits where the congestion window has no room for one more
-    /// datagram, or where the pacer names a later moment, to which the timer [`Timer::Pacing`] is
-    /// set; a due acknowledgement goes alone then, and a PTO probe that waits passes both (RFC
-    /// 9002, sections 7, 7.5 and 7.7).
+    /// If a PTO probe is pending and no control frame is, the control frames of the oldest tracked
+    /// packet that has any are queued again; else a PING is (RFC 9002, section 6.2.4). To a peer
+    /// that advertised min_ack_delay an IMMEDIATE_ACK goes with each PTO probe, and in place of
+    /// that PING (QUIC Acknowledgement Frequency, section 5).
     ///
-    /// Nothing goes while the peer's address isn't validated and one more datagram of the current
-    /// size would come to more than three times the bytes that came (RFC 9000, section 8.1).
+    /// Ack-eliciting packets are held back while the congestion window has no room for a full
+    /// datagram, or until the pacer's deadline, for which [`Timer::Pacing`] is set. A due ACK is
+    /// still sent, alone; PTO probes are exempt from both (RFC 9002, sections 7, 7.5 and 7.7).
     ///
-    /// Where nothing waits, a PING may go as an MTU probe of a size no smaller than the current
-    /// one: where path MTU discovery is configured and names one, the peer's address is validated,
-    /// and the congestion window has room for the greatest size that is looked at (RFC 8899,
-    /// section 5.3; RFC 9000, section 14.3).
+    /// Nothing is sent while the peer's address isn't validated and one more datagram of the
+    /// current size would come to more than three times the bytes that came (RFC 9000, section
+    /// 8.1).
     ///
-    /// The datagram has at most [`Connection::current_mtu`] bytes, or is such an MTU probe, which
-    /// has the size that is looked for; with PATH_CHALLENGE or PATH_RESPONSE it has 1200 at least.
-    /// It is to be marked as the answer says: ECT(0), until an ACK shows that marks don't come
-    /// through (section 13.4.2). An end that gives nothing and is open has nothing left to send but
-    /// what is held back.
+    /// If nothing is pending, a PING may be sent as an MTU probe, no smaller than the current size:
+    /// if path MTU discovery is configured and names a size to probe, the peer's address is
+    /// validated, and the congestion window has room for the greatest size that is probed (RFC
+    /// 8899, section 5.3; RFC 9000, section 14.3).
     ///
-    /// Where something would go and the packet numbers are used up, or the packets that the key may
-    /// seal, the end closes instead, and gives its close (section 12.3; RFC 9001, section 6.6).
-    /// Sixteen numbers and eight seals are kept for closes. An end that is closing gives its close
+    /// The datagram has at most [`Connection::current_mtu`] bytes, or is such an MTU probe, of the
+    /// size that is probed; with PATH_CHALLENGE or PATH_RESPONSE it has at least 1200. While a PTO
+    /// probe is pending it has no more than `min_mtu` bytes either, so that the probe arrives if
+    /// the path carries less than it did (RFC 8899, section 4.3; RFC 9000, section 14.3).
+    ///
+    /// The answer says with which ECN codepoint it is to be sent: ECT(0), until an ACK shows that
+    /// codepoints don't come through (section 13.4.2). An open endpoint that gives nothing has
+    /// nothing left to send but what is held back.
+    ///
+    /// If something is to be sent and the packet numbers are used up, or the packets that the key
+    /// may seal, the endpoint closes instead, and sends CONNECTION_CLOSE (section 12.3; RFC 9001,
+    /// section 6.6). Sixteen numbers and eight seals are kept for that. A closing endpoint sends it
     /// once, and once more for each new packet that came (section 10.2.1), while numbers and seals
-    /// last; a drained end gives nothing.
+    /// last; a drained endpoint sends nothing.
     ///
     /// # Errors
     ///
@@ -109,7 +113,7 @@ impl<H: HeaderKey + Drop, K: PacketKey + Drop, R: Rng + Drop, C: Controller> Con
         }
     }
 
-    /// The same of an open end that has read the window.
+    /// Polls an open endpoint, whose window is stored.
     fn poll_open(&mut self, now: Instant, out: &mut Vec<u8>) -> Result<Option<Transmit>, Failed>
         requires { self.old.end.closing.state ≡ State.Open }
         ensures answer { OnOk result (result ≡ (polled (policy_of H.protection K.aead K.seal_limit K.refusal_limit (words_of R.stream) self.old) self.old.end now).answer) }
@@ -143,16 +147,16 @@ impl<H: HeaderKey + Drop, K: PacketKey + Drop, R: Rng + Drop, C: Controller> Con
         }))
     }
 
-    /// A datagram of so many bytes went on the path (RFC 9000, section 8.1).
+    /// Counts a datagram of so many bytes as sent on the path (RFC 9000, section 8.1).
     pub(crate) fn count_bytes(&mut self, size: usize)
         ensures { self.new ≡ hearing self.old (heard_sent size self.old.heard) }
     {
         self.path.on_datagram_sent(size as u64);
     }
 
-    /// Takes a moment over, stops the timer of the pacer, sees that something goes with a probe
-    /// that waits, and that the peer is asked how often to acknowledge: what leaves then, if
-    /// something does. Where memory lacks, the end fails for good.
+    /// Advances the time, stops the pacing timer, sees that a pending PTO probe has something to
+    /// send, and queues ACK_FREQUENCY if it is due. Returns the kind of datagram to send then, if
+    /// there is one. If out of memory, the endpoint fails for good.
     fn make_ready(&mut self, now: Instant) -> Result<Option<Leaving>, Failed>
         ensures leaving { IfOk result (λ leaving. Leaves leaving (ready_at self.old.end now).leaving) }
         ensures end { OnOk result (self.new ≡ with_end self.old (rested (ready_at self.old.end now))) }
@@ -167,7 +171,8 @@ impl<H: HeaderKey + Drop, K: PacketKey + Drop, R: Rng + Drop, C: Controller> Con
         Ok(self.leaving())
     }
 
-    /// The mark of a datagram: ECT(0), while the path is marked (RFC 9000, section 13.4).
+    /// The ECN codepoint of a datagram: ECT(0), while ECN is in use on the path (RFC 9000, section
+    /// 13.4).
     pub(crate) fn mark(&self) -> Option<EcnCodepoint>
         ensures { result ≡ mark_of self.now.end.path.marking }
     {
@@ -178,10 +183,10 @@ impl<H: HeaderKey + Drop, K: PacketKey + Drop, R: Rng + Drop, C: Controller> Con
         }
     }
 
-    /// What leaves, if something does: all that waits, unless window or pacer hold back what asks;
-    /// a due acknowledgement goes alone then. Where nothing waits, the search for a greater size
-    /// may name one to probe (RFC 8899, section 5.3). Nothing leaves where three times what came
-    /// went to an address that isn't validated (RFC 9000, section 8.1).
+    /// The kind of datagram to send, if there is one: all that is pending, or a due ACK alone if
+    /// congestion control or pacing hold back ack-eliciting packets. If nothing is pending, path
+    /// MTU discovery may name a size to probe (RFC 8899, section 5.3). Nothing is sent once three
+    /// times the bytes that came went to an address that isn't validated (RFC 9000, section 8.1).
     fn leaving(&mut self) -> Option<Leaving>
         ensures leaving { Leaves result (leaves_at self.old.end).leaving }
         ensures end { self.new ≡ with_end self.old (rested (leaves_at self.old.end)) }
@@ -200,8 +205,7 @@ impl<H: HeaderKey + Drop, K: PacketKey + Drop, R: Rng + Drop, C: Controller> Con
         self.search()
     }
 
-    /// Whether something waits to go: a due acknowledgement, or something that asks for one, which
-    /// `asks` says.
+    /// Whether something is pending: a due ACK, or something ack-eliciting, which `asks` says.
     fn waits(&self, asks: bool) -> bool
         requires { asks ≡ asks_to_go self.now.end }
         ensures { result ≡ waits self.now.end }
@@ -209,7 +213,7 @@ impl<H: HeaderKey + Drop, K: PacketKey + Drop, R: Rng + Drop, C: Controller> Con
         self.is_ack_due() || asks
     }
 
-    /// A due acknowledgement, which goes alone where what asks is held back.
+    /// A due ACK, which is sent alone while ack-eliciting packets are held back.
     fn acks_alone(&mut self) -> Option<Leaving>
         ensures leaving { Leaves result (leaves_if true self.old.end).leaving }
         ensures end { self.new ≡ with_end self.old (rested (leaves_if true self.old.end)) }
@@ -221,8 +225,8 @@ impl<H: HeaderKey + Drop, K: PacketKey + Drop, R: Rng + Drop, C: Controller> Con
         None
     }
 
-    /// Sees that something goes with a probe that waits. Where memory lacks, the end fails for
-    /// good.
+    /// Sees that a pending PTO probe has something to send. If out of memory, the endpoint fails
+    /// for good.
     fn queue_probe(&mut self) -> Result<(), Failed>
         ensures ok { OnOk result (self.new ≡ with_end self.old (probed self.old.end)) }
         ensures failed { OnErr result (HasFailed self.old self.new) }
@@ -236,7 +240,7 @@ impl<H: HeaderKey + Drop, K: PacketKey + Drop, R: Rng + Drop, C: Controller> Con
         Ok(())
     }
 
-    /// Sees that something goes with a probe that waits. An error is want of memory.
+    /// Sees that a pending PTO probe has something to send. Fails if out of memory.
     fn fill_probe(&mut self) -> Result<(), AllocError>
         ensures ok { OnOk result (self.new ≡ with_end self.old (probed self.old.end)) }
         ensures err { OnErr result (self.new ≡ self.old) }
@@ -256,10 +260,9 @@ impl<H: HeaderKey + Drop, K: PacketKey + Drop, R: Rng + Drop, C: Controller> Con
         self.peer_params.min_ack_delay.is_some()
     }
 
-    /// Whether what asks for an acknowledgement is held back: it would exceed the congestion
-    /// window, or the pacer names a later moment, to which its timer is set (RFC 9002, sections 7
-    /// and 7.7). A probe that waits passes both (section 7.5). `asks` says whether something waits
-    /// that asks.
+    /// Whether ack-eliciting packets are held back: they would exceed the congestion window, or the
+    /// pacer has a later deadline, for which its timer is set (RFC 9002, sections 7 and 7.7). PTO
+    /// probes are exempt (section 7.5). `asks` says whether something ack-eliciting is pending.
     fn is_held_back(&mut self, asks: bool) -> bool
         requires { asks ≡ asks_to_go self.old.end }
         ensures held { result ≡ (gated self.old.end).held }
@@ -271,7 +274,8 @@ impl<H: HeaderKey + Drop, K: PacketKey + Drop, R: Rng + Drop, C: Controller> Con
         self.is_window_full() || self.is_paced()
     }
 
-    /// Whether window and pacer may hold something back: something waits that asks, and no probe.
+    /// Whether congestion control and pacing apply: something ack-eliciting is pending, and no PTO
+    /// probe.
     #[tactic(auto, using(crate::proofs::Gates::none_waits))]
     fn is_gated(&self, asks: bool) -> bool
         requires { asks ≡ asks_to_go self.now.end }
@@ -288,7 +292,7 @@ impl<H: HeaderKey + Drop, K: PacketKey + Drop, R: Rng + Drop, C: Controller> Con
         u128::from(self.window) <= self.bytes_in_flight().saturating_add(size)
     }
 
-    /// Whether the pacer names a later moment, to which its timer is set then.
+    /// Whether the pacer has a later deadline, for which its timer is set then.
     fn is_paced(&mut self) -> bool
         ensures held { result ≡ (by_window false self.old.end).held }
         ensures end { self.new ≡ with_end self.old (by_window false self.old.end).end }

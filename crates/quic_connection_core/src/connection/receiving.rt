@@ -36,21 +36,25 @@ impl<H: HeaderKey + Drop, K: PacketKey + Drop, R: Rng + Drop, C: Controller> Con
     R,
     C,
 > {
-    /// Takes a datagram that came at this moment with this mark, opening it in place (RFC 9000,
-    /// sections 5.2 and 12).
+    /// Takes a datagram that came at this time with this ECN codepoint, opening it in place (RFC
+    /// 9000, sections 5.2 and 12).
     ///
-    /// Its bytes count as received, whatever is made of it (section 8.1), and it counts as a
-    /// failure where its packet doesn't open: with the last that the peer's key may refuse, an
-    /// open end closes for [`LostReason::KeyLimit`] (RFC 9001, section 6.6). A datagram that is
-    /// dropped changes nothing else but what [`stats`](Self::stats) counts, and that the new
-    /// number of one that a closing end opened counts as seen, and lets the close go once more
-    /// (section 10.2.1). Where it breaks a rule, the end closes; the frames before keep their
-    /// effect, and its number isn't taken. Where the peer closes, the number is taken, the end is
-    /// drained at once, and the frames behind aren't taken (section 10.2.2). Where memory lacks,
-    /// the end fails for good. Its number is to be acknowledged once all its frames were taken, at
-    /// once where it came with the mark CE, and its mark counts (sections 13.2.1 and 13.4.1). Each
-    /// connection id that is issued for it draws three words of the random source behind its
-    /// frames (section 5.1.1). The datagram's bytes may be changed; to what isn't said.
+    /// Its bytes count as received, whatever is made of it (section 8.1). It counts as a failure if
+    /// its packet doesn't open: with the last that the peer's key may refuse, an open endpoint
+    /// closes for [`LostReason::KeyLimit`] (RFC 9001, section 6.6). A datagram that is dropped
+    /// changes nothing else but what [`stats`](Self::stats) counts. The exception is a new packet
+    /// that a closing endpoint opened: its number counts as seen, and CONNECTION_CLOSE may be sent
+    /// once more (section 10.2.1).
+    ///
+    /// If it breaks a rule, the endpoint closes; the frames before keep their effect, and its
+    /// number isn't acknowledged. If the peer closes, the number counts, the endpoint is drained at
+    /// once, and the frames behind aren't taken (section 10.2.2). If out of memory, the endpoint
+    /// fails for good.
+    ///
+    /// Its number is to be acknowledged once all its frames were taken, at once if it came with CE,
+    /// and its codepoint is counted (sections 13.2.1 and 13.4.1). Each connection ID that is issued
+    /// for it draws three random values after its frames (section 5.1.1). The datagram's bytes may
+    /// be changed; to what isn't said.
     ///
     /// [`LostReason::KeyLimit`]: quic_machine::LostReason::KeyLimit
     pub fn receive(
@@ -77,7 +81,7 @@ impl<H: HeaderKey + Drop, K: PacketKey + Drop, R: Rng + Drop, C: Controller> Con
         received
     }
 
-    /// Takes a datagram that came at this moment with this mark, opening it in place.
+    /// Takes a datagram that came at this time with this ECN codepoint, opening it in place.
     #[tactic(auto, using(quic_connection_parts::proofs::Drawing::draws_same))]
     fn take_datagram(
         &mut self,
@@ -115,7 +119,7 @@ impl<H: HeaderKey + Drop, K: PacketKey + Drop, R: Rng + Drop, C: Controller> Con
         received
     }
 
-    /// The own id that a datagram is for, or why it is for none.
+    /// The own ID that a datagram is for, or why it is for none.
     fn destination_of(&self, datagram: &[u8]) -> Result<ConnectionId, HeaderError>
         ensures decoded { result ≡ decoded (fixed_length_id own_id_length) (known self.now.end.ids) datagram.now }
         ensures room { OnOk result (own_id_length + 21 ≤ length datagram.now) }
@@ -123,10 +127,10 @@ impl<H: HeaderKey + Drop, K: PacketKey + Drop, R: Rng + Drop, C: Controller> Con
         self.ids.decode(datagram)
     }
 
-    /// Whether a datagram would open here, whatever the state of the end, and also where it came
-    /// before: it has a short header with an own id, its packet opens under its number, and its
-    /// key phase is 0. It is opened in place, so `scratch` is a copy of it, whose bytes may be
-    /// changed; the end stays as it is.
+    /// Whether a datagram would open here, whatever the state of the endpoint, and also if it came
+    /// before: it has a short header with an own ID, its packet opens under its number, and its key
+    /// phase is 0. It is opened in place, so `scratch` is a copy of it, whose bytes may be changed;
+    /// the endpoint stays as it is.
     pub fn would_open(&self, scratch: &mut [u8]) -> bool
         ensures { result ≡ would_open (policy_of H.protection K.aead K.seal_limit K.refusal_limit (words_of R.stream) self.now) self.now.end scratch.old }
     {
@@ -139,7 +143,7 @@ impl<H: HeaderKey + Drop, K: PacketKey + Drop, R: Rng + Drop, C: Controller> Con
         }
     }
 
-    /// Opens a datagram in place, whose destination id is an own one.
+    /// Opens a datagram in place, whose destination ID is an own one.
     fn unprotect(&self, datagram: &mut [u8]) -> Result<Opened, NotOpened>
         requires { own_id_length + 21 ≤ length datagram.old }
         ensures opened { MatchResult result
@@ -213,7 +217,7 @@ impl<H: HeaderKey + Drop, K: PacketKey + Drop, R: Rng + Drop, C: Controller> Con
         }
     }
 
-    /// Takes the frames of a packet, and then its number and its mark.
+    /// Takes the frames of a packet, and then its number and its ECN codepoint.
     fn take_packet(
         &mut self,
         ecn: Option<EcnCodepoint>,
@@ -230,7 +234,7 @@ impl<H: HeaderKey + Drop, K: PacketKey + Drop, R: Rng + Drop, C: Controller> Con
         Ok(())
     }
 
-    /// Takes the frames of a packet, one after another: whether one asks for an acknowledgement.
+    /// Takes the frames of a packet, one after another: whether one is ack-eliciting.
     fn take_payload(&mut self, opened: &Opened, payload: &[u8]) -> Result<bool, Trouble>
         ensures takes { TakesAllAs result (take_payload opened.now.first (items payload.now) self.old.end) (asks_in (items payload.now)) self.new.end }
         ensures told { TellsAs result C.steps self.old (told_payload opened.now.first (items payload.now) self.old.end) self.new }
@@ -245,7 +249,7 @@ impl<H: HeaderKey + Drop, K: PacketKey + Drop, R: Rng + Drop, C: Controller> Con
         self.take_frames(payload)
     }
 
-    /// Takes frames up to the first that is at fault: whether one asks for an acknowledgement.
+    /// Takes frames up to the first that is at fault: whether one is ack-eliciting.
     fn take_frames(&mut self, payload: &[u8]) -> Result<bool, Trouble>
         ensures takes { TakesAllAs result (take_items (items payload.now) self.old.end) (asks_in (items payload.now)) self.new.end }
         ensures told { TellsAs result C.steps self.old (told_items (items payload.now) self.old.end) self.new }
@@ -275,8 +279,8 @@ impl<H: HeaderKey + Drop, K: PacketKey + Drop, R: Rng + Drop, C: Controller> Con
         }
     }
 
-    /// Takes a frame. Those that speak of neither packets and their acknowledgements, streams,
-    /// messages, ids, the path nor a close do nothing yet.
+    /// Takes a frame. Those about neither packets and their acknowledgements, streams, messages,
+    /// IDs, the path nor a close do nothing yet.
     #[tactic(auto, using(crate::proofs::Items::tells_nothing))]
     fn take_frame(&mut self, frame: &Frame<'_>) -> Result<(), Trouble>
         requires { HasForm (frame_view frame.now) }
@@ -314,9 +318,9 @@ impl<H: HeaderKey + Drop, K: PacketKey + Drop, R: Rng + Drop, C: Controller> Con
         }
     }
 
-    /// Takes an ACK frame: the greatest number that it names counts, and the tracked packets that
-    /// it names are acknowledged. A number that was never given breaks a rule (RFC 9000, section
-    /// 13.1).
+    /// Takes an ACK frame: the greatest number that it names is noted, and the tracked packets that
+    /// it names are acknowledged. A number that was never sent is a protocol violation (RFC 9000,
+    /// section 13.1).
     fn take_ack(&mut self, frame: &Ack<'_>) -> Result<(), Trouble>
         ensures takes { TakesAs result (take_ack frame.now self.old.end) self.new.end }
         ensures told { TellsAs result C.steps self.old (told_ack frame.now self.old.end) self.new }
@@ -330,8 +334,8 @@ impl<H: HeaderKey + Drop, K: PacketKey + Drop, R: Rng + Drop, C: Controller> Con
         Ok(())
     }
 
-    /// Sees that an ACK frame names no number that was never given, and not the one that was left
-    /// out last (RFC 9000, sections 13.1 and 21.4).
+    /// Sees that an ACK frame names no number that was never sent, and not the one that was skipped
+    /// last (RFC 9000, sections 13.1 and 21.4).
     fn check_ack(&self, frame: &Ack<'_>) -> Result<(), Trouble>
         ensures ok { OnOk result (names_ungiven frame.now self.now.end ≡ false) }
         ensures below { OnOk result (frame.now.largest < self.now.end.numbers.next) }

@@ -27,8 +27,8 @@ impl<H: HeaderKey + Drop, K: PacketKey + Drop, R: Rng + Drop, C: Controller> Con
     R,
     C,
 > {
-    /// Whether a greater size may be looked for: the search is on, the peer's address is validated,
-    /// and the window has room for the greatest size that is looked at.
+    /// Whether path MTU discovery may probe: it is on, the peer's address is validated, and the
+    /// window has room for the greatest size that is probed.
     fn may_search(&self) -> bool
         ensures { result ≡ may_search self.now.end }
     {
@@ -41,7 +41,7 @@ impl<H: HeaderKey + Drop, K: PacketKey + Drop, R: Rng + Drop, C: Controller> Con
         }
     }
 
-    /// A probe of the size that the search names, where one may be looked for and it names one.
+    /// An MTU probe, if one may be sent and path MTU discovery names a size.
     pub(crate) fn search(&mut self) -> Option<Leaving>
         ensures leaving { Leaves result (searched_if (may_search self.old.end) self.old.end).leaving }
         ensures end { self.new ≡ with_end self.old (rested (searched_if (may_search self.old.end) self.old.end)) }
@@ -55,7 +55,7 @@ impl<H: HeaderKey + Drop, K: PacketKey + Drop, R: Rng + Drop, C: Controller> Con
         }
     }
 
-    /// The size that the search names at this moment, if it names one: a probe of it is open then,
+    /// The size that path MTU discovery names now, if it names one: a probe of it is open then,
     /// under the next number.
     fn ask_search(&mut self) -> Option<u16>
         ensures named { result ≡ search_names self.old.end }
@@ -66,7 +66,7 @@ impl<H: HeaderKey + Drop, K: PacketKey + Drop, R: Rng + Drop, C: Controller> Con
         poll_search(&mut self.path, now, number)
     }
 
-    /// Nothing goes, for want of anything to send.
+    /// Notes that nothing is sent, for want of anything to send.
     pub(crate) fn rest(&mut self) -> Option<Leaving>
         ensures none { result ≡ None }
         ensures end { self.new ≡ with_end self.old (with_app_limited self.old.end true) }
@@ -75,8 +75,8 @@ impl<H: HeaderKey + Drop, K: PacketKey + Drop, R: Rng + Drop, C: Controller> Con
         None
     }
 
-    /// The search for a size learns that a packet of so many bytes is acknowledged: as the open
-    /// probe it has the size of datagrams from then on, of which the controller is told where it
+    /// Notifies path MTU discovery that a packet of so many bytes is acknowledged. If it is the
+    /// open probe, datagrams have its size from then on, of which the controller is notified if it
     /// changed.
     pub(crate) fn search_acked(&mut self, number: u64, size: u16)
         ensures { (p : TrackedPacket) → p.size ≡ size → self.new ≡ telling C.steps self.old (told_probe (number, p) self.old.end.path.discovery) (search_acked (number, p) self.old.end) }
@@ -84,14 +84,14 @@ impl<H: HeaderKey + Drop, K: PacketKey + Drop, R: Rng + Drop, C: Controller> Con
         path_acked(&mut self.path, number, size);
     }
 
-    /// The number of the open probe of a size, if one is open.
+    /// The number of the open MTU probe, if one is open.
     pub(crate) fn open_probe(&self) -> Option<u64>
         ensures { result ≡ open_probe self.now.end.path.discovery }
     {
         self.path.mtud.in_flight_mtu_probe()
     }
 
-    /// The search for a size learns that a packet of so many bytes is lost, which is its open probe
+    /// Notifies path MTU discovery that a packet of so many bytes is lost, which is its open probe
     /// or isn't.
     pub(crate) fn search_lost(&mut self, number: u64, size: u16, is_probe: bool)
         ensures { (p : TrackedPacket) → p.size ≡ size → self.new ≡ with_end self.old (with_discovery self.old.end (with_one_lost is_probe (number, p) self.old.end.path.discovery)) }
@@ -103,7 +103,7 @@ impl<H: HeaderKey + Drop, K: PacketKey + Drop, R: Rng + Drop, C: Controller> Con
         self.other_lost(number, size);
     }
 
-    /// The search learns that its open probe is lost.
+    /// Notifies path MTU discovery that its open probe is lost.
     fn probe_lost(&mut self)
         ensures { self.new ≡ with_end self.old (with_discovery self.old.end (after_probe_lost self.old.end.path.discovery)) }
     {
@@ -111,7 +111,7 @@ impl<H: HeaderKey + Drop, K: PacketKey + Drop, R: Rng + Drop, C: Controller> Con
         hear_probe_lost(&mut self.path);
     }
 
-    /// The search learns that another packet of so many bytes is lost.
+    /// Notifies path MTU discovery that another packet of so many bytes is lost.
     fn other_lost(&mut self, number: u64, size: u16)
         ensures { self.new ≡ with_end self.old (with_discovery self.old.end (after_packet_lost number size self.old.end.path.discovery)) }
     {
@@ -119,9 +119,8 @@ impl<H: HeaderKey + Drop, K: PacketKey + Drop, R: Rng + Drop, C: Controller> Con
         hear_lost(&mut self.path, number, size);
     }
 
-    /// Where packets other than a probe were lost, the path may carry less than before: where the
-    /// size of datagrams fell, the controller is told of it, and messages that are too long are
-    /// dropped.
+    /// Detects a black hole, if packets other than a probe were lost. If the size of datagrams
+    /// fell, the controller is notified, and messages that are too long are dropped.
     pub(crate) fn judge_size(&mut self, losses: &Losses)
         ensures { let discovery = asked_if losses.now.others self.old.end.closing.clock self.old.end.path.discovery in
             self.new ≡ telling C.steps self.old (told_size self.old.end.path.discovery discovery) (with_searched discovery self.old.end) }
@@ -137,8 +136,8 @@ impl<H: HeaderKey + Drop, K: PacketKey + Drop, R: Rng + Drop, C: Controller> Con
         }
     }
 
-    /// The search is asked whether the path carries less than before, which it answers: the
-    /// controller is told of a size that fell.
+    /// Whether path MTU discovery detects a black hole; the controller is notified of a size that
+    /// fell.
     fn ask_size(&mut self) -> bool
         ensures { let discovery = after_question self.old.end.closing.clock self.old.end.path.discovery in
             self.new ≡ telling C.steps self.old (told_size self.old.end.path.discovery discovery) (with_discovery self.old.end discovery) }
@@ -147,7 +146,7 @@ impl<H: HeaderKey + Drop, K: PacketKey + Drop, R: Rng + Drop, C: Controller> Con
         path_asked(&mut self.path, now)
     }
 
-    /// Messages are dropped that are longer than one may be now.
+    /// Drops messages that are longer than one may be now.
     pub(crate) fn drop_oversized(&mut self)
         ensures { self.new ≡ with_end self.old (without_longer_if (most_message self.old.end) self.old.end) }
     {

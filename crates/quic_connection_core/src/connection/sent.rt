@@ -26,10 +26,10 @@ impl<H: HeaderKey + Drop, K: PacketKey + Drop, R: Rng + Drop, C: Controller> Con
     R,
     C,
 > {
-    /// The next datagram has so many bytes and these frames: it is tracked, and its number counts
-    /// as given. Where it asks for an acknowledgement, it is in flight, takes tokens of the pacer,
-    /// and the congestion controller is told of it (RFC 9002, sections 2, 7 and 7.7). An error is
-    /// want of memory, and nothing has changed.
+    /// Tracks the next datagram, of so many bytes and these frames; its number counts as used. If
+    /// it is ack-eliciting, it is in flight, takes tokens of the pacer, and the congestion
+    /// controller is notified (RFC 9002, sections 2, 7 and 7.7). Fails if out of memory; nothing
+    /// has changed then.
     pub(crate) fn track(&mut self, size: u16, sent: SentFrames) -> Result<(), AllocError>
         requires { can_number self.old.end.numbers ≡ true }
         ensures end { OnOk result (self.new.end ≡ packet_given sent.asks (paid_if sent.asks (with_number_given (words_of R.stream self.old.random 0) (tracked_as sent.asks size sent.carried self.old.end)) size)) }
@@ -59,9 +59,9 @@ impl<H: HeaderKey + Drop, K: PacketKey + Drop, R: Rng + Drop, C: Controller> Con
         Ok(())
     }
 
-    /// A packet is tracked as the next that goes on the path, and is in flight where it asks. Its
-    /// number is given; where one is left out before it, a word of the random source says which is
-    /// left out next. An error is want of memory, and nothing has changed.
+    /// Tracks a packet as the next on the path, in flight if it is ack-eliciting. Its number is
+    /// used up; if one is skipped before it, a random value says which is skipped next. Fails if
+    /// out of memory; nothing has changed then.
     #[tactic(auto, unfolding(rand_core::specs::Stream::next_u64))]
     fn keep(&mut self, packet: SentPacket) -> Result<(), AllocError>
         requires number { can_number self.old.end.numbers ≡ true }
@@ -87,8 +87,8 @@ impl<H: HeaderKey + Drop, K: PacketKey + Drop, R: Rng + Drop, C: Controller> Con
         Ok(())
     }
 
-    /// A packet of this number and so many bytes, which asks, takes tokens of the pacer, and the
-    /// congestion controller is told of it.
+    /// Notifies pacer and congestion controller of an ack-eliciting packet of this number and so
+    /// many bytes.
     fn tell_sent(&mut self, number: u64, size: u16)
         ensures { self.new ≡ telling C.steps self.old (told_sent true self.old.end size number) (paid_if true self.old.end size) }
     {

@@ -10,8 +10,8 @@ use quic_machine::Received;
 use quic_stats::ConnectionStats;
 
 impl<H, K, R, C: Controller> Connection<H, K, R, C> {
-    /// What was counted of the end since it was made, and what it knows of its path (quinn-proto's
-    /// `Connection::stats`). Each count stays at the greatest number of its type.
+    /// The endpoint's counters since it was made, and what it knows of its path (quinn-proto's
+    /// `Connection::stats`). Each counter stays at the greatest number of its type.
     pub fn stats(&self) -> ConnectionStats
         ensures rtt { result.path.rtt ≡ best_rtt self.now.end.path.rtt }
         ensures min_rtt { result.path.min_rtt ≡ self.now.end.path.rtt.least }
@@ -26,7 +26,7 @@ impl<H, K, R, C: Controller> Connection<H, K, R, C> {
         stats
     }
 
-    /// A datagram that came was answered so: it counts as dropped where it was.
+    /// Counts a datagram with this answer as dropped, if it was.
     pub(crate) fn count_drop(&mut self, received: &Received)
         ensures { self.new ≡ self.old }
     {
@@ -35,7 +35,7 @@ impl<H, K, R, C: Controller> Connection<H, K, R, C> {
         }
     }
 
-    /// An ACK frame goes.
+    /// Counts an ACK frame as sent.
     pub(crate) fn count_ack(&mut self)
         ensures { self.new ≡ self.old }
     {
@@ -43,7 +43,7 @@ impl<H, K, R, C: Controller> Connection<H, K, R, C> {
         frames.acks = frames.acks.saturating_add(1);
     }
 
-    /// A PING frame goes.
+    /// Counts a PING frame as sent.
     pub(crate) fn count_ping(&mut self)
         ensures { self.new ≡ self.old }
     {
@@ -51,7 +51,7 @@ impl<H, K, R, C: Controller> Connection<H, K, R, C> {
         frames.ping = frames.ping.saturating_add(1);
     }
 
-    /// An IMMEDIATE_ACK frame goes.
+    /// Counts an IMMEDIATE_ACK frame as sent.
     pub(crate) fn count_immediate_ack(&mut self)
         ensures { self.new ≡ self.old }
     {
@@ -59,7 +59,7 @@ impl<H, K, R, C: Controller> Connection<H, K, R, C> {
         frames.immediate_ack = frames.immediate_ack.saturating_add(1);
     }
 
-    /// An ACK_FREQUENCY frame goes.
+    /// Counts an ACK_FREQUENCY frame as sent.
     pub(crate) fn count_ack_frequency(&mut self)
         ensures { self.new ≡ self.old }
     {
@@ -67,7 +67,7 @@ impl<H, K, R, C: Controller> Connection<H, K, R, C> {
         frames.ack_frequency = frames.ack_frequency.saturating_add(1);
     }
 
-    /// A PATH_CHALLENGE frame goes.
+    /// Counts a PATH_CHALLENGE frame as sent.
     pub(crate) fn count_challenge(&mut self)
         ensures { self.new ≡ self.old }
     {
@@ -75,7 +75,7 @@ impl<H, K, R, C: Controller> Connection<H, K, R, C> {
         frames.path_challenge = frames.path_challenge.saturating_add(1);
     }
 
-    /// A PATH_RESPONSE frame goes.
+    /// Counts a PATH_RESPONSE frame as sent.
     pub(crate) fn count_response(&mut self)
         ensures { self.new ≡ self.old }
     {
@@ -83,7 +83,7 @@ impl<H, K, R, C: Controller> Connection<H, K, R, C> {
         frames.path_response = frames.path_response.saturating_add(1);
     }
 
-    /// A packet of so many bytes goes.
+    /// Counts a packet of so many bytes as sent.
     pub(crate) fn count_sent(&mut self, size: u16)
         ensures { self.new ≡ self.old }
     {
@@ -91,7 +91,7 @@ impl<H, K, R, C: Controller> Connection<H, K, R, C> {
         self.stats.path.sent_packets = self.stats.path.sent_packets.saturating_add(1);
     }
 
-    /// A packet is lost that counted as so many bytes in flight.
+    /// Counts a lost packet, of so many bytes in flight.
     pub(crate) fn count_lost(&mut self, size: u16)
         ensures { self.new ≡ self.old }
     {
@@ -100,7 +100,7 @@ impl<H, K, R, C: Controller> Connection<H, K, R, C> {
         path.lost_bytes = path.lost_bytes.saturating_add(u64::from(size));
     }
 
-    /// A probe of a size goes.
+    /// Counts an MTU probe as sent.
     pub(crate) fn count_probe(&mut self)
         ensures { self.new ≡ self.old }
     {
@@ -108,7 +108,7 @@ impl<H, K, R, C: Controller> Connection<H, K, R, C> {
         path.sent_plpmtud_probes = path.sent_plpmtud_probes.saturating_add(1);
     }
 
-    /// A probe of a size is lost.
+    /// Counts an MTU probe as lost.
     pub(crate) fn count_lost_probe(&mut self)
         ensures { self.new ≡ self.old }
     {
@@ -116,7 +116,7 @@ impl<H, K, R, C: Controller> Connection<H, K, R, C> {
         path.lost_plpmtud_probes = path.lost_plpmtud_probes.saturating_add(1);
     }
 
-    /// The path carries less than before, or it doesn't.
+    /// Counts a black hole, if there is one.
     pub(crate) fn count_black_hole(&mut self, fell: bool)
         ensures { self.new ≡ self.old }
     {
@@ -126,7 +126,7 @@ impl<H, K, R, C: Controller> Connection<H, K, R, C> {
         }
     }
 
-    /// The congestion controller is told of congestion.
+    /// Counts a congestion event.
     pub(crate) fn count_congestion(&mut self)
         ensures { self.new ≡ self.old }
     {

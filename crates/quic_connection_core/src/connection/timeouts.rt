@@ -22,16 +22,21 @@ impl<H: HeaderKey + Drop, K: PacketKey + Drop, R: Rng + Drop, C: Controller> Con
     R,
     C,
 > {
-    /// Lets the timers expire that are set to this moment or one before it. Where the loss timer
-    /// expires, packets are lost by time if it was set for one, and else two probes go (RFC 9002,
-    /// section 6.2). Where the timer of acknowledgements expires, one is due (RFC 9000, section
-    /// 13.2.1). Where that of path validation does, another PATH_CHALLENGE waits, by a new word,
-    /// and the timer is set anew (section 8.2.4). Where the pacer's does, the next poll asks it
-    /// again (RFC 9002, section 7.7). Where nothing came for the idle timeout, the end is drained,
-    /// and its peer isn't told (RFC 9000, section 10.1); where no packet came or went for the
-    /// interval of keep-alive, a PING is to go (section 10.1.2). The loss timer is set anew,
-    /// perhaps to a moment that has come already. A closing end is drained once its timer expires
-    /// (section 10.2). A drained end has no timer, and takes no moment over.
+    /// Lets the timers expire that are set to this time or an earlier one.
+    ///
+    /// - The loss timer: packets are lost by time if it was set for one, else two PTO probes are
+    ///   due (RFC 9002, section 6.2).
+    /// - The ACK timer: an ACK is due (RFC 9000, section 13.2.1).
+    /// - Path validation: another PATH_CHALLENGE, with fresh random data, is queued, and the timer
+    ///   is set anew (section 8.2.4).
+    /// - The pacer: the next poll consults it again (RFC 9002, section 7.7).
+    /// - The idle timeout: the endpoint is drained, without a packet to its peer (RFC 9000, section
+    ///   10.1).
+    /// - Keep-alive: a PING is queued (section 10.1.2).
+    /// - The close: a closing endpoint is drained (section 10.2).
+    ///
+    /// The loss timer is set anew then, perhaps to a time that has passed. A drained endpoint has
+    /// no timers and ignores the time.
     ///
     /// # Errors
     ///
@@ -58,8 +63,8 @@ impl<H: HeaderKey + Drop, K: PacketKey + Drop, R: Rng + Drop, C: Controller> Con
         }
     }
 
-    /// Takes a moment over at an open end, and lets the timers expire that have come. Where memory
-    /// lacks, the end fails for good.
+    /// Advances the time of an open endpoint, and lets its timers expire. If out of memory, the
+    /// endpoint fails for good.
     fn take_timeout(&mut self, now: Instant) -> Result<(), Failed>
         requires { self.old.end.closing.state ≡ State.Open }
         ensures end { OnOk result (self.new ≡ drawing self.new.random (telling C.steps self.old (told_timed_out self.old.end now) (timed_out (policy_of H.protection K.aead K.seal_limit K.refusal_limit (words_of R.stream) self.old) self.old.end now).end)) }
@@ -76,8 +81,7 @@ impl<H: HeaderKey + Drop, K: PacketKey + Drop, R: Rng + Drop, C: Controller> Con
         Ok(())
     }
 
-    /// Lets the timers expire that have come. An error is want of memory; the end is of no more
-    /// use then.
+    /// Lets the timers expire that are due. Fails if out of memory; the endpoint is then unusable.
     fn expire_timers(&mut self) -> Result<(), AllocError>
         ensures ok { OnOk result (self.new ≡ drawing self.new.random (telling C.steps self.old (told_expired (has_come self.old.end.timers.loss_detection self.old.end.closing.clock) self.old.end) (expired (words_at R.stream self.old) self.old.end))) }
         ensures random { OnOk result (Draws R.stream self.old self.new) }
@@ -96,8 +100,8 @@ impl<H: HeaderKey + Drop, K: PacketKey + Drop, R: Rng + Drop, C: Controller> Con
         Ok(())
     }
 
-    /// Where the loss timer expired, packets are lost by time, if it was set for one, and else two
-    /// probes go. An error is want of memory; the end is of no more use then.
+    /// If the loss timer has expired, packets are lost by time, if it was set for one, else two PTO
+    /// probes are due. Fails if out of memory; the endpoint is then unusable.
     fn expire_loss_timer(&mut self) -> Result<(), AllocError>
         ensures ok { OnOk result (self.new ≡ telling C.steps self.old (told_expired (has_come self.old.end.timers.loss_detection self.old.end.closing.clock) self.old.end) (loss_expired (has_come self.old.end.timers.loss_detection self.old.end.closing.clock) self.old.end)) }
         ensures others { KeepsRest self.old self.new }
@@ -118,7 +122,7 @@ impl<H: HeaderKey + Drop, K: PacketKey + Drop, R: Rng + Drop, C: Controller> Con
         }
     }
 
-    /// Where the timer of acknowledgements expired, one is due, and the timer is stopped.
+    /// If the ACK timer has expired, an ACK is due, and the timer is stopped.
     fn expire_ack_timer(&mut self)
         ensures { self.new ≡ with_end self.old (acks_expired (has_come self.old.end.timers.max_ack_delay self.old.end.closing.clock) self.old.end) }
     {
@@ -131,7 +135,7 @@ impl<H: HeaderKey + Drop, K: PacketKey + Drop, R: Rng + Drop, C: Controller> Con
         }
     }
 
-    /// Where the timer of the pacer expired, it is stopped: the next poll asks the pacer again.
+    /// If the pacing timer has expired, it is stopped: the next poll consults the pacer again.
     fn expire_pacing_timer(&mut self)
         ensures { self.new ≡ with_end self.old (pacing_expired (has_come self.old.end.timers.pacing self.old.end.closing.clock) self.old.end) }
     {
@@ -140,14 +144,14 @@ impl<H: HeaderKey + Drop, K: PacketKey + Drop, R: Rng + Drop, C: Controller> Con
         }
     }
 
-    /// The moment at which a timer expires, if it is set, in nanoseconds.
+    /// When a timer expires, if it is set, in nanoseconds.
     pub fn timer(&self, timer: Timer) -> Option<Instant>
         ensures { result ≡ timer_at timer self.now.end.timers }
     {
         self.timers.get(timer)
     }
 
-    /// The earliest moment at which a timer expires, if one is set: when
+    /// The earliest deadline of a timer, if one is set: when
     /// [`handle_timeout`](Self::handle_timeout) is to be called next.
     pub fn poll_timeout(&self) -> Option<Instant>
         ensures { result ≡ next_timer self.now.end.timers }
@@ -155,8 +159,8 @@ impl<H: HeaderKey + Drop, K: PacketKey + Drop, R: Rng + Drop, C: Controller> Con
         self.timers.next_timeout()
     }
 
-    /// What the application is to be told next: that a message came while none was unread, once
-    /// for each that did; then what happened to streams; and then that the end is lost, once, and
+    /// The next event for the application: that a message came while none was unread, once for each
+    /// that did; then what happened to streams; and then that the connection is lost, once, and
     /// why.
     pub fn poll(&mut self) -> Option<Event>
         ensures answer { result ≡ end_tells self.old.end }

@@ -16,7 +16,8 @@ use quic_packet::crypto::{HeaderKey, PacketKey};
 use quic_wire::frame::{Ack, Frame, Stream, put_frame};
 use rand_core::Rng;
 
-/// How many probe timeouts a PATH_CHALLENGE waits for its answer (RFC 9000, section 8.2.4).
+/// After how many probe timeouts without an answer a PATH_CHALLENGE is sent anew (RFC 9000, section
+/// 8.2.4).
 const VALIDATION_TIMEOUTS: u64 = 3;
 
 /// The bytes of a datagram with PATH_CHALLENGE or PATH_RESPONSE at least, so that the path is known
@@ -29,8 +30,9 @@ impl<H: HeaderKey + Drop, K: PacketKey + Drop, R: Rng + Drop, C: Controller> Con
     R,
     C,
 > {
-    /// A poll reads whether the peer's address isn't validated and one more datagram would come to
-    /// more than three times the bytes that came (RFC 9000, section 8.1).
+    /// Stores whether anti-amplification holds sending back: the peer's address isn't validated and
+    /// one more datagram would come to more than three times the bytes that came (RFC 9000, section
+    /// 8.1).
     pub(crate) fn read_blocked(&mut self)
         ensures { self.new ≡ with_end self.old (with_blocked self.old.end (is_blocked self.old.end self.old.heard)) }
     {
@@ -38,9 +40,9 @@ impl<H: HeaderKey + Drop, K: PacketKey + Drop, R: Rng + Drop, C: Controller> Con
         self.blocked = self.path.anti_amplification_blocked(size);
     }
 
-    /// Asks the peer to show that it receives at its address: PATH_CHALLENGE waits, with a word of
-    /// the random source, and an earlier one counts no more. Where no answer has come after three
-    /// probe timeouts, another is asked for.
+    /// Asks the peer to show that it receives at its address: PATH_CHALLENGE, with fresh random
+    /// data, is pending, and an earlier one no longer counts. If no answer comes within three probe
+    /// timeouts, another is queued.
     #[tactic(auto, unfolding(rand_core::specs::Stream::next_u64))]
     fn challenge_path(&mut self)
         requires { self.old.end.validation.drawn < 2 ^ 64 - 1 }
@@ -55,8 +57,7 @@ impl<H: HeaderKey + Drop, K: PacketKey + Drop, R: Rng + Drop, C: Controller> Con
             .set(Timer::PathValidation, self.closing.clock() + wait);
     }
 
-    /// The end as it begins: it asks the peer to show that it receives at its address, unless that
-    /// is known.
+    /// Begins path validation, unless the peer's address is validated already.
     pub(crate) fn validating(mut self) -> Self
         requires { self.end.validation.drawn ≡ 0 }
         ensures end { result ≡ drawing result.random (with_end self (challenged_unless self.end.path.validated (words_at R.stream self) self.end)) }
@@ -69,8 +70,8 @@ impl<H: HeaderKey + Drop, K: PacketKey + Drop, R: Rng + Drop, C: Controller> Con
         self
     }
 
-    /// Where the timer of path validation expired, the peer is asked anew; but 2^64 - 1 times at
-    /// most.
+    /// If the path validation timer has expired, queues another PATH_CHALLENGE; but 2^64 - 1 times
+    /// at most.
     #[tactic(auto, using(quic_connection_parts::proofs::Drawing::draws_same))]
     pub(crate) fn expire_path_timer(&mut self)
         ensures end { self.new ≡ drawing self.new.random (with_end self.old (path_expired (words_at R.stream self.old) (has_come self.old.end.timers.path_validation self.old.end.closing.clock) self.old.end)) }
@@ -89,8 +90,8 @@ impl<H: HeaderKey + Drop, K: PacketKey + Drop, R: Rng + Drop, C: Controller> Con
         }
     }
 
-    /// Takes PATH_CHALLENGE of the packet that opened last: PATH_RESPONSE with its word waits,
-    /// unless one to a newer packet does.
+    /// Takes PATH_CHALLENGE of the packet that opened last: PATH_RESPONSE with its data is pending,
+    /// unless one to a newer packet is.
     #[tactic(auto, using(quic_connection_parts::proofs::Drawing::token_back))]
     pub(crate) fn take_path_challenge(&mut self, token: u64)
         ensures { self.new ≡ with_end self.old (path_asked (to_be_bytes w64 token) self.old.end) }
@@ -110,15 +111,15 @@ impl<H: HeaderKey + Drop, K: PacketKey + Drop, R: Rng + Drop, C: Controller> Con
         }
     }
 
-    /// Whether PATH_CHALLENGE or PATH_RESPONSE waits.
+    /// Whether PATH_CHALLENGE or PATH_RESPONSE is pending.
     pub(crate) fn path_frames_wait(&self) -> bool
         ensures { result ≡ path_waits self.now.end }
     {
         self.path.waiting_challenge().is_some() || !self.path_responses.is_empty()
     }
 
-    /// Appends PATH_CHALLENGE and PATH_RESPONSE, each if it waits, for which there is room: whether
-    /// one did.
+    /// Appends PATH_CHALLENGE and PATH_RESPONSE, each if it is pending, for which there is room:
+    /// whether one was.
     pub(crate) fn put_path_frames(&mut self, out: &mut Vec<u8>) -> bool
         requires { vec_len out.old + 18 ≤ vec_capacity out.old }
         ensures waited { result ≡ path_waits self.old.end }
@@ -134,7 +135,7 @@ impl<H: HeaderKey + Drop, K: PacketKey + Drop, R: Rng + Drop, C: Controller> Con
         waited
     }
 
-    /// Appends PATH_CHALLENGE if it waits, for which there is room.
+    /// Appends PATH_CHALLENGE if it is pending, for which there is room.
     fn put_challenge(&mut self, out: &mut Vec<u8>)
         requires { vec_len out.old + 9 ≤ vec_capacity out.old }
         ensures items { out.new.items ≡ out.old.items ++ spelled_all (challenge_list self.old.end.waiting.signals.challenge) }
@@ -149,7 +150,7 @@ impl<H: HeaderKey + Drop, K: PacketKey + Drop, R: Rng + Drop, C: Controller> Con
         }
     }
 
-    /// Appends PATH_RESPONSE if it waits, for which there is room.
+    /// Appends PATH_RESPONSE if it is pending, for which there is room.
     fn put_response(&mut self, out: &mut Vec<u8>)
         requires { vec_len out.old + 9 ≤ vec_capacity out.old }
         ensures items { out.new.items ≡ out.old.items ++ spelled_all (response_list self.old.end.waiting.signals.response) }

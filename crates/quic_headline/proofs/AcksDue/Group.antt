@@ -255,7 +255,7 @@ out_is t deadlines clock is =
     one (Some deadline) first past = (deadline, first, leb-true deadline clock past)
 
 -- the first deadline is one of them
-first_in : (deadlines : List ℕ) (deadline : ℕ) → first_deadline deadlines ≡ Some deadline → In deadline deadlines
+pub first_in : (deadlines : List ℕ) (deadline : ℕ) → first_deadline deadlines ≡ Some deadline → In deadline deadlines
 first_in [] deadline is = cc
 first_in (d ∷ []) deadline is = inl (let same : d ≡ deadline = cc in sym same)
 first_in (later ∷ d ∷ deadlines) deadline is = inr (first_in (d ∷ deadlines) deadline is)

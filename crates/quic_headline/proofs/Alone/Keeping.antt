@@ -38,5 +38,5 @@ keeps_within p theirs x left cs told new f served =
       streams = λ dir. (let opened = held.2.few dir in let most = held.2.most dir in omega arith);
       messages = kept.messages;
       numbers = kept.numbers.few;
-      ids = (let window = few left.end.ids.peer.later (left.end.ids.peer.active + 1) (left.end.ids.peer.active + 5) kept.ids in omega arith);
+      ids = (let window = few left.end.ids.peer.later (left.end.ids.peer.active + 1) (left.end.ids.peer.active + 8) kept.ids in omega arith);
     }

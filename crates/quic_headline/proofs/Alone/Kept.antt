@@ -57,7 +57,7 @@ use Rattle.quic_headline.proofs.Packets.Acking.{packet_runs}
 use Rattle.quic_headline.proofs.Packets.Apart.{by_frequency, by_waits}
 use Rattle.quic_headline.proofs.Packets.Closes.{by_closes}
 use Rattle.quic_headline.proofs.Packets.Probes.{may_leave}
-use Rattle.quic_headline.proofs.Alone.Asked.{AsksBelow, asks_below}
+use Rattle.quic_headline.proofs.Alone.Asked.{BringsId, brings_id}
 use Rattle.quic_headline.proofs.Alone.Taking.{by_taking}
 
 -- ---- messages
@@ -145,7 +145,7 @@ module _ (settings : TransportSettings) where
   settles (steps.known n) e i = record { same = i.same; messages = i.messages; numbers = few_above e.acknowledging.runs n i.numbers; ids = i.ids }
   settles s e i = i
 
-  frame_kept : (f : FrameValue) (e : End) → AsksBelow f → KeptAt e → KeptAt (take_frame f e).end
+  frame_kept : (f : FrameValue) (e : End) → BringsId f → KeptAt e → KeptAt (take_frame f e).end
   frame_kept (ack a) e asks i = go (names_ungiven a e)
     where
       go : (b : Bool) → KeptAt (ack_taken b a e).end
@@ -164,7 +164,7 @@ module _ (settings : TransportSettings) where
   frame_kept (new_connection_id f) e asks i = go (retires_for (insert_answer e.ids.peer (frame_of f)))
     where
       up : KeptAt (with_taken_up f e)
-      up = record { same = i.same; messages = i.messages; numbers = i.numbers; ids = insert_window e.ids.peer (frame_of f) asks i.ids }
+      up = record { same = i.same; messages = i.messages; numbers = i.numbers; ids = insert_window e.ids.peer (frame_of f) asks.0 i.ids }
 
       retires : (b : Bool) (r : Range ℕ) → KeptAt (retired_for b r f e).end
       retires true r = fits _ (retiring r (with_taken_up f e)) up
@@ -202,7 +202,7 @@ module _ (settings : TransportSettings) where
   -- any datagram
   delivery_kept : (p : Policy) (e : End) (arrival : Arrival) (d : List ℕ) → KeptAt e → KeptAt (received p e arrival d).end
   delivery_kept p e arrival d i = by_taking p e arrival d KeptAt (record {
-    frame = λ f stands x j. frame_kept f x (asks_below stands.opening.payload f stands.carried) j;
+    frame = λ f stands x j. frame_kept f x (brings_id stands.opening.payload f stands.carried) j;
     notes = λ n x j. j;
     begins = λ now n x j. j;
     takes = taken_kept;

@@ -37,15 +37,15 @@ pub record Stands (p : Policy) (e : End) (d : List ℕ) (f : FrameValue) : Type 
   pub carried : In f (frames_of (items opening.payload))
 
 -- what a datagram opens to at an end, it opens to by its key
-pub came_open : (p : Policy) (ds : List (List ℕ)) (e : End) (d : List ℕ) (f : FrameValue) (stands : Stands p e d f) → In d ds → (packet : CameOpen p ds) × In f (frames_of (items packet.opening.payload))
-came_open p ds e d f stands handed = (record { bytes = d; handed = handed; expected = expected e.numbers; opening = stands.opening; opened = opened }, stands.carried)
+pub opened_by_key : (p : Policy) (e : End) (d : List ℕ) (o : Opening) → opens p (known e.ids) (expected e.numbers) d ≡ Some o → opens_by_key p (expected e.numbers) d ≡ Some o
+opened_by_key p e d o is = if_counted (is_known (destination d) (known e.ids)) (opens_by_key p (expected e.numbers) d) (sym (opens_by_id p (known e.ids) (expected e.numbers) d) ∙ is)
   where
-    if_counted : (b : Bool) (o : Option Opening) → counted b o ≡ Some stands.opening → o ≡ Some stands.opening
-    if_counted true o is = is
-    if_counted false o is = cc
+    if_counted : (b : Bool) (x : Option Opening) → counted b x ≡ Some o → x ≡ Some o
+    if_counted true x same = same
+    if_counted false x same = cc
 
-    opened : opens_by_key p (expected e.numbers) d ≡ Some stands.opening
-    opened = if_counted (is_known (destination d) (known e.ids)) (opens_by_key p (expected e.numbers) d) (sym (opens_by_id p (known e.ids) (expected e.numbers) d) ∙ stands.opened)
+pub came_open : (p : Policy) (ds : List (List ℕ)) (e : End) (d : List ℕ) (f : FrameValue) (stands : Stands p e d f) → In d ds → (packet : CameOpen p ds) × In f (frames_of (items packet.opening.payload))
+came_open p ds e d f stands handed = (record { bytes = d; handed = handed; expected = expected e.numbers; opening = stands.opening; opened = opened_by_key p e d stands.opening stands.opened }, stands.carried)
 
 -- what frames and refusals a payload has
 abbrev pub Items : Type 0
@@ -126,7 +126,7 @@ module _ (stands : FrameValue → Type 0) (P : Items → End → Type 0) (c : Ta
 
 module _ (p : Policy) (e : End) (arrival : Arrival) (d : List ℕ) where
   -- what a packet opens to in key phase 0 is what its datagram opens to
-  opens_to : (id : List ℕ) (o : Opening) → decoded (fixed_length_id own_id_length) (known e.ids) d ≡ Ok id → opening p e d ≡ Some o → key_phase o.first ≡ false → opens p (known e.ids) (expected e.numbers) d ≡ Some o
+  pub opens_to : (id : List ℕ) (o : Opening) → decoded (fixed_length_id own_id_length) (known e.ids) d ≡ Ok id → opening p e d ≡ Some o → key_phase o.first ≡ false → opens p (known e.ids) (expected e.numbers) d ≡ Some o
   opens_to id o header is phase =
       ap (λ (r : Result (List ℕ) HeaderError). opens_behind r p (expected e.numbers) d) header
       ∙ ap (λ (x : Option Opening). in_phase x) is

@@ -51,7 +51,8 @@ use Rattle.quic_headline.proofs.Places.Everything as everything
 use Rattle.quic_headline.proofs.Places.Theorems.{ready}
 use Rattle.quic_headline.proofs.Halves.Ready.{Ready}
 use Rattle.quic_headline.proofs.Held.Flight.{bytes_at}
-use Rattle.quic_headline.proofs.Held.Silent.{IsQuiet, quiet}
+use Rattle.quic_headline.proofs.Held.Silent.{IsQuiet, quiet, rests_unprobed}
+use Rattle.quic_headline.proofs.Packets.Searches.{ready_probes}
 use Rattle.quic_headline.proofs.Held.Behind.{last_step, last as last_poll, met, blocked_there, unblocked_there, window_at, mtu_at}
 use Rattle.quic_headline.proofs.Held.Bytes.{when_blocked, blocked_back}
 use Rattle.quic_headline.proofs.Held.Messages.{short_waits}
@@ -251,10 +252,14 @@ module _ (r : Run) (end : World) (honest : IsHonest r) (run : IsRun r end) (quie
           let most = leb-true f.path.window (bytes_in_flight f + current_mtu f.path) is_full in
           omega (arith, flying, window, size, most)
 
-      -- what is to go asks
-      asks : HasToGo r side (suc i) → asks_to_go f ≡ true
-      asks (inl stream) = what_asks r end honest run side (suc i) stream.0 next m.served leads still stream.1
-      asks (inr message) =
+      -- where more may go, no probe of losses waits
+      none_probed : e.path.blocked ≡ false → f.tracking.probes ≡ 0
+      none_probed free = ap (λ (x : End). x.tracking.probes) at_rest ∙ ready_probes e now ∙ rests_unprobed e now free rested.none
+
+      -- what is to go asks then
+      asks : f.tracking.probes ≡ 0 → HasToGo r side (suc i) → asks_to_go f ≡ true
+      asks none (inl stream) = what_asks r end honest run side (suc i) stream.0 next m.served leads still stream.1
+      asks none (inr message) =
           let at = placed Shortly shortly r end honest run side (suc i) m.served in
           let same : at.world ≡ next = one_behind r (suc i) at.world next m.served at.leads leads in
           let x : Party = party_at r (suc i) at.world side at.sents in
@@ -263,7 +268,7 @@ module _ (r : Run) (end : World) (honest : IsHonest r) (run : IsRun r end) (quie
           let among : In message.0 (end_at side at.world).messages.queues.outgoing = subst (In message.0) (waiting_is r end honest run side (suc i) at.world (omega (arith, place)) m.served at.leads) message.1 in
           let packets = at.gives.0.0.0 in
           let eight : length x.end.ids.peer.id ≡ own_id_length = packets.long.peer.used in
-          subst (λ (u : World). asks_to_go (end_at side u) ≡ true) same (message_asks x.end (short_waits x.end message.0 (has_room x y packets) eight at.gives.1.short among))
+          subst (λ (u : World). asks_to_go (end_at side u) ≡ true) same (message_asks x.end (short_waits x.end message.0 (ap (λ (u : World). (end_at side u).tracking.probes) same ∙ none) (has_room x y packets) eight at.gives.1.short among))
 
       -- its timer is set to a moment, and isn't
       set_and_not : (moment : ℕ) (o : Option ℕ) → pacing_timer v side ≡ Some (Some moment) → f.timers.pacing ≡ o → o ≡ Some moment
@@ -314,17 +319,17 @@ module _ (r : Run) (end : World) (honest : IsHonest r) (run : IsRun r end) (quie
           go true blocked = (let clash : ◌≡◌ {A = Option ℕ} None (Some moment) = set_and_not moment None set (ap (λ (x : End). x.timers.pacing) at_rest ∙ (blocked_rests e now blocked).0) in cc)
           go false free = paced_rests moment set (resting e now free rested.none)
 
-      full_rests : HasToGo r side (suc i) → IsResting (ready_at e now) → f.path.app_limited ≡ false
-      full_rests to_go (paced later timer held) = limited_is ∙ ap not held
-      full_rests to_go (full none filled held) = limited_is ∙ ap not held
-      full_rests to_go (idle none silent free) = absurd (both_ways (asks_to_go f) (ap asks_to_go at_rest ∙ silent) (asks to_go))
+      full_rests : f.tracking.probes ≡ 0 → HasToGo r side (suc i) → IsResting (ready_at e now) → f.path.app_limited ≡ false
+      full_rests unprobed to_go (paced later timer held) = limited_is ∙ ap not held
+      full_rests unprobed to_go (full none filled held) = limited_is ∙ ap not held
+      full_rests unprobed to_go (idle none silent free) = absurd (both_ways (asks_to_go f) (ap asks_to_go at_rest ∙ silent) (asks unprobed to_go))
 
       when_full : HasToGo r side (suc i) → (IsLimited r side (suc i) v → ⊥) → f.path.app_limited ≡ false
       when_full to_go unlimited = go e.path.blocked refl
         where
           go : (b : Bool) → e.path.blocked ≡ b → f.path.app_limited ≡ false
           go true blocked = absurd (unlimited (limits_there blocked))
-          go false free = full_rests to_go (resting e now free rested.none)
+          go false free = full_rests (none_probed free) to_go (resting e now free rested.none)
 
       idle_rests : pacing_timer v side ≡ Some None → bytes_flying r side (suc i) + mtu_in v side < window_in v side → IsResting (ready_at e now) → f.path.app_limited ≡ true
       idle_rests unset room (paced later timer held) =

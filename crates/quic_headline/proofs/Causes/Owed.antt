@@ -24,7 +24,7 @@ use Rattle.quic_machine.specs.Closing.{Closing, ticked, close_owed}
 use Rattle.quic_machine.specs.End.{End, number_of, with_closing, closed_by}
 use Rattle.quic_machine.specs.Validation.{is_blocked}
 use Rattle.quic_machine.specs.Receive.{Outcome}
-use Rattle.quic_machine.specs.Poll.{Polled, frame_room, fitted, can_close, may_close, close_to_go, closes_if, polled_in, polled}
+use Rattle.quic_machine.specs.Poll.{Polled, close_room, fitted, can_close, may_close, close_to_go, closes_if, polled_in, polled}
 use Rattle.quic_machine.specs.Lacking.{GivesOrHasFailed, PollTakes, LacksWhere}
 use Rattle.quic_machine.specs.Machine.{World, Policies, IsAnswer, IsStep, Follows, policy_at, end_at, end_met, given_by, heard_at, view_of, after_call, fails, gave}
 use Rattle.quic_machine.specs.CallCases.{is_delivery, Plain, by_plain_call}
@@ -172,8 +172,8 @@ owing_group B = record {
 none_owed : (p : Policy) (x : End) → x.closing.owed ≡ false → close_to_go p x ≡ None
 none_owed p x none = go (may_close p x)
   where
-    go : (may : Bool) → (if may then option_map (fitted (frame_room x)) (close_owed x.closing) else None) ≡ None
-    go true = ap (λ (b : Bool). option_map (fitted (frame_room x)) (if b then x.closing.close else None)) none
+    go : (may : Bool) → (if may then option_map (fitted (close_room x)) (close_owed x.closing) else None) ≡ None
+    go true = ap (λ (b : Bool). option_map (fitted (close_room x)) (if b then x.closing.close else None)) none
     go false = refl
 
 -- so what a closing end gives it owed
@@ -345,13 +345,13 @@ owed_gives p e now f here owed has may said = subst GivesOrHasFailed (sym is ∙
     x : End
     x = with_closing e (ticked e.closing now)
 
-    to_go : close_to_go p x ≡ Some (fitted (frame_room x) f)
+    to_go : close_to_go p x ≡ Some (fitted (close_room x) f)
     to_go =
-        ap (λ (b : Bool). if b then option_map (fitted (frame_room x)) (close_owed x.closing) else None) may
-        ∙ ap (λ (b : Bool). option_map (fitted (frame_room x)) (if b then x.closing.close else None)) owed
-        ∙ ap (λ (o : Option FrameValue). option_map (fitted (frame_room x)) o) has
+        ap (λ (b : Bool). if b then option_map (fitted (close_room x)) (close_owed x.closing) else None) may
+        ∙ ap (λ (b : Bool). option_map (fitted (close_room x)) (if b then x.closing.close else None)) owed
+        ∙ ap (λ (o : Option FrameValue). option_map (fitted (close_room x)) o) has
 
-    is : (polled p e now).answer ≡ (closes_if (Some (fitted (frame_room x) f)) p x).answer
+    is : (polled p e now).answer ≡ (closes_if (Some (fitted (close_room x) f)) p x).answer
     is = ap (λ (s : State). (polled_in s p e now).answer) here ∙ ap (λ (o : Option FrameValue). (closes_if o p x).answer) to_go
 
 -- all that holds between the ends, and what they owe, sealed and know of acknowledgements

@@ -24,7 +24,7 @@ use Rattle.quic_machine.specs.Reasons.{error_close}
 use Rattle.quic_machine.specs.Closing.{Closing, ticked}
 use Rattle.quic_machine.specs.End.{End, with_closing, closed_by}
 use Rattle.quic_machine.specs.Receive.{Fault, broke, too_many_pieces, closed_by_peer, reason_of, take_frame, unless_fault, take_items}
-use Rattle.quic_machine.specs.Poll.{Polled, zeros_behind, frame_room, longest_fitting, fitted, draft_as, may_close, close_to_go, polled}
+use Rattle.quic_machine.specs.Poll.{Polled, zeros_behind, close_room, longest_fitting, fitted, draft_as, may_close, close_to_go, polled}
 use Rattle.quic_machine.specs.Poll as poll
 use Rattle.quic_machine.specs.PollCases.{ready_at, draft_at, frames_at, frames_padded}
 use Rattle.quic_machine.specs.FrameCases.{begun, passed}
@@ -193,8 +193,8 @@ close_by f is = cc
 to_go_says : (p : Policy) (x : End) (told : List Told) → HasSaid x.closing told → (f : FrameValue) → close_to_go p x ≡ Some f → SaysWhy x.closing.reason told f
 to_go_says p x told says f is = go (may_close p x) x.closing.owed x.closing.close refl is
   where
-    go : (may owed : Bool) (o : Option FrameValue) → x.closing.close ≡ o → (if may then option_map (fitted (frame_room x)) (if owed then o else None) else None) ≡ Some f → SaysWhy x.closing.reason told f
-    go true true (Some g) there said = (let same : fitted (frame_room x) g ≡ f = cc in subst (SaysWhy x.closing.reason told) same (says_fitted (frame_room x) x.closing.reason told g (says g there)))
+    go : (may owed : Bool) (o : Option FrameValue) → x.closing.close ≡ o → (if may then option_map (fitted (close_room x)) (if owed then o else None) else None) ≡ Some f → SaysWhy x.closing.reason told f
+    go true true (Some g) there said = (let same : fitted (close_room x) g ≡ f = cc in subst (SaysWhy x.closing.reason told) same (says_fitted (close_room x) x.closing.reason told g (says g there)))
     go true true None there said = cc
     go true false o there said = cc
     go false owed o there said = cc

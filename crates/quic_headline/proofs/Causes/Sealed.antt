@@ -50,7 +50,7 @@ use Rattle.quic_headline.proofs.Timers.Watched.{Observed}
 
 -- ---- how many packets were sealed
 
-abbrev SameSeals : End → End → Type 0
+abbrev pub SameSeals : End → End → Type 0
 SameSeals e f = f.numbers.sealed ≡ e.numbers.sealed
 
 settling : (e : End) → Settling (SameSeals e)
@@ -80,7 +80,7 @@ judged_same e None x i = i
 judged_same e (Some moment) x i = losses_keep (SameSeals e) (settling e) x i
 
 -- only a poll seals
-seals_stay : (p : Policy) (e : End) (theirs : List (List ℕ)) (call : Call) (a : Answer) → is_poll call ≡ false → SameSeals e (after_call p e theirs call a)
+pub seals_stay : (p : Policy) (e : End) (theirs : List (List ℕ)) (call : Call) (a : Answer) → is_poll call ≡ false → SameSeals e (after_call p e theirs call a)
 seals_stay p e theirs call a other = by_plain_call p e theirs (SameSeals e) call a keep
   where
     each : (s : Expired) (x : End) → SameSeals e x → SameSeals e (expiring.after s x)

@@ -274,9 +274,9 @@ drawn_number words (n ∷ ns) c (inr i) = inr (drawn_number (words_behind words_
 own_first : (x y : Beginning) → KnowsOwn (begun_as x y) (begun_as y x)
 own_first x y = record {
   own = λ opened. record {
-    some = (let five : 1 ≤ 5 = omega arith in five);
+    some = (let eight : 1 ≤ 8 = omega arith in eight);
     none_left = refl;
-    waits = λ c i. (inl (inr (in_map with_number c (drawn_ids (words_behind 1 x.making.words) (later_numbers 5)) i)), (range_in c.sequence 1 4 (drawn_number (words_behind 1 x.making.words) (later_numbers 5) c i)).0);
+    waits = λ c i. (inl (inr (in_map with_number c (drawn_ids (words_behind 1 x.making.words) (later_numbers 8)) i)), (range_in c.sequence 1 7 (drawn_number (words_behind 1 x.making.words) (later_numbers 8) c i)).0);
     sent = λ s f i. absurd i;
     first = inl (inl refl);
   };

@@ -77,7 +77,7 @@ drawn_told words (n ∷ ns) small cid (inr more) = drawn_told (words_behind word
 
 -- those with which an end begins
 pub first_told : (words : ℕ → ℕ) (limit : ℕ) → AreTold (drawn_ids words (later_numbers (most_ids limit)))
-first_told words limit = drawn_told words (later_numbers (most_ids limit)) (λ n i. (let within = range_in n 1 (most_ids limit - 1) i in let most : kept_ids ≡ 5 = refl in omega arith))
+first_told words limit = drawn_told words (later_numbers (most_ids limit)) (λ n i. (let within = range_in n 1 (most_ids limit - 1) i in let most : kept_ids ≡ 8 = refl in omega arith))
 
 -- those that are drawn behind a packet
 places_told : (places : List ℕ) (words : ℕ → ℕ) (d : Drawing) → AreTold d.waiting → AreTold (drawn_places places words d).waiting

@@ -36,7 +36,8 @@ use Rattle.quic_headline.proofs.Places.Groups.{Way}
 use Rattle.quic_headline.proofs.Places.Placed.{party_at, Placed, placed_less, shown, watch_is}
 use Rattle.quic_headline.proofs.Timers.Watched.{timers_behind, open_behind}
 use Rattle.quic_headline.proofs.Held.Flight.{bytes_at}
-use Rattle.quic_headline.proofs.Held.Silent.{IsQuiet, quiet, quiet_tells, quiet_window, IsHeld, full, paced, stays_blocked, ready_size, rests_held, rests_none}
+use Rattle.quic_headline.proofs.Held.Silent.{IsQuiet, quiet, quiet_tells, quiet_window, IsHeld, full, paced, stays_blocked, ready_size, rests_held, rests_none, rests_unprobed}
+use Rattle.quic_headline.proofs.Packets.Searches.{ready_probes}
 
 -- ---- the last step
 
@@ -168,7 +169,11 @@ module _ (r : Run) (side : Side) (i now : ℕ) (v : View) (w : World) (leads : L
       ap (λ (b : Bool). not b && nat_lt (saturated (3 * h.received)) (h.sent + current_mtu e.path)) (validated_before ∙ is.unvalidated) ∙ lt-ltb (saturated (3 * h.received)) (h.sent + current_mtu e.path) full in
       both_ways (is_blocked e h) free blocked
 
-  -- where more may go, no acknowledgement is due
+  -- where more may go, no probe of losses waits
+  pub none_probed : met.path.blocked ≡ false → (end_at side w).tracking.probes ≡ 0
+  none_probed free = ap (λ (e : End). e.tracking.probes) at_rest ∙ ready_probes met now ∙ rests_unprobed met now free still.none
+
+  -- nor is an acknowledgement due
   pub none_due : met.path.blocked ≡ false → can_send (end_at side w).acknowledging ≡ false
   none_due free = ap (λ (e : End). can_send e.acknowledging) at_rest ∙ rests_none met now free still.none
 
@@ -227,8 +232,9 @@ module _ (G : Way) (b : SaysWhatFlies G) (r : Run) (end : World) (honest : IsHon
       let clock : (watch r side (suc i)).clock ≡ x.end.closing.clock = ap (λ (w : Watch). w.clock) (watch_is r honest at.world (suc i) side at.sents at.theirs) ∙ ((b.sight x y at.gives).watched.flight opened).tells.clock in
       record { moment = moment; shown = pacing_at r side i now v at.world at.leads g ∙ ap (λ (o : Option ℕ). Some o) set; later = omega arith }
 
-  -- window or pacer hold back what its end has to give, or nothing more may go to its address
-  pub held_back : asks_to_go x.end ≡ true → IsHeldBack r side (suc i) v ⊎ IsBlocked x.end (heard_at side at.world)
+  -- window or pacer hold back what its end has to give, where no probe of losses waits, or nothing
+  -- more may go to its address
+  pub held_back : (x.end.tracking.probes ≡ 0 → asks_to_go x.end ≡ true) → IsHeldBack r side (suc i) v ⊎ IsBlocked x.end (heard_at side at.world)
   held_back asks = go (met r side i now v at.world at.leads g).path.blocked refl
     where
       held : IsHeld x.end → IsHeldBack r side (suc i) v
@@ -237,4 +243,4 @@ module _ (G : Way) (b : SaysWhatFlies G) (r : Run) (end : World) (honest : IsHon
 
       go : (b : Bool) → (met r side i now v at.world at.leads g).path.blocked ≡ b → IsHeldBack r side (suc i) v ⊎ IsBlocked x.end (heard_at side at.world)
       go true is = inr (blocked_there r side i now v at.world at.leads g is)
-      go false free = inl (held (held_there r side i now v at.world at.leads g free asks))
+      go false free = inl (held (held_there r side i now v at.world at.leads g free (asks (none_probed r side i now v at.world at.leads g free))))

@@ -107,7 +107,7 @@ module _ (G : Way) (g : SaysWhatWaits G) (r : Run) (end : World) (honest : IsHon
     what_waits run quiet side i now id v served gave waits =
         let at = all side (suc i) served in
         held_or_blocked r end honest run (λ by j there. placed_less G PacketsHold r end by j g.packets (all by j there)) quiet side i now v at.world served at.leads gave
-        (held_back G (record { packets = g.packets; sight = g.sight }) r end honest side i now v at gave (stream_asks side (suc i) id at (open_now r side i now v at.world at.leads gave) waits))
+        (held_back G (record { packets = g.packets; sight = g.sight }) r end honest side i now v at gave (λ none. stream_asks side (suc i) id at (open_now r side i now v at.world at.leads gave) waits))
 
     pub what_asks_there : (side : Side) (i id : ℕ) (w : World) → AreServed r i → LeadsTo r i w → (end_at side w).closing.state ≡ states.Open → IsToGo r side i id → asks_to_go (end_at side w) ≡ true
     what_asks_there side i id w served leads opened waits =
@@ -133,7 +133,7 @@ module _ (G : Way) (g : SaysWhatMessages G) (r : Run) (end : World) (honest : Is
       let here : In message x.end.messages.queues.outgoing = subst (λ (u : World). In message (end_at side u).messages.queues.outgoing) is waits in
       let eight : length x.end.ids.peer.id ≡ own_id_length = (g.packets x y at.gives).long.peer.used in
       held_or_blocked r end honest run (λ by j there. placed_less G PacketsHold r end by j g.packets (all by j there)) quiet side i now v at.world served at.leads gave
-      (held_back G (record { packets = g.packets; sight = g.sight }) r end honest side i now v at gave (message_asks x.end (short_waits x.end message (has_room x y (g.packets x y at.gives)) eight (g.short x y at.gives).short here)))
+      (held_back G (record { packets = g.packets; sight = g.sight }) r end honest side i now v at gave (λ none. message_asks x.end (short_waits x.end message none (has_room x y (g.packets x y at.gives)) eight (g.short x y at.gives).short here)))
 
 -- ---- all of it, at each place
 

@@ -1,5 +1,5 @@
--- Each message that waits at an end fits in a datagram, whichever number it has: a longer one is
--- refused (RFC 9221, section 5.4).
+-- Each message that waits at an end fits in a datagram, whichever number it has, where no probe of
+-- losses waits: a longer one is refused (RFC 9221, section 5.4).
 use Rattle.std.proofs.Common.{◌≡◌, ℕ, ◌+◌, ◌-◌, ◌<◌, ◌≤◌, ◌^◌, min, cond, Bool, true, false, ◌==◌, List, [], ◌∷◌, length, Option, Some, None, Ok, Err, refl, sym, ap, ◌∙◌, subst, arith}
 use Rattle.std.specs.Prelude.{if◌then◌else◌, nat_le, nat_lt, is_some, is_ok, unwrap_or}
 use Rattle.std.specs.List.{filter}
@@ -37,6 +37,7 @@ use Rattle.quic_headline.proofs.Packets.Sizes.{Sizing, sizing, Searching, sized_
 use Rattle.quic_headline.proofs.Packets.Ids.{KnownLong}
 use Rattle.quic_headline.proofs.Packets.Widths.{next_same, arrivals_size}
 use Rattle.quic_headline.proofs.Packets.Stays.{placed_call}
+use Rattle.quic_headline.proofs.Packets.Searches.{unprobed_most}
 use Rattle.quic_headline.proofs.Packets.Group.{PacketsHold, meets}
 use Rattle.quic_headline.proofs.Places.Coming.{by_coming}
 use Rattle.quic_headline.proofs.Places.Parties.{Party, called, came_to}
@@ -102,15 +103,16 @@ dropped_taken most (m ∷ ms) = go (nat_le (length m) most) refl (dropped_taken 
 frame_short : (size : ℕ) (m : List ℕ) → size < 2 ^ 16 → length m ≤ longest size → frame_bytes m ≤ length m + 9
 frame_short size m sized short = let most = size_most (datagram m) (omega arith, tt) in omega arith
 
--- so one that waits fits
-pub short_waits : (e : End) (message : List ℕ) → HasRoom e → length e.ids.peer.id ≡ own_id_length → AreTaken (Some (longest (current_mtu e.path))) e.messages.queues.outgoing → In message e.messages.queues.outgoing → message_waits e ≡ true
-short_waits e message room eight all i = go e.messages.queues.outgoing all i
+-- so one that waits fits, where no probe of losses does, for which a datagram may be shorter
+pub short_waits : (e : End) (message : List ℕ) → e.tracking.probes ≡ 0 → HasRoom e → length e.ids.peer.id ≡ own_id_length → AreTaken (Some (longest (current_mtu e.path))) e.messages.queues.outgoing → In message e.messages.queues.outgoing → message_waits e ≡ true
+short_waits e message none room eight all i = go e.messages.queues.outgoing all i
   where
     first_fits : (m : List ℕ) → is_taken (Some (longest (current_mtu e.path))) m ≡ true → nat_le (frame_bytes m) (least_room e) ≡ true
     first_fits m is =
         let short = leb-true (length m) (longest (current_mtu e.path)) is in
         let bytes = frame_short (current_mtu e.path) m room.2 short in
         let least = room.1 in
+        let most = unprobed_most e none in
         le-leb (frame_bytes m) (least_room e) (omega arith)
 
     go : (ms : List (List ℕ)) → AreTaken (Some (longest (current_mtu e.path))) ms → In message ms → is_some (fitting (least_room e) ms) ≡ true

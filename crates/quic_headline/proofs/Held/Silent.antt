@@ -1,20 +1,23 @@
 -- A poll that gives nothing and leaves its end open leaves it with nothing to give but what window
 -- or pacer hold back, unless nothing more may go to its address.
-use Rattle.std.proofs.Common.{◌≡◌, ℕ, ◌<◌, Bool, true, false, [], Option, Some, None, Ok, refl, sym, ap, ◌∙◌, subst, arith}
-use Rattle.std.specs.Prelude.{if◌then◌else◌, ◌&&◌, nat_lt}
-use Rattle.std.proofs.lemmas.Bool.{ltb-true, or_parts, both_ways}
+use Rattle.std.proofs.Common.{◌≡◌, ℕ, zero, suc, ◌<◌, Bool, true, false, [], Option, Some, None, Ok, refl, sym, ap, ◌∙◌, subst, arith}
+use Rattle.std.specs.Prelude.{if◌then◌else◌, not, ◌==◌, ◌||◌, ◌&&◌, nat_lt}
+use Rattle.std.proofs.lemmas.Bool.{ltb-true, lt-ltb, and_right, or_left, or_right, or_parts, both_ways, ne_eqb}
 use Rattle.quic_recovery_core.specs.PendingAcks.{can_send}
 use Rattle.quic_machine.specs.declared.answers.State.{State}
 use Rattle.quic_machine.specs.declared.answers.State.TheVariants as states
 use Rattle.quic_machine.specs.Closing.{ticked}
 use Rattle.quic_machine.specs.Policy.{Policy}
 use Rattle.quic_machine.specs.End.{End, with_closing, closed_by}
-use Rattle.quic_machine.specs.Control.{is_window_full, pacer_answer, if_later, pacer_asked, Gated, lets, holds, with_pacing_timer}
-use Rattle.quic_machine.specs.Poll.{Polled, probed, asks_to_go, gated, goes, rests, sends, polled_if, polled_in, polled, told_if, told_polled_in, told_polled, Ready, nothing, leaves, leaves_unless, waits, bounds, request_queued}
-use Rattle.quic_machine.specs.PollCases.{ready_at, ready_leaves, probe_leaves, gate_leaves, by_gate, by_leaves}
+use Rattle.quic_machine.specs.Control.{is_window_full, pacer_answer, if_later, pacer_asked, Gated, lets, gated_if, holds, with_pacing_timer}
+use Rattle.quic_machine.specs.Parts.{signals_wait}
+use Rattle.quic_streams_state.specs.Waiting.{is_empty, can_send_stream_data}
+use Rattle.quic_machine.specs.Poll.{Polled, probed, asks_to_go, gated, goes, rests, sends, polled_if, polled_in, polled, told_if, told_polled_in, told_polled, Ready, whole, nothing, free_if, leaves, leaves_unless, message_waits, waits, bounds, request_queued}
+use Rattle.quic_machine.specs.PollCases.{ready_at, ready_leaves, probe_leaves, gate_leaves, by_probed, by_gate, by_leaves}
 use Rattle.quic_machine.specs.declared.answers.LostReason.{LostReason}
 use Rattle.std.specs.Option.{is_none}
 use Rattle.quic_headline.proofs.Packets.Closes.{by_closes}
+use Rattle.quic_headline.proofs.Steps.Moved.{has_probe, probe_has, asked_has}
 
 -- ---- a poll that gives nothing
 
@@ -91,6 +94,41 @@ may_go e now is = ap (λ (b : Bool). leaves_unless b (begun e now)) (begun_reads
 -- where nothing more may go there, nothing goes
 pub may_not_go : (e : End) (now : ℕ) → e.path.blocked ≡ true → ready_at e now ≡ record { leaving = nothing false; end = begun e now }
 may_not_go e now is = ap (λ (b : Bool). leaves_unless b (begun e now)) (begun_reads e now ∙ is)
+
+-- as many probes of losses wait
+pub begun_probes : (e : End) (now : ℕ) → (begun e now).tracking.probes ≡ e.tracking.probes
+begun_probes e now = by_probed (with_pacing_timer (with_closing e (ticked e.closing now)) None) (λ (z : End). z.tracking.probes ≡ e.tracking.probes) refl (λ immediate. refl) (λ immediate. refl) (λ immediate q probes is. refl)
+
+module _ (e : End) (now : ℕ) (probes : 0 < e.tracking.probes) where
+  abbrev readied : End
+  readied = begun e now
+
+  -- where one waits, something waits for it to carry
+  pub begun_has : has_probe readied ≡ true
+  begun_has = asked_has (probed (with_pacing_timer (with_closing e (ticked e.closing now)) None)) _ (probe_has (with_pacing_timer (with_closing e (ticked e.closing now)) None) (lt-ltb 0 e.tracking.probes probes))
+
+  begun_waits : waits readied ≡ true
+  begun_waits = or_right (can_send readied.acknowledging) (asks_to_go readied) (asks_more (signals_wait readied.waiting.signals) (not (is_empty readied.waiting.frames readied.streams)) (message_waits readied || can_send_stream_data readied.streams) begun_has)
+    where
+      asks_more : (a b d : Bool) → (a || b) ≡ true → (a || (b || d)) ≡ true
+      asks_more true b d is = refl
+      asks_more false b d is = or_left b d is
+
+  -- window and pacer aren't asked
+  ungated : gated readied ≡ lets readied
+  ungated = ap (λ (b : Bool). gated_if b readied) (and_right (asks_to_go readied) (readied.tracking.probes == 0) (ne_eqb readied.tracking.probes 0 (λ none. (let same = begun_probes e now in omega arith))))
+
+  -- nor is the search for a size: all goes that waits, where more may go to its address
+  pub ready_whole : e.path.blocked ≡ false → ready_at e now ≡ record { leaving = whole; end = readied }
+  ready_whole free = may_go e now free ∙ ap (λ (g : Gated). leaves g) ungated ∙ ap (λ (b : Bool). free_if b readied) begun_waits
+
+-- so where nothing goes, though more may, none waits
+pub rests_unprobed : (e : End) (now : ℕ) → e.path.blocked ≡ false → goes (ready_at e now) ≡ false → e.tracking.probes ≡ 0
+rests_unprobed e now free none = go e.tracking.probes refl
+  where
+    go : (n : ℕ) → e.tracking.probes ≡ n → e.tracking.probes ≡ 0
+    go zero is = is
+    go (suc n) is = let some : 0 < e.tracking.probes = omega arith in absurd (both_ways (goes (ready_at e now)) none (ap goes (ready_whole e now some free)))
 
 -- the end rests then with its path as it was, and had nothing to send
 pub stays_blocked : (e : End) (now : ℕ) → e.path.blocked ≡ true → (rests (ready_at e now)).path ≡ record e.path { app_limited = true }

@@ -27,7 +27,7 @@ use Rattle.quic_machine.specs.Closing.{ticked, close_owed}
 use Rattle.quic_machine.specs.End.{End, with_closing, closed_by}
 use Rattle.quic_machine.specs.Heard.{Heard, nothing_heard}
 use Rattle.quic_machine.specs.Validation.{is_blocked}
-use Rattle.quic_machine.specs.Poll.{Polled, Draft, mark_of, gives_datagram, datagram_of, draft_as, frame_room, goes, fitted, can_close, close_to_go, after_close, polled}
+use Rattle.quic_machine.specs.Poll.{Polled, Draft, mark_of, gives_datagram, datagram_of, draft_as, close_room, goes, fitted, can_close, close_to_go, after_close, polled}
 use Rattle.quic_machine.specs.Poll as poll
 use Rattle.quic_machine.specs.PollCases.{ready_at, by_poll, at_poll, after_draft}
 use Rattle.quic_machine.specs.Machine.{World, IsStep, gives, fails, end_at, given_by, heard_at, control_at, policy_at, end_met}
@@ -67,7 +67,7 @@ off false never = refl
 -- where nothing more may go, no close does
 no_close_goes : (p : Policy) (e : End) (f : FrameValue) → e.path.blocked ≡ true → close_to_go p e ≡ Some f → ⊥
 no_close_goes p e f blocked goes =
-    let none : close_to_go p e ≡ None = ap (λ (b : Bool). if not b && can_close p e then option_map (fitted (frame_room e)) (close_owed e.closing) else None) blocked in
+    let none : close_to_go p e ≡ None = ap (λ (b : Bool). if not b && can_close p e then option_map (fitted (close_room e)) (close_owed e.closing) else None) blocked in
     let clash : ◌≡◌ {A = Option FrameValue} None (Some f) = sym none ∙ goes in
     cc
 

@@ -338,7 +338,7 @@ or_more false c is = is
 
 pub again_before : (n : ℕ) (further numbers : List ℕ) → is_again n numbers ≡ true → is_again n (further ++ numbers) ≡ true
 again_before n [] numbers is = is
-again_before n (m ∷ further) numbers is = or_more ((m == n) || nat_le (n + 129) m) (is_again n (further ++ numbers)) (again_before n further numbers is)
+again_before n (m ∷ further) numbers is = or_more ((m == n) || nat_le (n + 257) m) (is_again n (further ++ numbers)) (again_before n further numbers is)
 
 -- a packet that opens is a duplicate
 opened_drops : (o : Opening) (p : Policy) (arrival : Arrival) (e : End) (i : Intake) → Keeps e i → is_new (in_phase (Some o)) i.opened ≡ false → IsDropped (opened_as (Some o) p arrival e)

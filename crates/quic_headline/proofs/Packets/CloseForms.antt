@@ -36,9 +36,9 @@ use Rattle.quic_machine.specs.Ids.{frame_of, retires_for}
 use Rattle.quic_machine.specs.Calls.{closed_in}
 use Rattle.quic_machine.specs.End.{End, side_of, number_of, with_closing, closed_by}
 use Rattle.quic_machine.specs.Receive.{Fault, Outcome, reason_of, fault_of, fault_at, names_ungiven, message_judged, retired_for, id_judged, retirement_judged, take_frame, unless_fault, take_items, asks_too_soon, frequency_judged}
-use Rattle.quic_machine.specs.Poll.{Polled, frame_room, close_with, longest_fitting, fitted, may_seal, bounds, can_close, may_close, close_to_go, polled}
+use Rattle.quic_machine.specs.Poll.{Polled, close_room, close_with, longest_fitting, fitted, may_seal, bounds, can_close, may_close, close_to_go, polled}
 use Rattle.quic_machine.specs.PollCases.{by_poll, at_poll, composes}
-use Rattle.quic_machine.specs.DraftLaws.{IsClose, HasRoom, room_most}
+use Rattle.quic_machine.specs.DraftLaws.{IsClose, HasRoom, close_most}
 use Rattle.quic_machine.specs.FrameCases.{Settling, ack_taken, acked_keeps, losses_keep, named, passed, begun, frame_keeps, frame_leaves, apart_leaves, frames_keep}
 use Rattle.quic_machine.specs.Steps as steps
 use Rattle.quic_machine.specs.InjectionCases.{by_injection}
@@ -68,7 +68,7 @@ OwesWell e = (f : FrameValue) → e.closing.close ≡ Some f → CanGo f
 -- a close that goes of an end
 pub record GoesWell (e : End) (f : FrameValue) : Type 0 where
   pub is : IsClose f
-  pub fits : nat_le (frame_size f) (frame_room e) ≡ true
+  pub fits : nat_le (frame_size f) (close_room e) ≡ true
   pub form : Fits f
 
 -- a number takes 8 bytes at most
@@ -117,7 +117,7 @@ fitted_well room f enough most can = absurd can
 close_may : (p : Policy) (e : End) (f : FrameValue) → close_to_go p e ≡ Some f → may_close p e ≡ true
 close_may p e f is = go (may_close p e) is
   where
-    go : (may : Bool) → (if may then option_map (fitted (frame_room e)) (close_owed e.closing) else None) ≡ Some f → may ≡ true
+    go : (may : Bool) → (if may then option_map (fitted (close_room e)) (close_owed e.closing) else None) ≡ Some f → may ≡ true
     go true said = refl
     go false said = cc
 
@@ -143,16 +143,16 @@ pub record GoesSo (p : Policy) (e : End) (f : FrameValue) : Type 0 where
 pub close_well : (p : Policy) (e : End) → OwesWell e → HasRoom e → (f : FrameValue) → close_to_go p e ≡ Some f → GoesSo p e f
 close_well p e owes room f is = record { well = go (may_close p e) e.closing.owed e.closing.close refl is; small = close_small p e f is }
   where
-    enough : 1159 ≤ frame_room e
-    enough = room_most e room
+    enough : 1159 ≤ close_room e
+    enough = close_most e room
 
-    most : frame_room e < 2 ^ 62
+    most : close_room e < 2 ^ 62
     most = let wide = room.2 in omega arith
 
-    go : (may owed : Bool) (o : Option FrameValue) → e.closing.close ≡ o → (if may then option_map (fitted (frame_room e)) (if owed then o else None) else None) ≡ Some f → GoesWell e f
+    go : (may owed : Bool) (o : Option FrameValue) → e.closing.close ≡ o → (if may then option_map (fitted (close_room e)) (if owed then o else None) else None) ≡ Some f → GoesWell e f
     go true true (Some g) there said =
-        let same : fitted (frame_room e) g ≡ f = cc in
-        let fit : FitsIn (frame_room e) f = subst (FitsIn (frame_room e)) same (fitted_well (frame_room e) g (let lots = enough in omega arith) most (owes g there)) in
+        let same : fitted (close_room e) g ≡ f = cc in
+        let fit : FitsIn (close_room e) f = subst (FitsIn (close_room e)) same (fitted_well (close_room e) g (let lots = enough in omega arith) most (owes g there)) in
         record { is = fit.is; fits = fit.fits; form = fit.form }
     go true true None there said = cc
     go true false o there said = cc

@@ -24,12 +24,12 @@ use Rattle.quic_streams_state.specs.Frames.{after_frame_sent}
 use Rattle.quic_spaces.specs.Marks.{Counts, told_counts}
 use Rattle.quic_spaces.specs.Acknowledging.{written_delay, delay_at}
 use Rattle.quic_machine.specs.End.{End, streams_at, with_signals}
-use Rattle.quic_machine.specs.Poll.{asking, overhead, number_width, with_least, zeros_behind, Draft, no_frames, with_frame, frame_room, fits, left, ping_if, immediate_if, with_signal_frames, with_control_frames, with_message, with_message_frames, with_asking, ack_of, with_ack, ack_fits, ack_if, composed_if, payload_of, lazied, asks_to_go, waits, draft_as, draft_of, probe, alone, whole, Leaving, Ready, nothing, probing, composed, behind_control, least_left, closing, lazied_as, with_signal, least_behind, challenge_if, response_if, with_challenge_frame, with_response_frame, with_ping_frame, request_of, after_request, request_if, with_frequency_frame}
+use Rattle.quic_machine.specs.Poll.{asking, overhead, number_width, with_least, zeros_behind, Draft, no_frames, with_frame, beside_frames, most_ordinary, frame_room, close_room, fits, left, ping_if, immediate_if, with_signal_frames, with_control_frames, with_message, with_message_frames, with_asking, ack_of, with_ack, ack_fits, ack_if, composed_if, payload_of, lazied, asks_to_go, waits, draft_as, draft_of, probe, alone, whole, Leaving, Ready, nothing, probing, composed, behind_control, least_left, most_of, closing, lazied_as, with_signal, least_behind, challenge_if, response_if, with_challenge_frame, with_response_frame, with_ping_frame, request_of, after_request, request_if, with_frequency_frame}
 use Rattle.quic_machine.specs.Parts.{Signals, current_mtu}
 use Rattle.quic_machine.specs.Validation.{challenge_frame, response_frame}
 use Rattle.quic_paths.specs.Responses.{Response}
 use Rattle.quic_machine.specs.PollCases.{frames_padded}
-use Rattle.quic_machine.specs.DraftLaws.{SendsHalf, by_messages, by_streams, MayLeave, HasRoom, room_most, entry_behind}
+use Rattle.quic_machine.specs.DraftLaws.{SendsHalf, by_messages, by_streams, MayLeave, HasRoom, ordinary_within, ordinary_most, room_most, close_most, entry_behind}
 use Rattle.quic_machine.specs.Puts.{stream_room, with_entry, with_half_frame}
 use Rattle.quic_streams_state.specs.Control as control
 use Rattle.quic_headline.proofs.Packets.Invariant.{CountsFit, Acks}
@@ -51,12 +51,16 @@ pub record Spelling (K : Streams → Type 0) : Type 0 where
   -- the frame of a half goes
   pub stream : (fair : Bool) (t : Streams) (id : ℕ) (h : SendHalf) (room : ℕ) → at t.state.sending.halves.live id ≡ Some h → frame_counts h room ≡ true → K t → (id < 2 ^ 62) × HasFrame h room × K (streams_of (after_frame_sent fair t.state id h room) t.pending)
 
+-- how many bytes there are for the frames of what goes
+abbrev pub room_for : Leaving → End → ℕ
+room_for leaving e = most_of leaving e - beside_frames e
+
 -- what goes of an end that is ready has a form, and a frame
 pub record IsSpellable (g : Ready) : Type 0 where
   pub spells : Payload (frames_padded (draft_of g)) (payload_of (draft_of g))
   pub some : 0 < length (draft_of g).frames
   -- the frames don't take more than the room for them, and only a probe of a size has a least one
-  pub within : length (draft_of g).bytes ≤ frame_room (draft_of g).end
+  pub within : length (draft_of g).bytes ≤ room_for g.leaving (draft_of g).end
   pub least : (draft_of g).least ≡ least_left g.leaving g.end
 
 -- what waits waits still where an acknowledgement becomes due
@@ -231,7 +235,7 @@ record Full (d : Draft) : Type 0 where
   spells : Payload d.frames d.bytes
   full : frame_room d.end ≤ length d.bytes
   long : 4 ≤ length d.bytes
-  least : d.least ≤ current_mtu d.end.path
+  least : d.least ≤ most_ordinary d.end
 
 -- frames that stand in a payload, whether or not they leave room
 abbrev Stands : Draft → Type 0
@@ -246,7 +250,7 @@ fills d (inr f) =
     let none : zeros_behind d ≡ 0 = go (d.end.transport.pad_to_mtu && asking d.frames) in
     rw (none, append-nil d.frames, append-nil d.bytes) f.spells
   where
-    go : (pads : Bool) → max (4 - (number_width d + length d.bytes)) ((if pads then max d.least (current_mtu d.end.path) else d.least) - (overhead d + length d.bytes)) ≡ 0
+    go : (pads : Bool) → max (4 - (number_width d + length d.bytes)) ((if pads then max d.least (most_ordinary d.end) else d.least) - (overhead d + length d.bytes)) ≡ 0
     go true = let full = f.full in let long = f.long in let least = f.least in omega arith
     go false = let long = f.long in let least = f.least in omega arith
 
@@ -263,7 +267,7 @@ pub close_spells : (f : FrameValue) (e : End) → Fits f → Payload (frames_pad
 close_spells f e form = fills (draft_as (closing f) e) (inl (behind_fit (no_frames (lazied_as (closing f) e)) f (lazied_as (closing f) e) (λ fs rest spells. spells) form))
 
 -- the frame of a half goes behind others, and takes the whole room where its length isn't written
-half_stands : (d : Draft) (id : ℕ) (h : SendHalf) (room : ℕ) → d.least ≤ current_mtu d.end.path → 25 ≤ left d → room ≡ stream_room d id → id < 2 ^ 62 → HasFrame h room → Behind d → Stands (with_half_frame d id h room)
+half_stands : (d : Draft) (id : ℕ) (h : SendHalf) (room : ℕ) → d.least ≤ most_ordinary d.end → 25 ≤ left d → room ≡ stream_room d id → id < 2 ^ 62 → HasFrame h room → Behind d → Stands (with_half_frame d id h room)
 half_stands d id h room least some is small has before = go (writes_length h.buffer room) refl
   where
     frame : StreamValue
@@ -292,6 +296,7 @@ half_stands d id h room least some is small has before = go (writes_length h.buf
 pub message_form : (d : Draft) (m : List ℕ) → current_mtu d.end.path < 2 ^ 16 → fits d (datagram m) ≡ true → Fits (datagram m)
 message_form d m sized fit =
     let within = leb-true (length d.bytes + frame_size (datagram m)) (frame_room d.end) fit in
+    let most = ordinary_within d.end in
     (omega arith, tt)
 
 -- ---- all of them
@@ -304,13 +309,13 @@ module _ (K : Streams → Type 0) (k : Spelling K) where
     acks : Acks d.end.acknowledging d.end.marks.came
     sized : current_mtu d.end.path < 2 ^ 16
     room : 1159 ≤ frame_room d.end
-    wide : 1200 ≤ current_mtu d.end.path
-    least : d.least ≤ current_mtu d.end.path
+    wide : 1200 ≤ most_ordinary d.end
+    least : d.least ≤ most_ordinary d.end
     within : length d.bytes ≤ frame_room d.end
     stands : S d
 
   -- a signal goes that has a form, where there is room for it
-  signal_goes : (d : Draft) (f : FrameValue) (left : Signals) → Fits f → length d.bytes + length (spelling f) ≤ frame_room d.end → least_behind f d.least ≤ current_mtu d.end.path → Goes Behind d → Goes Behind (with_signal d f left)
+  signal_goes : (d : Draft) (f : FrameValue) (left : Signals) → Fits f → length d.bytes + length (spelling f) ≤ frame_room d.end → least_behind f d.least ≤ most_ordinary d.end → Goes Behind d → Goes Behind (with_signal d f left)
   signal_goes d f left form fit least g =
       let long = length-append d.bytes (spelling f) in
       record { streams = g.streams; acks = g.acks; sized = g.sized; room = g.room; wide = g.wide; least = least; within = omega arith; stands = behind_fit d f (with_signals d.end left) g.stands form }
@@ -474,16 +479,13 @@ module _ (K : Streams → Type 0) (k : Spelling K) where
   late_goes d g false is = g
 
   -- What goes spells the payload, and takes no more than the room for it.
-  pub record Spells (d : Draft) : Type 0 where
+  pub record Spells (leaving : Leaving) (d : Draft) : Type 0 where
     pub spells : Payload (frames_padded d) (payload_of d)
-    pub within : length d.bytes ≤ frame_room d.end
-
-  spelled : (d : Draft) → Goes Stands d → Spells d
-  spelled d g = record { spells = fills d g.stands; within = g.within }
+    pub within : length d.bytes ≤ room_for leaving d.end
 
   -- whether or not an ACK is due, where a due one goes alone, where a probe of a size goes, and
   -- where nothing does
-  pub draft_spells : (leaving : Leaving) (e : End) → MayLeave leaving e → Acks e.acknowledging e.marks.came → HasRoom e → K (streams_at e) → Spells (draft_as leaving e)
+  pub draft_spells : (leaving : Leaving) (e : End) → MayLeave leaving e → Acks e.acknowledging e.marks.came → HasRoom e → K (streams_at e) → Spells leaving (draft_as leaving e)
   draft_spells leaving e may acks short streams = go leaving may
     where
       x : End
@@ -493,7 +495,7 @@ module _ (K : Streams → Type 0) (k : Spelling K) where
       room = room_most e short
 
       first : Goes Behind (no_frames x)
-      first = record { streams = streams; acks = record { runs = acks.runs; small = acks.small; counts = acks.counts }; sized = short.2; room = room; wide = short.1; least = omega arith; within = omega arith; stands = λ fs rest spells. spells }
+      first = record { streams = streams; acks = record { runs = acks.runs; small = acks.small; counts = acks.counts }; sized = short.2; room = room; wide = ordinary_most e short.1 short.3; least = omega arith; within = omega arith; stands = λ fs rest spells. spells }
 
       acked : can_send x.acknowledging ≡ true → Goes Behind (with_ack (no_frames x))
       acked due =
@@ -511,12 +513,9 @@ module _ (K : Streams → Type 0) (k : Spelling K) where
           let asked = asking_goes (no_frames x) (omega (arith, most)) first in
           late_goes (with_asking (no_frames x)) asked (ack_fits (with_asking (no_frames x))) refl
 
-      stood : (d : Draft) → Goes Behind d → Spells d
-      stood d g = record { spells = fills d (inl g.stands); within = g.within }
-
-      go : (b : Leaving) → MayLeave b e → Spells (draft_as b e)
-      go whole due = spelled (composed x) (composes (can_send x.acknowledging) refl)
-      go alone due = stood (with_ack (no_frames x)) (acked due)
-      go (probe size) due = record { spells = fills (probing size e) (inl (behind_fit (with_least (no_frames e) size) ping e (λ fs rest spells. spells) tt)); within = (let enough = room in omega arith) }
-      go (closing f) (is, (none, fit, form)) = record { spells = fills (with_frame (no_frames e) f (spelling f) e) (inl (behind_fit (no_frames e) f e (λ fs rest spells. spells) form)); within = (let long = spelling_length f form in let room = leb-true (0 + frame_size f) (frame_room e) fit in omega arith) }
+      go : (b : Leaving) → MayLeave b e → Spells b (draft_as b e)
+      go whole due = (let g = composes (can_send x.acknowledging) refl in record { spells = fills (composed x) g.stands; within = g.within })
+      go alone due = (let g = acked due in record { spells = fills (with_ack (no_frames x)) (inl g.stands); within = g.within })
+      go (probe size) due = record { spells = fills (probing size e) (inl (behind_fit (with_least (no_frames e) size) ping e (λ fs rest spells. spells) tt)); within = (let enough = close_most e short in omega arith) }
+      go (closing f) (is, (none, fit, form)) = record { spells = fills (with_frame (no_frames e) f (spelling f) e) (inl (behind_fit (no_frames e) f e (λ fs rest spells. spells) form)); within = (let long = spelling_length f form in let room = leb-true (frame_size f) (close_room e) fit in omega arith) }
       go (nothing held) due = record { spells = fills (no_frames e) (inl (λ fs rest spells. spells)); within = omega arith }

@@ -2,7 +2,7 @@
 use Rattle.std.specs.Prelude.{if◌then◌else◌}
 use Rattle.std.specs.List.{list_any}
 use Rattle.std.proofs.Common.{Option, Some, None, ◌≡◌, ℕ, ◌+◌, ◌-◌, ◌<◌, ◌≤◌, ◌^◌, Bool, true, false, nat_lt, List, [], ◌∷◌, ◌++◌, length, replicate, refl, sym, ap, ◌∙◌, subst, inl, inr, arith}
-use Rattle.std.proofs.lemmas.Bool.{ltb-true, leb-true, le-leb, eqb-true, and_parts}
+use Rattle.std.proofs.lemmas.Bool.{ltb-true, eqb-true, and_parts}
 use Rattle.std.proofs.lemmas.List.{append-nil, length-append, length-replicate}
 use Rattle.quic_packet.specs.Number.{truncated}
 use Rattle.quic_packet.specs.Datagram.{sent}
@@ -18,12 +18,10 @@ use Rattle.quic_spaces.specs.Filter.{Filter, is_skipped, allocated, after_skippe
 use Rattle.quic_machine.specs.Policy.{Policy}
 use Rattle.quic_machine.specs.Opens.{own_id_length}
 use Rattle.quic_machine.specs.Closing.{ticked}
-use Rattle.quic_machine.specs.Parts.{current_mtu}
 use Rattle.quic_machine.specs.End.{End, number_of, words_drawn, with_closing, closed_by}
 use Rattle.quic_headline.specs.Runs.{In}
 use Rattle.quic_machine.specs.DraftLaws.{HasRoom, MayLeave}
-use Rattle.quic_wire.specs.Writing.{frame_size}
-use Rattle.quic_machine.specs.Poll.{zeros_behind, frame_room, Polled, Draft, number_width, payload_of, datagram_of, goes, draft_as, polled, Leaving}
+use Rattle.quic_machine.specs.Poll.{zeros_behind, Polled, Draft, number_width, payload_of, datagram_of, goes, draft_as, polled, Leaving}
 use Rattle.quic_machine.specs.Poll as poll
 use Rattle.quic_machine.specs.Machine.{IsAnswer, after_call, gives, fails, gave}
 use Rattle.quic_machine.specs.CallCases.{is_poll}
@@ -36,7 +34,7 @@ use Rattle.quic_headline.proofs.Packets.References.{given_for}
 use Rattle.quic_headline.proofs.Packets.Stays.{stays_call}
 use Rattle.quic_headline.proofs.Packets.Composed.{IsSpellable, close_spells}
 use Rattle.quic_headline.proofs.Packets.CloseForms.{OwesWell, close_well, bound_well}
-use Rattle.quic_headline.proofs.Packets.Searches.{ready_size}
+use Rattle.quic_headline.proofs.Packets.Searches.{ready_room}
 use Rattle.quic_headline.proofs.Packets.Sends.{GivesClose, by_sends}
 use Rattle.quic_headline.proofs.Places.Parties.{sent_as, sent_by, sent_if, sents_by}
 use Rattle.quic_headline.proofs.Places.Steps.{poll_answer}
@@ -174,7 +172,7 @@ polled_gives p e now sents given eight room owes spellable before = by_sends p e
   failed = nothing;
   repeats = λ is. closing begun refl refl refl room owes;
   nothing = λ is none. quiet x (ap (λ (y : End). y.numbers) ready) (ap (λ (y : End). y.filter) ready);
-  closes = λ reason is bound. closing (closed_by reason x) (ap (λ (y : End). y.numbers) ready) (ap (λ (y : End). y.filter) ready) (ap (λ (y : End). y.ids) ready) ready_room (bound_well p e x reason bound);
+  closes = λ reason is bound. closing (closed_by reason x) (ap (λ (y : End). y.numbers) ready) (ap (λ (y : End). y.filter) ready) (ap (λ (y : End). y.ids) ready) (ready_room e now room) (bound_well p e x reason bound);
   gives = λ is bound some. by_going (λ (y : End). Gives p y.numbers y.filter.last (sents ++ sent_as e now (draft_at e now) ∷ []) (given ++ datagram_of p (draft_at e now) ∷ [])) p (draft_at e now)
       (λ g. one (ready_at e now).leaving x (ap (λ (y : End). y.numbers) ready) (ap (λ (y : End). y.filter) ready) (ap (λ (y : End). y.ids) ready)
       (number_small x.filter x.numbers (ap (λ (y : End). can_number y.numbers) ready ∙ (bounds_none p e bound).0)) (may_leave_at e now) (spellable some).spells (spellable some).some (p.words (words_drawn (draft_at e now).end)));
@@ -188,11 +186,6 @@ polled_gives p e now sents given eight room owes spellable before = by_sends p e
 
     ready : x ≡ poll_left e now x
     ready = ready_leaves e now
-
-    ready_room : HasRoom x
-    ready_room =
-        let size : current_mtu x.path ≡ current_mtu e.path = ready_size e now in
-        (subst (λ (ids : Ids). length ids.peer.id ≤ 20) (sym (ap (λ (y : End). y.ids) ready)) room.0, subst (λ (n : ℕ). 1200 ≤ n) (sym size) room.1, subst (λ (n : ℕ). n < 2 ^ 16) (sym size) room.2)
 
     -- nothing more is given
     nothing : Gives p e.numbers e.filter.last (sents ++ []) (given ++ [])
@@ -226,7 +219,7 @@ polled_gives p e now sents given eight room owes spellable before = by_sends p e
       λ f goes.
           let so = close_well p y due wide f goes in
           let well = so.well in
-          one (poll.closing f) y numbers filter ids so.small (well.is, (refl, le-leb (0 + frame_size f) (frame_room y) (let within = leb-true (frame_size f) (frame_room y) well.fits in omega arith), well.form)) (close_spells f y well.form) (omega arith) (p.words (words_drawn (draft_as (poll.closing f) y).end)),
+          one (poll.closing f) y numbers filter ids so.small (well.is, (refl, well.fits, well.form)) (close_spells f y well.form) (omega arith) (p.words (words_drawn (draft_as (poll.closing f) y).end)),
     )
 
 -- ---- any call

@@ -1,5 +1,5 @@
 -- Where something waits, a frame goes.
-use Rattle.std.proofs.Common.{◌≡◌, ℕ, zero, suc, ◌+◌, ◌-◌, ◌<◌, ◌≤◌, ◌^◌, Bool, true, false, ◌==◌, ◌||◌, not, List, [], ◌∷◌, ◌++◌, length, Option, Some, None, refl, sym, ap, ◌∙◌, subst, ◌⊎◌, inl, inr, arith}
+use Rattle.std.proofs.Common.{◌≡◌, ℕ, zero, suc, ◌+◌, ◌-◌, ◌<◌, ◌≤◌, Bool, true, false, ◌==◌, ◌||◌, not, List, [], ◌∷◌, ◌++◌, length, Option, Some, None, refl, sym, ap, ◌∙◌, subst, ◌⊎◌, inl, inr, arith}
 use Rattle.std.specs.Prelude.{if◌then◌else◌, map, nat_le, nat_lt, ◌*◌}
 use Rattle.std.specs.List.{list_any, fold}
 use Rattle.std.specs.Option.{is_some}
@@ -26,16 +26,15 @@ use Rattle.quic_streams_laws.specs.KindLaws as kinds
 use Rattle.quic_streams_laws.specs.ControlWalk.{others_wait}
 use Rattle.quic_messages.specs.Messages.{fitting, frame_bytes}
 use Rattle.quic_spaces.specs.Numbers.{cut_against}
-use Rattle.quic_machine.specs.Ids.{Ids}
 use Rattle.quic_machine.specs.End.{End, number_of, streams_at}
-use Rattle.quic_machine.specs.Poll.{Draft, no_frames, frame_room, least_room, fits, left, no_stream_frames, with_control_frames, with_message, with_messages_of, with_message_frames, with_stream_frames, with_asking, ack_of, with_ack, ack_fits, ack_if, composed_if, composed, lazied, lazied_as, message_waits, asks_to_go, waits, draft_as, goes, probe, alone, whole, Leaving, Ready, nothing, goes_as, closing, with_signal_frames, with_request, request_if, with_frequency_frame, request_of}
+use Rattle.quic_machine.specs.Poll.{Draft, no_frames, most_ordinary, frame_room, least_room, fits, left, no_stream_frames, with_control_frames, with_message, with_messages_of, with_message_frames, with_stream_frames, with_asking, ack_of, with_ack, ack_fits, ack_if, composed_if, composed, lazied, lazied_as, message_waits, asks_to_go, waits, draft_as, goes, probe, alone, whole, Leaving, Ready, nothing, goes_as, closing, with_signal_frames, with_request, request_if, with_frequency_frame, request_of}
 use Rattle.quic_machine.specs.PollCases.{ready_at, ready_leaves, whole_waits, may_leave_at}
-use Rattle.quic_machine.specs.Parts.{current_mtu, signals_wait}
+use Rattle.quic_machine.specs.Parts.{signals_wait}
 use Rattle.quic_machine.specs.DraftLaws.{Writing, drops_of, entry_of, half_of, message_of, HasRoom, room_most, left_least, by_entries, by_messages, by_streams, by_asking, by_some_signal, no_signal}
 use Rattle.quic_machine.specs.Puts.{without_entry}
 use Rattle.quic_machine.specs.Puts as puts
 use Rattle.quic_headline.specs.Runs.{In}
-use Rattle.quic_headline.proofs.Packets.Searches.{ready_size}
+use Rattle.quic_headline.proofs.Packets.Searches.{ready_room}
 use Rattle.quic_headline.proofs.Packets.Invariant.{Acks}
 use Rattle.quic_headline.proofs.Packets.Entries.{control_of, control_short}
 use Rattle.quic_headline.proofs.Packets.Composed.{Spelling, IsSpellable, waits_lazied, draft_spells}
@@ -159,7 +158,7 @@ room_least e =
     let between : ℕ = number_of e - cut_against e.numbers in
     go (nat_lt (2 * between) 256) (nat_lt (2 * between) 65536) (nat_lt (2 * between) 16777216)
   where
-    go : (a b c : Bool) → least_room e ≤ current_mtu e.path - (1 + length e.ids.peer.id + (if a then 1 else (if b then 2 else (if c then 3 else 4))) + 16)
+    go : (a b c : Bool) → least_room e ≤ most_ordinary e - (1 + length e.ids.peer.id + (if a then 1 else (if b then 2 else (if c then 3 else 4))) + 16)
     go true b c = omega arith
     go false true c = omega arith
     go false false true = omega arith
@@ -367,7 +366,4 @@ module _ (K : Streams → Type 0) (k : Spelling K) (c : Bringing K) where
   -- at any moment
   pub spellable_next : (e : End) → Acks e.acknowledging e.marks.came → HasRoom e → ((now : ℕ) → K (streams_at (ready_at e now).end)) → (now : ℕ) → goes (ready_at e now) ≡ true → IsSpellable (ready_at e now)
   spellable_next e acks short i now waits =
-      let ids : (ready_at e now).end.ids ≡ e.ids = ap (λ (x : End). x.ids) (ready_leaves e now) in
-      let size : current_mtu (ready_at e now).end.path ≡ current_mtu e.path = ready_size e now in
-      let room : HasRoom (ready_at e now).end = (subst (λ (x : Ids). length x.peer.id ≤ 20) (sym ids) short.0, subst (λ (n : ℕ). 1200 ≤ n) (sym size) short.1, subst (λ (n : ℕ). n < 2 ^ 16) (sym size) short.2) in
-      spellable e now waits (subst (λ (x : End). Acks x.acknowledging x.marks.came) (sym (ready_leaves e now)) (record { runs = acks.runs; small = acks.small; counts = acks.counts })) room (i now)
+      spellable e now waits (subst (λ (x : End). Acks x.acknowledging x.marks.came) (sym (ready_leaves e now)) (record { runs = acks.runs; small = acks.small; counts = acks.counts })) (ready_room e now short) (i now)

@@ -1,6 +1,6 @@
 -- What holds of the packets between two ends, as one group: what the one gave, and what the other
 -- took of it.
-use Rattle.std.proofs.Common.{◌≡◌, ℕ, ◌<◌, ◌^◌, Bool, List, ◌++◌, length, false, inl, inr, refl, sym, ap, ◌∙◌, subst, arith, true}
+use Rattle.std.proofs.Common.{◌≡◌, ℕ, ◌<◌, ◌≤◌, ◌^◌, Bool, List, ◌++◌, length, false, inl, inr, refl, sym, ap, ◌∙◌, subst, arith, true}
 use Rattle.std.proofs.lemmas.List.{length-append}
 use Rattle.quic_machine.specs.declared.run.Call.{Call}
 use Rattle.quic_machine.specs.declared.run.Answer.{Answer}
@@ -10,7 +10,7 @@ use Rattle.quic_time.specs.Timers.{Timers}
 use Rattle.quic_machine.specs.declared.answers.State.{State}
 use Rattle.quic_machine.specs.Closing.{Closing, ticked}
 use Rattle.quic_config.specs.declared.mtu_discovery.TheConstants.{MAX_UDP_PAYLOAD}
-use Rattle.quic_config.specs.Transport.{transport_of, parameters_of}
+use Rattle.quic_config.specs.Transport.{TransportSettings, transport_of, parameters_of}
 use Rattle.quic_machine.specs.DraftLaws.{HasRoom, MayLeave}
 use Rattle.quic_machine.specs.Policy.{Policy}
 use Rattle.quic_wire_core.specs.declared.stream_id.Side.{Side}
@@ -34,7 +34,7 @@ use Rattle.quic_headline.proofs.Packets.Intakes.{count_more, took_more}
 use Rattle.quic_headline.proofs.Packets.Delivered.{Arrivals, arrived}
 use Rattle.quic_congestion.proofs.SizedSearch.{sized_first}
 use Rattle.quic_headline.proofs.Packets.Sizes.{HasSize, sized_call}
-use Rattle.quic_headline.proofs.Packets.Stays.{settles_losses}
+use Rattle.quic_headline.proofs.Packets.Stays.{settles_losses, placed_call}
 use Rattle.quic_headline.proofs.Packets.Knowing.{knows_first, knows_given, expects_in, knows_arrivals}
 use Rattle.quic_headline.proofs.Packets.Acking.{acks_first, acks_step, acks_arrivals, taken_step, taken_arrivals}
 use Rattle.quic_headline.proofs.Packets.Composed.{IsSpellable}
@@ -66,6 +66,9 @@ pub record PacketsHold (x y : Party) : Type 0 where
   pub alone : (s : Sent) → In s x.sents → IsAlone s.frames
   -- it sends datagrams of 1200 bytes at least, and no more than a UDP payload has
   pub sized : HasSize 1200 MAX_UDP_PAYLOAD x.end
+  -- its settings are those with which it was made, and by these the least size is 1200 bytes or more
+  pub settings : x.end.transport ≡ x.made.transport
+  pub least : 1200 ≤ x.made.transport.min_mtu
   pub count : length x.given ≡ count_given x.told
   -- what x waits for was sent
   pub tracked : AreTracked x.sents x.end.tracking.packets
@@ -89,7 +92,7 @@ has_room x y p =
     let id = p.long.peer.used in
     let least = p.sized.between.size in
     let most = p.sized.size in
-    (omega arith, least, omega arith)
+    (omega arith, least, omega arith, subst (λ (t : TransportSettings). 1200 ≤ t.min_mtu) (sym p.settings) p.least)
 
 -- the datagrams of an end that is made have 1200 bytes at least, since its peer takes so many, and
 -- no more than a UDP payload has
@@ -225,6 +228,8 @@ module _ (B : Way) (spells : (x y : Party) → AreJoined x y → B x y → B y x
         due = due_step B x y call a c p back;
         alone = λ s i. elim (in_append s x.sents more i) [ inl old ↦ p.alone s old | inr new ↦ alone_call x.policy x.end y.given call a c.answer c.served p.owes s new ];
         sized = sized_call 1200 MAX_UDP_PAYLOAD x.policy x.end y.given call a p.sized;
+        settings = (placed_call x.policy x.end y.given call a).transport ∙ p.settings;
+        least = p.least;
         count = counted B x y call a c p.count;
         tracked = tracked_step x.policy x.end y.given call a x.sents c.answer c.served p.tracked;
         ascends = ascends_call x.policy x.end y.given call a p.ascends;
@@ -249,6 +254,8 @@ module _ (B : Way) (spells : (x y : Party) → AreJoined x y → B x y → B y x
         due = back.due;
         alone = back.alone;
         sized = back.sized;
+        settings = back.settings;
+        least = back.least;
         count = back.count;
         tracked = back.tracked;
         ascends = back.ascends;
@@ -270,6 +277,8 @@ module _ (B : Way) (spells : (x y : Party) → AreJoined x y → B x y → B y x
       due = λ f is. cc;
       alone = λ s i. absurd i;
       sized = made_sized x.side x.making y.making m.x_is;
+      settings = refl;
+      least = m.x_is.range.bounds.least;
       count = refl;
       tracked = λ n t is. absurd is;
       ascends = tt;
@@ -289,6 +298,8 @@ module _ (B : Way) (spells : (x y : Party) → AreJoined x y → B x y → B y x
       due = p.due;
       alone = p.alone;
       sized = p.sized;
+      settings = p.settings;
+      least = p.least;
       count = p.count;
       tracked = p.tracked;
       ascends = p.ascends;

@@ -38,7 +38,7 @@ use Rattle.quic_config.specs.Transport.{Settings}
 use Rattle.quic_machine.specs.Parts.{Windows}
 use Rattle.quic_machine.specs.End.{End, side_of, with_closing, closed_by, new_end}
 use Rattle.quic_machine.specs.Receive.{Fault, closed_by_peer, fault_of, fault_at, names_ungiven, message_judged, retired_for, id_judged, retirement_judged, take_frame, unless_fault, take_items, received, asks_too_soon, frequency_judged}
-use Rattle.quic_machine.specs.Poll.{Polled, frame_room, zeros_behind, draft_as, may_close, fitted, close_to_go, polled}
+use Rattle.quic_machine.specs.Poll.{Polled, close_room, zeros_behind, draft_as, may_close, fitted, close_to_go, polled}
 use Rattle.quic_machine.specs.Poll as poll
 use Rattle.quic_machine.specs.PollCases.{ready_at, draft_at, frames_at, frames_padded, by_poll, at_poll, composes}
 use Rattle.quic_machine.specs.DraftLaws.{IsClose}
@@ -73,8 +73,8 @@ fitted_is room f is = absurd is
 pub close_is : (p : Policy) (e : End) → Owes e → (f : FrameValue) → close_to_go p e ≡ Some f → IsClose f
 close_is p e owes f is = go (may_close p e) e.closing.owed e.closing.close refl is
   where
-    go : (may owed : Bool) (o : Option FrameValue) → e.closing.close ≡ o → (if may then option_map (fitted (frame_room e)) (if owed then o else None) else None) ≡ Some f → IsClose f
-    go true true (Some g) there said = (let same : fitted (frame_room e) g ≡ f = cc in subst IsClose same (fitted_is (frame_room e) g (owes g there)))
+    go : (may owed : Bool) (o : Option FrameValue) → e.closing.close ≡ o → (if may then option_map (fitted (close_room e)) (if owed then o else None) else None) ≡ Some f → IsClose f
+    go true true (Some g) there said = (let same : fitted (close_room e) g ≡ f = cc in subst IsClose same (fitted_is (close_room e) g (owes g there)))
     go true true None there said = cc
     go true false o there said = cc
     go false owed o there said = cc

@@ -1,6 +1,9 @@
 -- What the search for a size changes where packets are lost: itself, and which messages wait; and
--- all else is as it would be without. And what it changes where an end is polled.
-use Rattle.std.proofs.Common.{◌≡◌, ℕ, None, refl, sym, ap, ◌∙◌, subst}
+-- all else is as it would be without. And what it changes where an end is polled, and which room
+-- for frames that leaves.
+use Rattle.std.proofs.Common.{◌≡◌, ℕ, ◌<◌, ◌≤◌, ◌^◌, length, min, nat_lt, None, refl, sym, ap, ◌∙◌, subst}
+use Rattle.std.specs.Prelude.{if◌then◌else◌}
+use Rattle.quic_config.specs.Transport.{TransportSettings}
 use Rattle.quic_congestion.specs.Search.{Discovery, after_poll}
 use Rattle.quic_messages.specs.Messages.{Messages, without_longer}
 use Rattle.quic_streams_parts.specs.Table.{Table}
@@ -8,12 +11,14 @@ use Rattle.quic_machine.specs.Sizes.{after_lost, search_asked, search_lost}
 use Rattle.quic_machine.specs.Tracking.{TrackedPacket, lost_by, after_detection}
 use Rattle.quic_machine.specs.Closing.{Closing, ticked}
 use Rattle.quic_machine.specs.Parts.{Path, current_mtu}
-use Rattle.quic_machine.specs.PollCases.{ready_at, gate_leaves, probe_leaves, by_ready}
+use Rattle.quic_machine.specs.Ids.{Ids}
+use Rattle.quic_machine.specs.DraftLaws.{HasRoom}
+use Rattle.quic_machine.specs.PollCases.{ready_at, gate_leaves, probe_leaves, by_probed, by_ready, ready_leaves}
 use Rattle.quic_machine.specs.End.{End, number_of, with_closing, with_tracking, with_discovery, with_queued}
 use Rattle.quic_machine.specs.Acked.{packets_lost, verdict, losses_detected}
 use Rattle.quic_machine.specs.FrameCases.{packets_lost_keep, by_searched}
 use Rattle.quic_machine.specs.Control.{Gated, with_pacing_timer}
-use Rattle.quic_machine.specs.Poll.{probed, gated, Ready, request_queued}
+use Rattle.quic_machine.specs.Poll.{most_ordinary, probed, gated, Ready, request_queued}
 
 -- ---- where packets are lost
 
@@ -90,3 +95,53 @@ ready_searched Q asks e now i = by_ready (request_queued (probed x)) (λ (r : Re
 -- which leaves the size
 pub ready_size : (e : End) (now : ℕ) → current_mtu (ready_at e now).end.path ≡ current_mtu e.path
 ready_size e now = ready_searched (λ (d : Discovery). d.size ≡ current_mtu e.path) (λ moment number d same. same) e now refl
+
+-- nor does it change how many probes of losses wait
+pub ready_probes : (e : End) (now : ℕ) → (ready_at e now).end.tracking.probes ≡ e.tracking.probes
+ready_probes e now = by_ready (request_queued (probed x)) (λ (r : Ready). r.end.tracking.probes ≡ e.tracking.probes) (λ blocked. begins) (λ free. record {
+  acks = λ held due. before;
+  held = λ held none. before;
+  all = λ free some. before;
+  idle = λ free none. before;
+  asked = λ free none. before;
+  probes = λ size free none may named. before;
+})
+  where
+    x : End
+    x = with_pacing_timer (with_closing e (ticked e.closing now)) None
+
+    begins : (request_queued (probed x)).tracking.probes ≡ e.tracking.probes
+    begins = by_probed x (λ (z : End). z.tracking.probes ≡ e.tracking.probes) refl (λ immediate. refl) (λ immediate. refl) (λ immediate q probes is. refl)
+
+    before : (gated (request_queued (probed x))).end.tracking.probes ≡ e.tracking.probes
+    before = ap (λ (z : End). z.tracking.probes) (gate_leaves (request_queued (probed x))) ∙ begins
+
+-- ---- room for frames
+
+-- it stays where id, size and settings do
+pub room_stays : (e f : End) → f.ids ≡ e.ids → current_mtu f.path ≡ current_mtu e.path → f.transport ≡ e.transport → HasRoom e → HasRoom f
+room_stays e f ids size transport room = (
+  subst (λ (x : Ids). length x.peer.id ≤ 20) (sym ids) room.0,
+  subst (λ (n : ℕ). 1200 ≤ n) (sym size) room.1,
+  subst (λ (n : ℕ). n < 2 ^ 16) (sym size) room.2,
+  subst (λ (t : TransportSettings). 1200 ≤ t.min_mtu) (sym transport) room.3,
+)
+
+-- so it does where an end is made ready
+pub ready_room : (e : End) (now : ℕ) → HasRoom e → HasRoom (ready_at e now).end
+ready_room e now room = room_stays e (ready_at e now).end (ap (λ (x : End). x.ids) (ready_leaves e now)) (ready_size e now) (ap (λ (x : End). x.transport) (ready_leaves e now)) room
+
+-- how many bytes an ordinary datagram has at most stays where size, settings and the probes that
+-- wait do
+pub most_stays : (e f : End) → f.tracking.probes ≡ e.tracking.probes → current_mtu f.path ≡ current_mtu e.path → f.transport ≡ e.transport → most_ordinary f ≡ most_ordinary e
+most_stays e f probes size transport =
+    ap (λ (n : ℕ). if nat_lt 0 n then min f.transport.min_mtu (current_mtu f.path) else current_mtu f.path) probes
+    ∙ ap (λ (n : ℕ). if nat_lt 0 e.tracking.probes then min f.transport.min_mtu n else n) size
+    ∙ ap (λ (t : TransportSettings). if nat_lt 0 e.tracking.probes then min t.min_mtu (current_mtu e.path) else current_mtu e.path) transport
+
+pub ready_most : (e : End) (now : ℕ) → most_ordinary (ready_at e now).end ≡ most_ordinary e
+ready_most e now = most_stays e (ready_at e now).end (ready_probes e now) (ready_size e now) (ap (λ (x : End). x.transport) (ready_leaves e now))
+
+-- where no probe waits, that is the size
+pub unprobed_most : (e : End) → e.tracking.probes ≡ 0 → most_ordinary e ≡ current_mtu e.path
+unprobed_most e none = ap (λ (n : ℕ). if nat_lt 0 n then min e.transport.min_mtu (current_mtu e.path) else current_mtu e.path) none

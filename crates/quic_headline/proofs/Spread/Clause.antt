@@ -219,12 +219,12 @@ module _ (r : Run) (end : World) (honest : IsHonest r) (run : IsRun r end) (quie
     left : end_at side next ≡ (polled p e now).end
     left = made_end r i side (calls.Poll now) a w next m
 
-    -- each message that waits may go
-    message_fits : 0 < length e.messages.queues.outgoing → message_waits e ≡ true
-    message_fits some =
+    -- each message that waits may go, where no probe of losses waits
+    message_fits : e.tracking.probes ≡ 0 → 0 < length e.messages.queues.outgoing → message_waits e ≡ true
+    message_fits none some =
         let one = first_waits e.messages.queues.outgoing some in
         let packets = h.gives.0.0.0.0.0 in
-        short_waits e one.0 (has_room x y packets) packets.long.peer.used h.gives.1.0.short one.1
+        short_waits e one.0 none (has_room x y packets) packets.long.peer.used h.gives.1.0.short one.1
 
     -- so the pacer behind it is that of the lists, if it was before
     pub poll_spread : SearchesApart r side → (v : View) → LeadsTo r (suc i) next → slice_get r.views i ≡ Some v → (end_at side next).closing.state ≡ states.Open → (end_at side next).path.pacing ≡ pacing_after (paces_by (calls.Poll now) r side i v) (end_at side w).path.pacing

@@ -91,7 +91,7 @@ module _ (r : Run) (end : World) (honest : IsHonest r) (run : IsRun r end) where
   is_held side i now v served gave wanted =
       let at = place side (suc i) served in
       held_or_blocked r end honest run (λ by j there. placed_less Known PacketsHold r end by j (λ x y h. h.0.0.0.0) (place by j there)) (heard_nothing r honest) side i now v at.world served at.leads gave
-      (held_back Known (record { packets = λ x y h. h.0.0.0.0; sight = λ x y h. h.0.0.1 }) r end honest side i now v at gave (ping_asks (end_at side at.world) (at.gives.1.pinged (open_now r side i now v at.world at.leads gave) wanted)))
+      (held_back Known (record { packets = λ x y h. h.0.0.0.0; sight = λ x y h. h.0.0.1 }) r end honest side i now v at gave (λ none. ping_asks (end_at side at.world) (at.gives.1.pinged (open_now r side i now v at.world at.leads gave) wanted)))
 
 pub pings_go : (r : Run) (end : World) → IsHonest r → IsRun r end → PingsGo r
 pings_go r end honest run = record { along = goes_along r end honest run; held = is_held r end honest run }

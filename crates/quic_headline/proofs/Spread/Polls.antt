@@ -27,7 +27,7 @@ use Rattle.quic_machine.specs.End.{End, words_drawn, with_number_given, streams_
 use Rattle.quic_machine.specs.Control.{bytes_in_flight, is_window_full, pacer_asked}
 use Rattle.quic_machine.specs.Sizes.{search_asked}
 use Rattle.quic_machine.specs.Poll.{Polled, Draft, zeros_behind, asking, datagram_size, tracked, paid_if, after_given, least_room, message_waits, asks_to_go, whole, Ready, goes, draft_of, sends, polled_if, polled_in, polled, bounds}
-use Rattle.quic_machine.specs.DraftLaws.{HasRoom}
+use Rattle.quic_machine.specs.DraftLaws.{HasRoom, ordinary_within}
 use Rattle.quic_machine.specs.PollCases.{ready_at, ready_leaves, may_leave_at, composes}
 use Rattle.quic_machine.specs.Machine.{gave}
 use Rattle.quic_headline.specs.Runs.{Run}
@@ -46,7 +46,7 @@ use Rattle.quic_headline.proofs.Packets.Probes.{by_going}
 use Rattle.quic_headline.proofs.Places.Parties.{given_in, sent_as, sent_by, sent_if}
 use Rattle.quic_headline.proofs.Steps.Probes.{begun}
 use Rattle.quic_headline.proofs.Steps.Probing.{IsProbing, probe_size}
-use Rattle.quic_headline.proofs.Steps.Sized.{whole_least, leaving_size}
+use Rattle.quic_headline.proofs.Steps.Sized.{IsOrdinary, leaving_size}
 use Rattle.quic_headline.proofs.Sizes.Apart.{IsApart, named_apart}
 use Rattle.quic_headline.proofs.Waited.Pings.{idle_unpinged}
 use Rattle.quic_headline.proofs.Spread.Pings.{whole_pinged}
@@ -106,7 +106,7 @@ charged p d s asks size =
 -- ---- a poll
 
 module _ (K : Streams → Type 0) (spelling : Spelling K) (bringing : Bringing K) (r : Run) (side : Side) (i : ℕ) (v : View) (p : Policy) (e : End) (now : ℕ) (k : Knows r side i e) (acks : Acks e.acknowledging e.marks.came)
-    (short : HasRoom e) (streams : (moment : ℕ) → K (streams_at (ready_at e moment).end)) (fits : 0 < length e.messages.queues.outgoing → message_waits e ≡ true) where
+    (short : HasRoom e) (streams : (moment : ℕ) → K (streams_at (ready_at e moment).end)) (fits : e.tracking.probes ≡ 0 → 0 < length e.messages.queues.outgoing → message_waits e ≡ true) where
   abbrev g : Ready
   g = ready_at e now
 
@@ -190,10 +190,10 @@ module _ (K : Streams → Type 0) (spelling : Spelling K) (bringing : Bringing K
       omega (arith, less, most, flying, size, window)))
 
   -- where none waits, none is left
-  none_left : message_waits e ≡ false → leaves_message r side i ≡ false
-  none_left none = and_left some_wait has_space (false_from_ne_true some_wait (λ has.
+  none_left : e.tracking.probes ≡ 0 → message_waits e ≡ false → leaves_message r side i ≡ false
+  none_left unprobed none = and_left some_wait has_space (false_from_ne_true some_wait (λ has.
       let some = ltb-true 0 (length (waiting_messages r side i)) has in
-      both_ways (message_waits e) none (fits (subst (λ (ms : List (List ℕ)). 0 < length ms) k.messages some))))
+      both_ways (message_waits e) none (fits unprobed (subst (λ (ms : List (List ℕ)). 0 < length ms) k.messages some))))
 
   -- ---- by how the end was made ready
 
@@ -201,9 +201,10 @@ module _ (K : Streams → Type 0) (spelling : Spelling K) (bringing : Bringing K
   whole_short : g ≡ record { leaving = whole; end = pacer_asked (asked_at e now) } → nat_lt (seen_at r side i).current_mtu s.size ≡ false
   whole_short is = false_from_ne_true (nat_lt (seen_at r side i).current_mtu s.size) (λ long.
       let over = ltb-true (seen_at r side i).current_mtu s.size long in
-      let most = leaving_size e now short (spellable_next K spelling bringing e acks short streams now (ap goes is)) whole (ap (λ (x : Ready). x.leaving) is) whole_least in
+      let most = leaving_size e now short (spellable_next K spelling bringing e acks short streams now (ap goes is)) (subst IsOrdinary (sym (ap (λ (x : Ready). x.leaving) is)) tt) in
+      let within = ordinary_within e in
       let size = k.size in
-      omega (arith, over, most, size))
+      omega (arith, over, most, within, size))
 
   -- where it goes with leave, its pacer was asked
   pass_one : gone_at r side i ≡ s ∷ [] → is_window_full e ≡ false → asks_to_go (asked_at e now) ≡ true → g ≡ record { leaving = whole; end = pacer_asked (asked_at e now) } → (b : Bool) → asks_of s ≡ b → is_paced b r side i s ≡ true
@@ -243,7 +244,7 @@ module _ (K : Streams → Type 0) (spelling : Spelling K) (bringing : Bringing K
       let longer : nat_lt (seen_at r side i).current_mtu s.size ≡ true = lt-ltb (seen_at r side i).current_mtu s.size (omega (arith, above, size, seen)) in
       ap not (and_from (list_any is_ping s.frames) (not (wants r side i).pinged && (not (wants r side i).probed || nat_lt (seen_at r side i).current_mtu s.size)) has
       (and_from (not (wants r side i).pinged) (not (wants r side i).probed || nat_lt (seen_at r side i).current_mtu s.size) (ap not unasked) (or_right (not (wants r side i).probed) (nat_lt (seen_at r side i).current_mtu s.size) longer)))
-  free_one none silent probes false quiet = none_left (message_none (or_parts (signals_wait e.waiting.signals) (not (is_empty (asked_at e now).waiting.frames e.streams) || (message_waits e || can_send_stream_data e.streams)) silent).1)
+  free_one none silent probes false quiet = none_left none (message_none (or_parts (signals_wait e.waiting.signals) (not (is_empty (asked_at e now).waiting.frames e.streams) || (message_waits e || can_send_stream_data e.streams)) silent).1)
     where
       message_none : (not (is_empty (asked_at e now).waiting.frames e.streams) || (message_waits e || can_send_stream_data e.streams)) ≡ false → message_waits e ≡ false
       message_none is = (or_parts (message_waits e) (can_send_stream_data e.streams) (or_parts (not (is_empty (asked_at e now).waiting.frames e.streams)) (message_waits e || can_send_stream_data e.streams) is).1).0

@@ -21,8 +21,8 @@ use Rattle.quic_streams_state.specs.Control.{Entry, waiting, without_first, fram
 use Rattle.quic_streams_state.specs.ControlLaws.{is_due, any_due, none_due, others_wait, others_same, place, same_place}
 use Rattle.quic_spaces.specs.Numbers.{cut_against}
 use Rattle.quic_machine.specs.End.{End, number_of}
-use Rattle.quic_machine.specs.Parts.{current_mtu, signals_wait}
-use Rattle.quic_machine.specs.Poll.{Draft, no_frames, frame_room, least_room, fits, with_control_frames, with_message_frames, with_stream_frames, ack_of, with_ack, composed_if, composed, asking, message_waits, asks_to_go, request_if, with_frequency_frame}
+use Rattle.quic_machine.specs.Parts.{signals_wait}
+use Rattle.quic_machine.specs.Poll.{Draft, no_frames, most_ordinary, frame_room, least_room, fits, with_control_frames, with_message_frames, with_stream_frames, ack_of, with_ack, composed_if, composed, asking, message_waits, asks_to_go, request_if, with_frequency_frame}
 use Rattle.quic_machine.specs.DraftLaws.{by_entries, by_messages, by_streams, no_signal}
 use Rattle.quic_headline.proofs.Packets.Invariant.{Acks}
 use Rattle.quic_headline.proofs.Packets.Composed.{ack_form}
@@ -128,7 +128,7 @@ room_more e =
     let between : ℕ = number_of e - cut_against e.numbers in
     go (nat_lt (2 * between) 256) (nat_lt (2 * between) 65536) (nat_lt (2 * between) 16777216)
   where
-    go : (a b c : Bool) → current_mtu e.path - (1 + length e.ids.peer.id + (if a then 1 else (if b then 2 else (if c then 3 else 4))) + 16) ≤ least_room e + 3
+    go : (a b c : Bool) → most_ordinary e - (1 + length e.ids.peer.id + (if a then 1 else (if b then 2 else (if c then 3 else 4))) + 16) ≤ least_room e + 3
     go true b c = omega arith
     go false true c = omega arith
     go false false true = omega arith

@@ -1,8 +1,8 @@
 -- Where a probe waits, a poll that leaves its end open gives a datagram that asks for an
 -- acknowledgement (RFC 9002, sections 6.2.4 and 7.5).
-use Rattle.std.proofs.Common.{◌≡◌, ℕ, suc, ◌+◌, ◌-◌, ◌<◌, ◌≤◌, ◌^◌, [], ◌∷◌, ◌++◌, length, Bool, true, false, Some, None, Ok, refl, sym, ap, ◌∙◌, subst, ◌⊎◌, inl, inr, arith, Option}
-use Rattle.std.specs.Prelude.{not, ◌||◌, ◌==◌, slice_get}
-use Rattle.std.proofs.lemmas.Bool.{lt-ltb, or_left, or_right, and_right, and_parts, not-true, ne_eqb}
+use Rattle.std.proofs.Common.{◌≡◌, ℕ, suc, ◌+◌, ◌-◌, ◌<◌, ◌≤◌, [], ◌∷◌, ◌++◌, length, Bool, true, false, Some, None, Ok, refl, sym, ap, ◌∙◌, subst, ◌⊎◌, inl, inr, arith, Option}
+use Rattle.std.specs.Prelude.{not, ◌||◌, slice_get}
+use Rattle.std.proofs.lemmas.Bool.{or_left, or_right, and_parts, not-true}
 use Rattle.std.proofs.lemmas.List.{length-append}
 use Rattle.std.proofs.lemmas.List.Folds.{list_any-append}
 use Rattle.quic_wire_core.specs.declared.stream_id.Side.{Side}
@@ -12,7 +12,7 @@ use Rattle.quic_recovery_core.specs.PendingAcks.{Pending, is_filled, can_send}
 use Rattle.quic_retransmits.specs.Retransmits.{nothing_waits}
 use Rattle.quic_streams_parts.specs.Table.{added}
 use Rattle.quic_streams_state.specs.State.{Streams}
-use Rattle.quic_streams_state.specs.Waiting.{is_empty, can_send_stream_data}
+use Rattle.quic_streams_state.specs.Waiting.{is_empty}
 use Rattle.quic_streams_state.specs.Control as control
 use Rattle.quic_machine.specs.declared.answers.State.{State}
 use Rattle.quic_machine.specs.declared.answers.State.TheVariants as states
@@ -24,11 +24,10 @@ use Rattle.quic_machine.specs.declared.run.View.{View}
 use Rattle.quic_machine.specs.Parts.{current_mtu, signals_wait}
 use Rattle.quic_machine.specs.Policy.{Policy}
 use Rattle.quic_machine.specs.Closing.{ticked}
-use Rattle.quic_machine.specs.Ids.{Ids}
 use Rattle.quic_machine.specs.Tracking.{Tracking, TrackedPacket, forgotten, without_packet, asking_sent, after_sent}
 use Rattle.quic_machine.specs.End.{End, number_of, with_closing, streams_at, closed_by}
-use Rattle.quic_machine.specs.Control.{Gated, lets, gated_if, with_pacing_timer}
-use Rattle.quic_machine.specs.Poll.{gated, mark_of, Polled, Draft, no_frames, frame_room, with_control_frames, with_message_frames, with_stream_frames, with_asking, ack_of, with_ack, ack_fits, ack_if, composed_if, composed, datagram_of, asking, packet_of, probed, lazied, message_waits, asks_to_go, draft_of, sends, polled_if, polled_in, polled, whole, Ready, leaves, free_if, waits, goes, with_signal_frames, bounds, request_of, with_request, request_if, with_frequency_frame, request_queued}
+use Rattle.quic_machine.specs.Control.{with_pacing_timer}
+use Rattle.quic_machine.specs.Poll.{mark_of, Polled, Draft, no_frames, frame_room, with_control_frames, with_message_frames, with_stream_frames, with_asking, ack_of, with_ack, ack_fits, ack_if, composed_if, composed, datagram_of, asking, packet_of, probed, lazied, draft_of, sends, polled_if, polled_in, polled, whole, Ready, waits, goes, with_signal_frames, bounds, request_of, with_request, request_if, with_frequency_frame, request_queued}
 use Rattle.quic_machine.specs.Machine.{World, end_at, policy_at}
 use Rattle.quic_machine.specs.DraftLaws.{Writing, drops_of, entry_of, half_of, message_of, HasRoom, room_most, by_entries, by_messages, by_streams, signal_asks, by_some_signal, no_signal}
 use Rattle.quic_machine.specs.Puts as puts
@@ -45,6 +44,7 @@ use Rattle.quic_headline.proofs.Packets.Composed.{Spelling, ack_leaves}
 use Rattle.quic_headline.proofs.Packets.Going.{Bringing, control_goes}
 use Rattle.quic_headline.proofs.Packets.Flying.{asking_padded}
 use Rattle.quic_headline.proofs.Packets.Probes.{by_going}
+use Rattle.quic_headline.proofs.Packets.Searches.{room_stays}
 use Rattle.quic_headline.proofs.Packets.Group.{PacketsHold, has_room}
 use Rattle.quic_headline.proofs.Packets.Sight.{Sight}
 use Rattle.quic_headline.proofs.Places.Parties.{given_in, sent_as, sent_by, sents_by, Party, with_shown, shown_at}
@@ -55,8 +55,8 @@ use Rattle.quic_headline.proofs.Places.Together.{Spells}
 use Rattle.quic_headline.proofs.Timers.Watched.{open_behind}
 use Rattle.quic_headline.proofs.Timers.Still.{was_open}
 use Rattle.quic_headline.proofs.Steps.Made.{made_served, made_end, MadeAt, made_at, polling, PollHolds, poll_holds, observed_poll, sents_more}
-use Rattle.quic_headline.proofs.Held.Silent.{may_go}
-use Rattle.quic_headline.proofs.Steps.Moved.{has_probe, probe_has, asked_has}
+use Rattle.quic_headline.proofs.Held.Silent.{begun_probes, begun_has, ready_whole}
+use Rattle.quic_headline.proofs.Steps.Moved.{has_probe}
 
 -- ---- drafts that ask
 
@@ -151,34 +151,6 @@ one_fewer t n p is = ap (λ (b : Bool). (asking_sent b n p.time_sent (record t {
 abbrev pub begun : End → ℕ → End
 begun e now = with_pacing_timer (with_closing e (ticked e.closing now)) None
 
-module _ (e : End) (now : ℕ) (probes : 0 < e.tracking.probes) where
-  -- the end where something waits for each probe
-  abbrev readied : End
-  readied = request_queued (probed (begun e now))
-
-  readied_has : has_probe readied ≡ true
-  readied_has = asked_has (probed (begun e now)) _ (probe_has (begun e now) (lt-ltb 0 e.tracking.probes probes))
-
-  -- as many probes wait
-  readied_probes : readied.tracking.probes ≡ e.tracking.probes
-  readied_probes = by_probed (begun e now) (λ (z : End). z.tracking.probes ≡ e.tracking.probes) refl (λ immediate. refl) (λ immediate. refl) (λ immediate q probes is. refl)
-
-  readied_waits : waits readied ≡ true
-  readied_waits =
-      or_right (can_send readied.acknowledging) (asks_to_go readied) (asks_more (signals_wait readied.waiting.signals) (not (is_empty readied.waiting.frames readied.streams)) (message_waits readied || can_send_stream_data readied.streams) readied_has)
-    where
-      asks_more : (a b d : Bool) → (a || b) ≡ true → (a || (b || d)) ≡ true
-      asks_more true b d is = refl
-      asks_more false b d is = or_left b d is
-
-  -- window and pacer aren't asked
-  ungated : gated readied ≡ lets readied
-  ungated = ap (λ (b : Bool). gated_if b readied) (and_right (asks_to_go readied) (readied.tracking.probes == 0) (ne_eqb readied.tracking.probes 0 (λ none. (let same = readied_probes in omega arith))))
-
-  -- nor is the search for a size: all goes that waits, where more may go to its address
-  pub ready_whole : e.path.blocked ≡ false → ready_at e now ≡ record { leaving = whole; end = readied }
-  ready_whole free = may_go e now free ∙ ap (λ (g : Gated). leaves g) ungated ∙ ap (λ (b : Bool). free_if b readied) readied_waits
-
 -- What a poll gives where a probe waits: a datagram that asks, and one probe fewer waits.
 record GivesProbe (p : Policy) (e : End) (now : ℕ) : Type 0 where
   transmit : Transmit
@@ -207,6 +179,10 @@ module _ (K : Streams → Type 0) (k : Spelling K) (c : Bringing K) (p : Policy)
   same_size : current_mtu x.path ≡ current_mtu e.path
   same_size = by_probed (begun e now) (λ (z : End). current_mtu z.path ≡ current_mtu e.path) refl (λ immediate. refl) (λ immediate. refl) (λ immediate q probes is. refl)
 
+  -- and the settings
+  same_settings : x.transport ≡ e.transport
+  same_settings = by_probed (begun e now) (λ (z : End). z.transport ≡ e.transport) refl (λ immediate. refl) (λ immediate. refl) (λ immediate q probes is. refl)
+
   -- all that waits goes of it
   abbrev all_goes : Ready
   all_goes = record { leaving = whole; end = x }
@@ -217,7 +193,7 @@ module _ (K : Streams → Type 0) (k : Spelling K) (c : Bringing K) (p : Policy)
   -- which asks
   goes_asks : Asks (composed (lazied x))
   goes_asks = composed_asks K k c (lazied x) (let there = subst (λ (p : Pending). Acks p e.marks.came) (sym same_acks) acks in record { runs = there.runs; small = there.small; counts = subst CountsFit (sym same_came) there.counts })
-      (subst (λ (ids : Ids). length ids.peer.id ≤ 20) (sym same_ids) short.0, subst (λ (n : ℕ). 1200 ≤ n) (sym same_size) short.1, subst (λ (n : ℕ). n < 2 ^ 16) (sym same_size) short.2) (subst (λ (g : Ready). K (streams_at g.end)) let_so streams) (readied_has e now probes)
+      (room_stays e x same_ids same_size same_settings short) (subst (λ (g : Ready). K (streams_at g.end)) let_so streams) (begun_has e now probes)
 
   -- and so do the frames of its datagram
   frames_ask : asking (frames_at e now) ≡ true
@@ -235,7 +211,7 @@ module _ (K : Streams → Type 0) (k : Spelling K) (c : Bringing K) (p : Policy)
       let d : Draft = composed (lazied x) in
       let tracking : d.end.tracking ≡ x.tracking = (composes whole x tt).tracking in
       let there : d.end.tracking.probes ≡ x.tracking.probes = ap (λ (t : Tracking). t.probes) tracking in
-      let same = readied_probes e now probes in
+      let same = begun_probes e now in
       by_going (λ (z : End). z.tracking.probes + 1 ≡ e.tracking.probes) p d (λ pacing. (let one = one_fewer d.end.tracking (number_of d.end) (packet_of d) goes_asks in omega arith))
 
   -- so a poll that leaves an open end open gives it

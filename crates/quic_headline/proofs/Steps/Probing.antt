@@ -1,8 +1,8 @@
 -- A poll that gives a datagram, and where it gives a probe of a size: PING and zeros alone, of the
 -- size that the search names (RFC 8899, section 5.3).
-use Rattle.std.proofs.Common.{◌≡◌, ◌⊎◌, inl, inr, ℕ, suc, ◌+◌, ◌-◌, ◌<◌, ◌≤◌, ◌^◌, max, List, [], ◌∷◌, length, replicate, Bool, true, false, Some, None, Ok, refl, sym, ap, ◌∙◌, subst, arith, zero}
+use Rattle.std.proofs.Common.{◌≡◌, ◌⊎◌, inl, inr, ℕ, suc, ◌+◌, ◌-◌, ◌<◌, ◌≤◌, max, List, [], ◌∷◌, length, replicate, Bool, true, false, Some, None, Ok, refl, sym, ap, ◌∙◌, subst, arith, zero}
 use Rattle.std.specs.Prelude.{Option, Result, ◌==◌, ◌&&◌, if◌then◌else◌, ◌||◌, not}
-use Rattle.std.proofs.lemmas.Bool.{le-ltb, ltb-true, and_parts, both_ways, or_parts, or_left, lt-ltb, not-true, not-false}
+use Rattle.std.proofs.lemmas.Bool.{le-ltb, ltb-true, and_parts, both_ways, or_parts, not-true, not-false}
 use Rattle.std.proofs.lemmas.List.{append_cancel_left, length-append, length-replicate}
 use Rattle.quic_wire_core.specs.StreamId.{other_side}
 use Rattle.quic_wire.specs.Value.{FrameValue, ping, connection_close, application_close}
@@ -23,14 +23,13 @@ use Rattle.quic_machine.specs.declared.run.EndView.{EndView}
 use Rattle.quic_machine.specs.Policy.{Policy}
 use Rattle.quic_machine.specs.Parts.{current_mtu, signals_wait}
 use Rattle.quic_machine.specs.Closing.{Closing, ticked}
-use Rattle.quic_machine.specs.Ids.{Ids}
 use Rattle.quic_machine.specs.End.{End, number_of, with_closing, closed_by, with_frames}
 use Rattle.quic_machine.specs.Control.{bytes_in_flight, pacer_asked, with_pacing_timer, Gated, lets, holds}
 use Rattle.quic_machine.specs.Sizes.{has_window, may_search, search_names, search_asked}
-use Rattle.quic_machine.specs.Poll.{waits, Polled, Draft, probing, asking, number_width, overhead, zeros_behind, datagram_size, after_given, probe_if, probed, asks_to_go, probe, Ready, leaves, leaves_unless, goes, draft_as, draft_of, close_to_go, after_close, polled, datagram_of, mark_of, message_waits, request_queued, asks_anew}
+use Rattle.quic_machine.specs.Poll.{waits, Polled, Draft, most_ordinary, probing, asking, number_width, overhead, zeros_behind, datagram_size, after_given, probe_if, probed, asks_to_go, probe, Ready, leaves, leaves_unless, goes, draft_as, draft_of, close_to_go, after_close, polled, datagram_of, mark_of, message_waits, request_queued, asks_anew}
 use Rattle.quic_machine.specs.Poll as poll
 use Rattle.quic_machine.specs.Machine.{World, end_at, control_at, given_by, policy_at, gave as gave_one}
-use Rattle.quic_machine.specs.DraftLaws.{IsClose, HasRoom, width_few}
+use Rattle.quic_machine.specs.DraftLaws.{IsClose, HasRoom, ordinary_within, width_few}
 use Rattle.quic_machine.specs.PollCases.{ready_at, draft_at, frames_padded, ready_leaves, may_leave_at, composes, by_gate, by_leaves, bounds_none}
 use Rattle.quic_headline.specs.Runs.{Run, LeadsTo}
 use Rattle.std.specs.List.{list_any}
@@ -42,7 +41,7 @@ use Rattle.quic_headline.proofs.Packets.Probes.{by_going}
 use Rattle.quic_headline.proofs.Packets.Flying.{asking_padded}
 use Rattle.quic_headline.proofs.Packets.Sends.{GivesClose, by_sends}
 use Rattle.quic_headline.proofs.Packets.CloseForms.{OwesWell, close_well, bound_well}
-use Rattle.quic_headline.proofs.Packets.Searches.{ready_size}
+use Rattle.quic_headline.proofs.Packets.Searches.{ready_size, room_stays}
 use Rattle.quic_headline.proofs.Packets.Group.{PacketsHold, has_room}
 use Rattle.quic_headline.proofs.Packets.Sight.{Sight}
 use Rattle.quic_headline.proofs.Places.Parties.{sent_as, sent_if, sent_by, Party, watch_of, called, with_shown, shown_at}
@@ -55,7 +54,7 @@ use Rattle.quic_headline.proofs.Held.Flight.{bytes_of_end}
 use Rattle.quic_headline.proofs.Steps.Made.{made_served, made_end, one_behind, served_before, polling, PollHolds, poll_holds, observed_poll, sents_more}
 use Rattle.quic_headline.proofs.Steps.Probes.{begun}
 use Rattle.quic_streams_state.specs.Waiting.{is_empty, can_send_stream_data, any_goes}
-use Rattle.quic_headline.proofs.Steps.Moved.{probe_has, asked_has}
+use Rattle.quic_headline.proofs.Held.Silent.{may_not_go, ready_whole}
 use Rattle.quic_wire_core.specs.declared.stream_id.Side.{Side}
 use Rattle.quic_retransmits.specs.Retransmits.{control_kinds}
 
@@ -98,9 +97,9 @@ pub giving : (p : Policy) (e : End) (now : ℕ) (t : Transmit) (s : Sent) → Ha
 giving p e now t s room owes is same = by_sends p e now Of (record {
   silent = λ none went. cc;
   failed = λ none went. cc;
-  repeats = λ state. closed (with_closing e (ticked e.closing now)) refl refl owes;
+  repeats = λ state. closed (with_closing e (ticked e.closing now)) refl refl refl owes;
   nothing = λ opened none is went. cc;
-  closes = λ reason opened bound. closed (closed_by reason (ready_at e now).end) (ready_size e now) (ap (λ (x : End). x.ids) (ready_leaves e now)) (bound_well p e (ready_at e now).end reason bound);
+  closes = λ reason opened bound. closed (closed_by reason (ready_at e now).end) (ready_size e now) (ap (λ (x : End). x.ids) (ready_leaves e now)) (ap (λ (x : End). x.transport) (ready_leaves e now)) (bound_well p e (ready_at e now).end reason bound);
   gives = λ opened bound some gave went. inl (record {
     opened = opened;
     may = (bounds_none p e bound).0;
@@ -114,15 +113,15 @@ giving p e now t s room owes is same = by_sends p e now Of (record {
     Of : Polled → List Sent → Type 0
     Of q ss = q.answer ≡ Ok (Some t) → ss ≡ s ∷ [] → IsGiving p e now t q.end s ⊎ IsClosing p e now t s
 
-    closed : (x : End) → current_mtu x.path ≡ current_mtu e.path → x.ids ≡ e.ids → OwesWell x → GivesClose p e now Of x
-    closed x mtu ids due = (
+    closed : (x : End) → current_mtu x.path ≡ current_mtu e.path → x.ids ≡ e.ids → x.transport ≡ e.transport → OwesWell x → GivesClose p e now Of x
+    closed x mtu ids settings due = (
       λ none went. cc,
       λ f may gave went. inr (record {
         closed = x;
         close = f;
         may = may;
         owes = due;
-        room = (subst (λ (i : Ids). length i.peer.id ≤ 20) (sym ids) room.0, subst (λ (n : ℕ). 1200 ≤ n) (sym mtu) room.1, subst (λ (n : ℕ). n < 2 ^ 16) (sym mtu) room.2);
+        room = room_stays e x ids mtu settings room;
         mtu = mtu;
         size = same_bytes (record { size = length (datagram_of p (draft_as (poll.closing f) x)); ecn = mark_of (after_close p (draft_as (poll.closing f) x)).path.marking }) t gave;
         sent = only_one (sent_as e now (draft_as (poll.closing f) x)) s went;
@@ -188,9 +187,19 @@ unasked e none = ap (λ (b : Bool). with_frames e (record e.waiting.frames { ack
     off : x.waiting.frames.ack_frequency ≡ false
     off = (or_parts (list_any (λ kind. any_goes kind x.waiting.frames x.streams) control_kinds) x.waiting.frames.ack_frequency (not-true _ (not-false (is_empty x.waiting.frames x.streams) (or_parts (not (is_empty x.waiting.frames x.streams)) _ quiet).0))).1
 
--- one goes only where nothing waits, so that no probe of losses does
+-- one goes only where no probe of losses waits, for which all goes that waits
+pub probe_unprobed : (e : End) (now size : ℕ) → (ready_at e now).leaving ≡ probe size → e.tracking.probes ≡ 0
+probe_unprobed e now size is = go e.tracking.probes refl e.path.blocked refl
+  where
+    go : (n : ℕ) → e.tracking.probes ≡ n → (b : Bool) → e.path.blocked ≡ b → e.tracking.probes ≡ 0
+    go zero none b reads = none
+    go (suc n) some true blocked = (let clash : poll.nothing false ≡ probe size = sym (ap (λ (g : Ready). g.leaving) (may_not_go e now blocked)) ∙ is in cc)
+    go (suc n) some false free = (let clash : poll.whole ≡ probe size = sym (ap (λ (g : Ready). g.leaving) (ready_whole e now (omega arith) free)) ∙ is in cc)
+
+-- and where nothing waits
 pub probe_goes : (e : End) (now size : ℕ) → (ready_at e now).leaving ≡ probe size → IsProbing (begun e now) (ready_at e now)
-probe_goes e now size is = go e.tracking.probes refl
+probe_goes e now size is =
+    subst (λ (z : End). IsProbing z (ready_at e now)) (unasked (begun e now) (subst (λ (z : End). waits (request_queued z) ≡ false) none found.idle)) (subst (λ (z : End). IsProbing (request_queued z) (ready_at e now)) none found)
   where
     y : End
     y = request_queued (probed (begun e now))
@@ -230,16 +239,8 @@ probe_goes e now size is = go e.tracking.probes refl
     found : IsProbing y (ready_at e now)
     found = reached y.path.blocked is
 
-    more : (a b c : Bool) → (a || b) ≡ true → (a || (b || c)) ≡ true
-    more true b c is = refl
-    more false b c is = or_left b c is
-
-    go : (n : ℕ) → e.tracking.probes ≡ n → IsProbing (begun e now) (ready_at e now)
-    go zero none = subst (λ (z : End). IsProbing z (ready_at e now)) (unasked (begun e now) (subst (λ (z : End). waits (request_queued z) ≡ false) (unprobed (begun e now) none) found.idle))
-        (subst (λ (z : End). IsProbing (request_queued z) (ready_at e now)) (unprobed (begun e now) none) found)
-    go (suc n) some =
-        let one : 0 < e.tracking.probes = omega arith in
-        absurd (waiting y (more (signals_wait y.waiting.signals) (not (is_empty y.waiting.frames y.streams)) (message_waits y || can_send_stream_data y.streams) (asked_has (probed (begun e now)) _ (probe_has (begun e now) (lt-ltb 0 e.tracking.probes one)))) found.idle)
+    none : probed (begun e now) ≡ begun e now
+    none = unprobed (begun e now) (probe_unprobed e now size is)
 
 -- a probe of a size has that size
 pub probe_size : (size : ℕ) (e : End) → HasRoom e → current_mtu e.path ≤ size → datagram_size (probing size e) ≡ size
@@ -252,8 +253,8 @@ probe_size size e room above =
     d : Draft
     d = probing size e
 
-    filled : (pads : Bool) → max (4 - (number_width d + length d.bytes)) ((if pads && asking d.frames then max size (current_mtu e.path) else size) - (overhead d + length d.bytes)) + (overhead d + length d.bytes) ≡ size
-    filled true = let width = width_few (number_of e - cut_against e.numbers) in let short = room.0 in let enough = room.1 in omega arith
+    filled : (pads : Bool) → max (4 - (number_width d + length d.bytes)) ((if pads && asking d.frames then max size (most_ordinary e) else size) - (overhead d + length d.bytes)) + (overhead d + length d.bytes) ≡ size
+    filled true = let width = width_few (number_of e - cut_against e.numbers) in let short = room.0 in let enough = room.1 in let most = ordinary_within e in omega arith
     filled false = let width = width_few (number_of e - cut_against e.numbers) in let short = room.0 in let enough = room.1 in omega arith
 
 -- ---- what a poll gave

@@ -1,5 +1,5 @@
 -- So each datagram carries something that waited, at each place of an honest run.
-use Rattle.std.proofs.Common.{◌≡◌, ℕ, ◌<◌, ◌≤◌, ◌^◌, zero, suc, Bool, true, false, ◌||◌, List, [], ◌∷◌, length, replicate, Some, Ok, refl, sym, ap, ◌∙◌, subst, ◌⊎◌, inl, inr, arith}
+use Rattle.std.proofs.Common.{◌≡◌, ℕ, ◌≤◌, zero, suc, Bool, true, false, ◌||◌, List, [], ◌∷◌, replicate, Some, Ok, refl, sym, ap, ◌∙◌, subst, ◌⊎◌, inl, inr, arith}
 use Rattle.std.specs.Prelude.{nat_lt}
 use Rattle.std.specs.List.{list_any}
 use Rattle.std.proofs.lemmas.Bool.{or_left, or_right, or_cases, both_ways, lt-ltb}
@@ -10,12 +10,11 @@ use Rattle.quic_streams_state.specs.declared.state.StreamsState.{StreamsState}
 use Rattle.quic_machine.specs.declared.run.Call.TheVariants as calls
 use Rattle.quic_machine.specs.declared.run.Answer.{Answer}
 use Rattle.quic_machine.specs.declared.run.Answer.TheVariants as answers
-use Rattle.quic_machine.specs.Ids.{Ids}
-use Rattle.quic_machine.specs.Parts.{Waiting, current_mtu}
+use Rattle.quic_machine.specs.Parts.{Waiting}
 use Rattle.quic_machine.specs.End.{End, streams_at}
 use Rattle.quic_machine.specs.Poll.{asking, zeros_behind, whole, alone, probe, nothing, Leaving, goes_as, goes, draft_as, polled, closing, request_queued, asks_anew}
 use Rattle.quic_machine.specs.DraftLaws.{HasRoom}
-use Rattle.quic_machine.specs.PollCases.{ready_at, ready_leaves, draft_at, frames_at, may_leave_at, ready_closes_not}
+use Rattle.quic_machine.specs.PollCases.{ready_at, draft_at, frames_at, may_leave_at, ready_closes_not}
 use Rattle.quic_machine.specs.Machine.{World, policy_at, end_at}
 use Rattle.quic_headline.specs.Runs.{Run, In}
 use Rattle.quic_headline.specs.Observer.{Sent, HoldsOffset, HoldsEnd, asks_of, Watch}
@@ -27,7 +26,7 @@ use Rattle.quic_headline.specs.InFlight.{is_max_streams, is_ack_frequency}
 use Rattle.quic_headline.specs.Requests.{Asking, asking_at, count_requests, wants_anew}
 use Rattle.quic_headline.proofs.Packets.Flying.{asking_padded}
 use Rattle.quic_headline.proofs.Packets.Group.{PacketsHold}
-use Rattle.quic_headline.proofs.Packets.Searches.{ready_size}
+use Rattle.quic_headline.proofs.Packets.Searches.{ready_room}
 use Rattle.quic_headline.proofs.Packets.Probes.{ready_acks, ready_state}
 use Rattle.quic_headline.proofs.Places.Told.{in_append}
 use Rattle.quic_headline.proofs.Places.Parties.{sent_as, Party, watch_of, with_shown, shown_at}
@@ -171,11 +170,7 @@ module _ (r : Run) (end : World) (honest : IsHonest r) (run : IsRun r end) (side
     z = (ready_at e now).end
 
     short : HasRoom z
-    short =
-        let room = probing.room Streams (everything.all Ready ready) r end honest run side i now gave w at.behind at.made in
-        let ids : z.ids ≡ e.ids = ap (λ (v : End). v.ids) (ready_leaves e now) in
-        let size : current_mtu z.path ≡ current_mtu e.path = ready_size e now in
-        (subst (λ (v : Ids). length v.peer.id ≤ 20) (sym ids) room.0, subst (λ (n : ℕ). 1200 ≤ n) (sym size) room.1, subst (λ (n : ℕ). n < 2 ^ 16) (sym size) room.2)
+    short = ready_room e now (probing.room Streams (everything.all Ready ready) r end honest run side i now gave w at.behind at.made)
 
     streams_known : spells.known (streams_at z)
     streams_known = spells.holds x y h.gives.0.0.0.0 h.gives.0.0.0.1 now

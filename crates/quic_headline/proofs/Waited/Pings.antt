@@ -35,7 +35,8 @@ use Rattle.quic_headline.proofs.Packets.Apart.{by_next_id}
 use Rattle.quic_headline.specs.Waited.{stands, is_ping, asks_ping}
 use Rattle.quic_headline.proofs.Packets.Probes.{by_going}
 use Rattle.quic_headline.proofs.Places.Parties.{sent_by, sent_if, sent_as}
-use Rattle.quic_headline.proofs.Steps.Probes.{begun, ready_whole}
+use Rattle.quic_headline.proofs.Held.Silent.{ready_whole}
+use Rattle.quic_headline.proofs.Steps.Probes.{begun}
 use Rattle.quic_headline.proofs.Steps.Probing.{IsProbing, unprobed, probe_goes}
 use Rattle.quic_headline.proofs.Packets.Heard.{by_taken}
 use Rattle.quic_headline.proofs.Packets.Sends.{by_sends}

@@ -3,7 +3,7 @@ ghost use Rattle.std.specs.Prelude.{◌≡◌, ℕ, ◌≤◌, ◌<◌, ◌-◌,
 ghost use Rattle.quic_wire.specs.declared.frame.NewConnectionId.{NewConnectionId};
 ghost use Rattle.quic_ids.specs.CidQueue.{PeerIds, IsWindow, kept_ids, knows, exceeds, retires_active, after_insert, after_next};
 
-/// The known ids have at most five consecutive numbers, from the one in use on, whatever comes.
+/// The known ids have at most eight consecutive numbers, from the one in use on, whatever comes.
 pub fn ids_are_a_window()
     ensures few { (ids : PeerIds) → IsWindow ids → length ids.later < kept_ids }
     ensures inserted { (ids : PeerIds) (frame : NewConnectionId) → frame.retire_prior_to ≤ frame.sequence → IsWindow ids → IsWindow (after_insert ids frame) }
@@ -23,7 +23,7 @@ pub fn known_ids_stay_known()
     ensures next { (ids : PeerIds) (n : ℕ) → IsWindow ids → knows (after_next ids) n ≡ (leb (after_next ids).active n && knows ids n) }
 {}
 
-/// Where the id in use stays, exactly the numbers from five above it on are too many.
-pub fn fifth_number_is_too_many()
+/// Where the id in use stays, exactly the numbers from eight above it on are too many.
+pub fn eighth_number_is_too_many()
     ensures { (ids : PeerIds) (frame : NewConnectionId) → frame.retire_prior_to ≤ ids.active → IsTrue (exceeds ids frame) ↔ (kept_ids ≤ frame.sequence - ids.active) }
 {}

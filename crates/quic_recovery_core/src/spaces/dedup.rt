@@ -1,29 +1,29 @@
 //! Which packet numbers came before (RFC 9000, section 12.3).
-ghost use Rattle.std.specs.Prelude.{◌≡◌, false, ◌≢◌, [], ℕ, ◌+◌, ◌-◌, ◌<◌, ◌≤◌, ◌==◌, is_some, not};
+ghost use Rattle.std.specs.Prelude.{◌≡◌, false, [], ◌-◌, ◌<◌, is_some, not};
 ghost use Rattle.std.specs.List.{find, range_with_len};
-ghost use Rattle.std.specs.Int.{bit_at};
 ghost use Rattle.quic_recovery_core.specs.Duplicates.{is_in, is_duplicate, with_number, after_insert, smallest_missing};
 
+use crate::spaces::window::Window;
 use std::marker::Model;
 
 /// A number that lies this far below the greatest, or farther, counts as one that came.
-pub const DUPLICATE_SPAN: u64 = 129;
+pub const DUPLICATE_SPAN: u64 = 257;
 
 /// How many numbers below the greatest are told apart: one fewer than [`DUPLICATE_SPAN`].
-const WINDOW_BITS: u64 = DUPLICATE_SPAN - 1;
+pub(crate) const WINDOW_BITS: u64 = DUPLICATE_SPAN - 1;
 
 /// The packet numbers that came, as far as they are told apart: a window below the greatest
 /// (quinn-proto's `Dedup`). Contracts see the list of those numbers, the greatest first.
 #[derive(Drop)]
 pub struct Dedup {
     // Whether the numbers below the greatest came, the nearest in the lowest bit.
-    window: u128,
+    window: Window,
     // One above the greatest, 0 where no number came.
     next: u64,
 }
 
 // The window has a bit for each number that is told apart.
-const _: () = prove!(WINDOW_BITS <= u128::BITS as u64);
+const _: () = prove!(WINDOW_BITS <= 2 * u128::BITS as u64);
 
 impl Model for Dedup {
     ghost use Rattle.quic_recovery_core.specs.Duplicates.{Seen};
@@ -35,41 +35,15 @@ impl Model for Dedup {
     ghost view = { λ d. seen d.next d.window };
 }
 
-// Whether a bit is set.
-fn is_set(window: u128, place: u64) -> bool
-    requires { place < WINDOW_BITS }
-    ensures { result ≡ (bit_at window place == 1) }
-{
-    window >> place & 1 == 1
-}
-
-// The window with a bit set.
-fn with_bit(window: u128, place: u64) -> u128
-    requires { place < WINDOW_BITS }
-    ensures same { bit_at result place ≡ 1 }
-    ensures other { (i : ℕ) → i ≢ place → bit_at result i ≡ bit_at window i }
-{
-    window | 1 << place
-}
-
-// The window as a number sees it that lies one place above the greatest and these steps farther.
-fn moved(window: u128, steps: u64) -> u128
-    ensures near { (i : ℕ) → i < WINDOW_BITS → i < steps → bit_at result i ≡ 0 }
-    ensures greatest { steps < WINDOW_BITS → bit_at result steps ≡ 1 }
-    ensures far { (i : ℕ) → i < WINDOW_BITS → steps < i → bit_at result i ≡ bit_at window (i - (steps + 1)) }
-{
-    if steps >= WINDOW_BITS {
-        return 0;
-    }
-    with_bit(window << 1 << steps, steps)
-}
-
 impl Dedup {
     /// No number came.
     pub fn new() -> Self
         ensures { result ≡ [] }
     {
-        Dedup { window: 0, next: 0 }
+        Dedup {
+            window: Window::new(),
+            next: 0,
+        }
     }
 
     // Whether a number is among those that are told apart.
@@ -80,7 +54,7 @@ impl Dedup {
             return false;
         }
         let below = self.next - 1 - number;
-        below == 0 || (below < DUPLICATE_SPAN && is_set(self.window, below - 1))
+        below == 0 || (below < DUPLICATE_SPAN && self.window.is_set(below - 1))
     }
 
     // Whether a number may have come before.
@@ -97,10 +71,10 @@ impl Dedup {
         ensures { self.new ≡ with_number self.old number }
     {
         if number >= self.next {
-            self.window = moved(self.window, number - self.next);
+            self.window = self.window.moved(number - self.next);
             self.next = number + 1;
         } else {
-            self.window = with_bit(self.window, self.next - 2 - number);
+            self.window = self.window.with_bit(self.next - 2 - number);
         }
     }
 

@@ -43,8 +43,8 @@ impl Sending {
         self.send.ack(frame, &mut self.pending)
     }
 
-    /// The same, unless the end of the half or a reset was told: it stays then. Says whether the
-    /// half is in use, its end was told, and no reset. An `Err` (want of memory) changes nothing.
+    /// Like `ack`, but does nothing if the half was finished or reset. Returns whether it is in
+    /// use, finished and not reset. An `Err` (out of memory) changes nothing.
     pub(crate) fn ack_if_ready(&mut self, frame: &StreamMeta) -> Result<bool, AllocError>
         ensures answer { IfOk result (λ ended. ended ≡ is_ended_at (at self.old.halves.live frame.now.id)) }
         ensures ok { OnOk result (self.new ≡ acked_if_ready_in (at self.old.halves.live frame.now.id) self.old frame.now) }

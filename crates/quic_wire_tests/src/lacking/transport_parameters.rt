@@ -8,7 +8,7 @@ const ASCENDING: [u8; 13] = [0, 1, 2, 3, 4, 5, 6, 7, 8, 9, 10, 11, 12];
 #[test]
 fn defaults_are_not_written(rt: HostRuntime) -> Result<(), Fail> {
     let nothing = TransportParameters::default().write(rt.alloc(), &ASCENDING)?;
-    assert_eq!(rt; nothing.len(), 0);
+    assert!(rt; nothing.is_empty());
     Ok(())
 }
 

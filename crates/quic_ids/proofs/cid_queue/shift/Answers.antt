@@ -7,7 +7,7 @@ pub returns : goal.returns
 returns c =
     let p = c.args.places in
     let none : Option IssuedCid = None in
-    let count : 4 - (4 - p) ≡ p = omega (arith, c.requires) in
-    let empty : drop (4 - p) (replicate 4 none) ≡ replicate p none = drop-replicate (4 - p) 4 none ∙ ap (λ n. replicate n none) count in
+    let count : 7 - (7 - p) ≡ p = omega (arith, c.requires) in
+    let empty : drop (7 - p) (replicate 7 none) ≡ replicate p none = drop-replicate (7 - p) 7 none ∙ ap (λ n. replicate n none) count in
     let moved : c.copy_from_slice.new.self ≡ drop p c.args.later.now = c.copy_from_slice.ensures.after ∙ take_all (length c.args.later.now - p) (drop p c.args.later.now) (omega (arith, length-drop p c.args.later.now)) in
-    ap (λ (l : List (Option IssuedCid)). l ++ drop (4 - p) (replicate 4 none)) moved ∙ ap (λ (l : List (Option IssuedCid)). drop p c.args.later.now ++ l) empty
+    ap (λ (l : List (Option IssuedCid)). l ++ drop (7 - p) (replicate 7 none)) moved ∙ ap (λ (l : List (Option IssuedCid)). drop p c.args.later.now ++ l) empty

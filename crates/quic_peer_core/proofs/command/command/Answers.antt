@@ -1,4 +1,4 @@
-use Rattle.quic_run_core.specs.Language.{words_left}
+use Rattle.quic_lines.specs.Language.{words_left}
 use Rattle.quic_peer_core.proofs.Saying.{received-read}
 use Rattle.quic_peer_core.proofs.command.command.Goals as goal
 

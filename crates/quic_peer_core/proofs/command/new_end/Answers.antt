@@ -1,5 +1,5 @@
 use Rattle.std.proofs.lemmas.Result.{err_from_is_err_and}
-use Rattle.quic_run_core.specs.Language.{words_left}
+use Rattle.quic_lines.specs.Language.{words_left}
 use Rattle.quic_peer_core.proofs.Saying.{read_is, new-read, third-bad, fourth-bad, last-bad}
 use Rattle.quic_peer_core.proofs.command.new_end.Goals as goal
 

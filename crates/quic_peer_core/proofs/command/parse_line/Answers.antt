@@ -1,8 +1,8 @@
 use Rattle.std.proofs.Common.{◌≡◌, length, false, refl, sym, inr, ◌∙◌, arith}
 use Rattle.std.proofs.lemmas.Bool.{le-ltb}
 use Rattle.std.proofs.lemmas.Str.{is_utf8-from_IsUtf8}
-use Rattle.quic_run_core.specs.Language.{is_skipped}
-use Rattle.quic_run_core.proofs.Saying.{is_utf8_not}
+use Rattle.quic_lines.specs.Language.{is_skipped}
+use Rattle.quic_lines.proofs.Saying.{is_utf8_not}
 use Rattle.quic_peer_core.proofs.Saying.{said-words, said-no_text}
 use Rattle.quic_peer_core.proofs.command.parse_line.Goals as goal
 

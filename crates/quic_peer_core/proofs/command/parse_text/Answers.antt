@@ -1,5 +1,5 @@
 use Rattle.std.proofs.Common.{Some, refl, inr, ◌∙◌}
-use Rattle.quic_run_core.proofs.Saying.{words_stand}
+use Rattle.quic_lines.proofs.Saying.{words_stand}
 use Rattle.quic_peer_core.specs.Language.{command_of}
 use Rattle.quic_peer_core.proofs.command.parse_text.Goals as goal
 

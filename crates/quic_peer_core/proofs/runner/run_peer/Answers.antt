@@ -1,4 +1,4 @@
-use Rattle.quic_run_core.proofs.Behind.{ran_behind, stopped_behind}
+use Rattle.quic_lines.proofs.Behind.{ran_behind, stopped_behind}
 use Rattle.quic_peer_core.specs.Peer.{first_stage, peer_rules}
 use Rattle.quic_peer_core.proofs.runner.run_peer.Goals as goal
 

@@ -2,10 +2,10 @@ use Rattle.std.proofs.Common.{◌≡◌, true, rules}
 use Rattle.std.specs.String.{string_bytes}
 use Rattle.std.proofs.lemmas.Result.{err_from_is_err_and}
 use Rattle.quic_run_core.specs.LongLines.{refuses_long}
-use Rattle.quic_run_core.specs.Reading.{left_of}
+use Rattle.quic_lines.specs.Reading.{left_of}
 use Rattle.quic_run_core.specs.Scripts.{script_rules, first_stage}
 use Rattle.quic_run_core.specs.Stages.{stage_of}
-use Rattle.quic_run_core.proofs.Running.{running-some, running-refused, stopped_fault}
+use Rattle.quic_lines.proofs.Running.{running-some, running-refused, stopped_fault}
 use Rattle.quic_run_core.proofs.Kept.{erasing_more, erasing_runs}
 use Rattle.quic_run_core.proofs.erasing.erase_lines.Goals as goal
 

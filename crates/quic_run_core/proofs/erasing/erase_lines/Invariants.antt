@@ -1,4 +1,4 @@
-use Rattle.quic_run_core.specs.Reading.{left_of, KnowsEnd}
+use Rattle.quic_lines.specs.Reading.{left_of, KnowsEnd}
 use Rattle.quic_run_core.specs.Stages.{stage_of}
 use Rattle.quic_run_core.proofs.Kept.{Erasing}
 use Rattle.quic_run_core.proofs.erasing.erase_lines.Given as goal

@@ -1,7 +1,7 @@
 use Rattle.std.proofs.Common.{[]}
 use Rattle.quic_run_core.specs.Scripts.{script_rules, first_stage}
-use Rattle.quic_run_core.proofs.Behind.{ran_behind, stopped_behind}
-use Rattle.quic_run_core.proofs.Running.{appends-nil}
+use Rattle.quic_lines.proofs.Behind.{ran_behind, stopped_behind}
+use Rattle.quic_lines.proofs.Running.{appends-nil}
 use Rattle.quic_run_core.proofs.runner.run_script_within.Goals as goal
 
 pub returns-clause-ok : goal.returns-clause-ok

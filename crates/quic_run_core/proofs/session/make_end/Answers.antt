@@ -8,10 +8,11 @@ use Rattle.quic_congestion.specs.NewReno.{Reno, RenoSettings}
 use Rattle.quic_connection_parts.specs.Configured.{Configured}
 use Rattle.quic_connection_parts.specs.Telling.{windows_at}
 use Rattle.quic_connection.specs.Ends.{in_order}
-use Rattle.quic_run_core.specs.declared.options.Options.{Options}
-use Rattle.quic_run_core.specs.Scripts.{settings_of, first_controller}
+use Rattle.quic_lines.specs.declared.options.Options.{Options}
+use Rattle.quic_lines.specs.Options.{settings_of}
+use Rattle.quic_run_core.specs.Scripts.{first_controller}
 use Rattle.quic_connection_parts.specs.Drawn.{after_words}
-use Rattle.quic_run_core.proofs.Sources.{words_same}
+use Rattle.quic_lines.proofs.Sources.{words_same}
 use Rattle.quic_run_core.proofs.Making.{first_control, refusal-made, lasting, lacks_or_short, made_first, eight}
 use Rattle.std.proofs.lemmas.Result.{err_from_is_err_and}
 use Rattle.quic_machine.specs.End.{limits_of, words_drawn}

@@ -1,5 +1,5 @@
-use Rattle.quic_worked.proofs.KnownRuns.{fifty_is_run, fifty_used, fifty_next, fifty_past}
+use Rattle.quic_worked.proofs.KnownRuns.{eighty_is_run, eighty_used, eighty_next, eighty_past}
 use Rattle.quic_worked.proofs.known.retirements_wait.Goals as goal
 
 pub returns : goal.returns
-returns c = record { run = fifty_is_run; used = fifty_used; next = fifty_next; past = fifty_past }
+returns c = record { run = eighty_is_run; used = eighty_used; next = eighty_next; past = eighty_past }

@@ -9,7 +9,7 @@ use Rattle.quic_machine.specs.Parts.{current_mtu}
 use Rattle.quic_machine.specs.Ids.{words_of_id}
 use Rattle.quic_machine.specs.End.{number_of, policy_of, words_drawn}
 use Rattle.quic_machine.specs.Closing.{close_owed}
-use Rattle.quic_machine.specs.Poll.{closing, draft_as, datagram_of, frame_room, fitted}
+use Rattle.quic_machine.specs.Poll.{closing, draft_as, datagram_of, close_room, fitted}
 use Rattle.quic_connection_parts.specs.Drawn.{words_of, after_words}
 use Rattle.quic_connection_core.proofs.Plain.{may_near, sealed_of}
 use Rattle.quic_connection_parts.proofs.Words.{words_left, less_same}
@@ -109,11 +109,11 @@ returns-clause-items g c =
     ∙ ap (λ (n : ℕ). take n plain ++ protected (prot w.keys.header.local) (aead w.keys.packet.local) (length e.ids.peer.id + 1) (number_of e) (drop n plain)) start in
     close_is p e (λ f. c.seal.new.out.items ≡ front ++ datagram_of p (draft_as (closing f) e))
     (if_both (close_owed e.closing) c.put_close_frame.ensures.items c.put_close_frame.ensures.form (λ f put form.
-    sealed_of (prot w.keys.header.local) (aead w.keys.packet.local) (λ s bytes. g.met.H.HeaderKey.keeps_length _ s bytes) (number_of e) (cut_against e.numbers) front e.ids.peer.id plain c.seal.new.out.items (spelling (fitted (frame_room e) f))
+    sealed_of (prot w.keys.header.local) (aead w.keys.packet.local) (λ s bytes. g.met.H.HeaderKey.keeps_length _ s bytes) (number_of e) (cut_against e.numbers) front e.ids.peer.id plain c.seal.new.out.items (spelling (fitted (close_room e) f))
     (may_near e.numbers (number_of e) may).1
-    (put ∙ ap (λ (z : List ℕ). z ++ spelling (fitted (frame_room e) f)) c.put_header.ensures.items ∙ append_assoc front header (spelling (fitted (frame_room e) f)))
+    (put ∙ ap (λ (z : List ℕ). z ++ spelling (fitted (close_room e) f)) c.put_header.ensures.items ∙ append_assoc front header (spelling (fitted (close_room e) f)))
     seals
-    ∙ ap (λ (z : List ℕ). front ++ z) (close_datagram p e (fitted (frame_room e) f) form.0 form.2)))
+    ∙ ap (λ (z : List ℕ). front ++ z) (close_datagram p e (fitted (close_room e) f) form.0 form.2)))
 
 pub returns-clause-most : goal.returns-clause-most
 returns-clause-most g c =

@@ -5,7 +5,7 @@ use Rattle.std.specs.Borrow.{Bor}
 use Rattle.quic_wire.specs.Value.{FrameValue, application_close}
 use Rattle.quic_wire.specs.Writing.{spelling}
 use Rattle.quic_machine.specs.Closing.{close_owed}
-use Rattle.quic_machine.specs.Poll.{frame_room, longest_fitting, fitted}
+use Rattle.quic_machine.specs.Poll.{close_room, longest_fitting, fitted}
 use Rattle.quic_connection_parts.specs.Closes.{close_frame}
 use Rattle.quic_connection_parts.specs.declared.closing.OwnClose.{OwnClose}
 use Rattle.quic_connection_parts.specs.declared.closing.OwnClose.TheVariants.{Transport, Application}
@@ -17,8 +17,8 @@ use Rattle.quic_connection_core.proofs.connection.Connection.put_close_frame.Goa
 pub put_transport_close-requires : goal.put_transport_close-requires
 put_transport_close-requires g c =
     let small = transport_small c.in-Some-Transport.code in
-    let some = c.frame_room-room.ensures.some in
-    let same = c.frame_room-room.ensures.room in
+    let some = c.close_room-room.ensures.some in
+    let same = c.close_room-room.ensures.room in
     let room = c.requires.room in
     omega (arith, small, some, same, room)
 
@@ -41,8 +41,8 @@ returns-in-Some-Transport-clause-form g c =
 pub returns-in-Some-Transport-clause-within : goal.returns-in-Some-Transport-clause-within
 returns-in-Some-Transport-clause-within g c =
     let small = transport_small c.in-Some-Transport.code in
-    let some = c.frame_room-room.ensures.some in
-    let same = c.frame_room-room.ensures.room in
+    let some = c.close_room-room.ensures.some in
+    let same = c.close_room-room.ensures.room in
     let len = c.put_transport_close.ensures.len in
     omega (arith, small, some, same, len)
 
@@ -56,8 +56,8 @@ returns-in-Some-Application-clause-items g c =
     let owed : close_owed w.end.closing ≡ Some (close_frame (Application code c.in-Some-Application.reason)) = sym (ap (λ x. close_owed x.end.closing) c.self.view_is) ∙ sym c.owed.ensures ∙ ap (λ (o : Option (Bor OwnClose)). option_map close_frame (option_copied o)) c.in-Some-Application.is ∙ ap (λ (x : OwnClose). Some (close_frame x)) c.in-Some-Application.field-0-is in
     owed_so _ (close_owed w.end.closing) (close_frame (Application code c.in-Some-Application.reason)) owed
     (c.put_application_close.ensures.items
-    ∙ ap (λ (k : ℕ). front ++ spelling (fitted k (application_close (record { code = code; reason = c.deref.result.now })))) c.frame_room-room.ensures.room
-    ∙ ap (λ (text : List ℕ). front ++ spelling (fitted (frame_room w.end) (application_close (record { code = code; reason = text })))) c.deref.ensures)
+    ∙ ap (λ (k : ℕ). front ++ spelling (fitted k (application_close (record { code = code; reason = c.deref.result.now })))) c.close_room-room.ensures.room
+    ∙ ap (λ (text : List ℕ). front ++ spelling (fitted (close_room w.end) (application_close (record { code = code; reason = text })))) c.deref.ensures)
 
 pub returns-in-Some-Application-clause-form : goal.returns-in-Some-Application-clause-form
 returns-in-Some-Application-clause-form g c =
@@ -65,13 +65,13 @@ returns-in-Some-Application-clause-form g c =
     let code = c.in-Some-Application.code in
     let front : List ℕ = c.args.out.now.items in
     let owed : close_owed w.end.closing ≡ Some (close_frame (Application code c.in-Some-Application.reason)) = sym (ap (λ x. close_owed x.end.closing) c.self.view_is) ∙ sym c.owed.ensures ∙ ap (λ (o : Option (Bor OwnClose)). option_map close_frame (option_copied o)) c.in-Some-Application.is ∙ ap (λ (x : OwnClose). Some (close_frame x)) c.in-Some-Application.field-0-is in
-    let goes : FrameValue = fitted (frame_room w.end) (close_frame (Application code c.in-Some-Application.reason)) in
+    let goes : FrameValue = fitted (close_room w.end) (close_frame (Application code c.in-Some-Application.reason)) in
     let put : c.put_application_close.new.out.items ≡ front ++ spelling goes
     = c.put_application_close.ensures.items
-    ∙ ap (λ (k : ℕ). front ++ spelling (fitted k (application_close (record { code = code; reason = c.deref.result.now })))) c.frame_room-room.ensures.room
-    ∙ ap (λ (text : List ℕ). front ++ spelling (fitted (frame_room w.end) (application_close (record { code = code; reason = text })))) c.deref.ensures in
+    ∙ ap (λ (k : ℕ). front ++ spelling (fitted k (application_close (record { code = code; reason = c.deref.result.now })))) c.close_room-room.ensures.room
+    ∙ ap (λ (text : List ℕ). front ++ spelling (fitted (close_room w.end) (application_close (record { code = code; reason = text })))) c.deref.ensures in
     let text : List ℕ = c.in-Some-Application.reason in
-    let three : 3 ≤ length (spelling goes) = application_three code (take (longest_fitting (frame_room w.end) code text (length text)) text) in
+    let three : 3 ≤ length (spelling goes) = application_three code (take (longest_fitting (close_room w.end) code text (length text)) text) in
     let long = ap length put ∙ length-append front (spelling goes) in
     let before = c.args.out.now.ok.0 in
     let after = c.put_application_close.new.out.ok.0 in

@@ -8,6 +8,13 @@ use Rattle.quic_machine.specs.End.{End}
 use Rattle.quic_machine.specs.Poll.{ack_of, frame_room}
 use Rattle.quic_connection_core.proofs.connection.Connection.put_late_ack.Goals as goal
 
+pub put_ack-requires-clause-some : goal.put_ack-requires-clause-some
+put_ack-requires-clause-some g c =
+    let e : End = c.args.self.now.end in
+    let used : ℕ = c.len.result - c.args.body in
+    let size : ℕ = frame_size (ack (ack_of e)) in
+    (and_parts (is_filled e.acknowledging.runs) (nat_le (used + size) (frame_room e)) (sym c.ack_fits.ensures ∙ c.if-ack_fits.true)).0
+
 pub put_ack-requires-clause-room : goal.put_ack-requires-clause-room
 put_ack-requires-clause-room g c few =
     let e : End = c.args.self.now.end in

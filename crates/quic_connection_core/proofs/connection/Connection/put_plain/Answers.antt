@@ -5,18 +5,17 @@ use Rattle.quic_packet.specs.Header.{header_bytes}
 use Rattle.quic_spaces.specs.Numbers.{cut_against}
 use Rattle.quic_machine.specs.End.{number_of}
 use Rattle.std.proofs.lemmas.List.{length-append}
-use Rattle.quic_machine.specs.Parts.{current_mtu}
-use Rattle.quic_machine.specs.Poll.{draft_left, asking}
+use Rattle.quic_machine.specs.Poll.{most_ordinary, draft_left, asking}
 use Rattle.quic_connection_parts.specs.Leaving.{leaving_of, least_of, pads_left, zeros_of}
-use Rattle.quic_connection_core.proofs.Plain.{front_of, same_numbers, same_filter, same_ids, least_at, same_least_of, least_within, mtu_within, payload_is, payload_long, size_is, plain_of}
+use Rattle.quic_connection_core.proofs.Plain.{front_of, same_numbers, same_filter, same_ids, least_at, same_least_of, least_within, most_within, payload_is, payload_long, size_is, plain_of}
 use Rattle.quic_connection_core.proofs.connection.Connection.put_plain.Goals as goal
 
 pub put_leave-requires-clause-some : goal.put_leave-requires-clause-some
 put_leave-requires-clause-some g c =
     let width = c.put_header-width.ensures.width in
     let short = c.put_header-width.ensures.short in
-    let sized = c.self.invariant.2.sized.between.size in
-    let same = ap (λ w. current_mtu w.end.path) c.self.view_is in
+    let size = c.most_ordinary-most.ensures.size in
+    let big = c.most_ordinary-most.ensures.least in
     omega arith
 
 pub put_leave-requires-clause-room : goal.put_leave-requires-clause-room
@@ -26,9 +25,9 @@ put_leave-requires-clause-room g c =
     let short = c.put_header-width.ensures.short in
     let capacity = c.put_header-width.ensures.capacity in
     let room = c.requires.room in
-    let mtu = mtu_within (leaving_of c.args.leaving) c.args.self.now.end in
-    let sized = c.self.invariant.2.sized.between.size in
-    let same = ap (λ w. current_mtu w.end.path) c.self.view_is in
+    let most = most_within (leaving_of c.args.leaving) c.args.self.now.end in
+    let size = c.most_ordinary-most.ensures.size in
+    let big = c.most_ordinary-most.ensures.least in
     omega arith
 
 pub pad-requires-clause-room : goal.pad-requires-clause-room
@@ -39,11 +38,11 @@ pad-requires-clause-room g c =
     let least : c.least_size-least.result ≡ least_at l (asking d.frames) e =
     c.least_size-least.ensures ∙ ap (λ w. least_of l c.in_ok-sent.sent.requires_padding c.in_ok-sent.sent.asks w.end) c.in_ok-sent.ensures.end ∙ ap (λ (b : Bool). least_of l b c.in_ok-sent.sent.asks d.end) c.in_ok-sent.ensures.pads
     ∙ ap (λ (b : Bool). least_of l (pads_left l e) b d.end) c.in_ok-sent.ensures.asks ∙ same_least_of l e c.requires.due (pads_left l e) (asking d.frames) in
-    let sized = c.self.invariant.2.sized.between.size in
-    let same = ap (λ w. current_mtu w.end.path) c.self.view_is in
-    let big : 1200 ≤ current_mtu e.path = omega (arith, sized, same) in
+    let sized = c.most_ordinary-most.ensures.size in
+    let enough = c.most_ordinary-most.ensures.least in
+    let big : 1200 ≤ most_ordinary e = omega (arith, sized, enough) in
     let most = least_within l (pads_left l e) (asking d.frames) e big in
-    let mtu = mtu_within l e in
+    let ordinary = most_within l e in
     let few = c.saturating_sub.ensures in
     let within = c.in_ok-sent.ensures.within in
     let grows = c.in_ok-sent.ensures.grows in
@@ -88,11 +87,11 @@ returns-clause-within g c =
     let least : c.least_size-least.result ≡ least_at l (asking d.frames) e =
     c.least_size-least.ensures ∙ ap (λ w. least_of l c.in_ok-sent.sent.requires_padding c.in_ok-sent.sent.asks w.end) c.in_ok-sent.ensures.end ∙ ap (λ (b : Bool). least_of l b c.in_ok-sent.sent.asks d.end) c.in_ok-sent.ensures.pads
     ∙ ap (λ (b : Bool). least_of l (pads_left l e) b d.end) c.in_ok-sent.ensures.asks ∙ same_least_of l e c.requires.due (pads_left l e) (asking d.frames) in
-    let sized = c.self.invariant.2.sized.between.size in
-    let same = ap (λ w. current_mtu w.end.path) c.self.view_is in
-    let big : 1200 ≤ current_mtu e.path = omega (arith, sized, same) in
+    let sized = c.most_ordinary-most.ensures.size in
+    let enough = c.most_ordinary-most.ensures.least in
+    let big : 1200 ≤ most_ordinary e = omega (arith, sized, enough) in
     let most = least_within l (pads_left l e) (asking d.frames) e big in
-    let mtu = mtu_within l e in
+    let ordinary = most_within l e in
     let few = c.saturating_sub.ensures in
     let within = c.in_ok-sent.ensures.within in
     let grows = c.in_ok-sent.ensures.grows in

@@ -4,7 +4,7 @@ use Rattle.quic_wire_core.specs.declared.stream_id.Side.{Side}
 use Rattle.quic_machine.specs.Machine.{World, Policies, given_by}
 use Rattle.quic_congestion.specs.NewReno.{window_after}
 use Rattle.quic_connection.specs.Ends.{world_of}
-use Rattle.quic_run_core.specs.Printed.{answer_text}
+use Rattle.quic_lines.specs.Printed.{answer_text}
 use Rattle.quic_wire_core.specs.declared.stream_id.Side.TheVariants.{Client, Server}
 use Rattle.quic_run_core.specs.Scripts.{policies_for}
 use Rattle.quic_run_core.proofs.Making.{given_more, on_ok_then}

@@ -2,7 +2,7 @@ use Rattle.std.proofs.Common.{refl}
 use Rattle.quic_wire_core.specs.declared.stream_id.Side.TheVariants.{Client, Server}
 use Rattle.std.proofs.lemmas.Result.{err_from_is_err_and}
 use Rattle.quic_machine.specs.End.{are_keys_short}
-use Rattle.quic_run_core.specs.Scripts.{limits_in}
+use Rattle.quic_lines.specs.Options.{limits_in}
 use Rattle.quic_run_core.proofs.Making.{first_ends, are_started, plain_at, short_too, or_first}
 use Rattle.quic_run_core.proofs.session.Session.new.Goals as goal
 

@@ -1,6 +1,6 @@
 use Rattle.std.proofs.Common.{refl}
 use Rattle.quic_machine.specs.Machine.{Policies}
-use Rattle.quic_run_core.specs.Printed.{rest_text}
+use Rattle.quic_lines.specs.Printed.{rest_text}
 use Rattle.quic_run_core.proofs.Making.{on_ok_then, if_some_at}
 use Rattle.quic_wire_core.specs.declared.stream_id.Side.TheVariants.{Client, Server}
 use Rattle.quic_connection.proofs.Talking.{settled_more}

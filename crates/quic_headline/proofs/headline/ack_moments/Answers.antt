@@ -1,5 +1,0 @@
-use Rattle.quic_headline.proofs.Places.Theorems.{ack_moments}
-use Rattle.quic_headline.proofs.headline.ack_moments.Goals as goal
-
-pub returns : goal.returns
-returns c = ack_moments

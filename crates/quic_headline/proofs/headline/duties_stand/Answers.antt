@@ -1,5 +1,0 @@
-use Rattle.quic_headline.proofs.Places.Theorems.{duties_stand}
-use Rattle.quic_headline.proofs.headline.duties_stand.Goals as goal
-
-pub returns : goal.returns
-returns c = duties_stand

@@ -1,5 +1,0 @@
-use Rattle.quic_headline.proofs.Places.Theorems.{end_after_all}
-use Rattle.quic_headline.proofs.headline.end_after_all.Goals as goal
-
-pub returns : goal.returns
-returns c = end_after_all

@@ -1,5 +1,0 @@
-use Rattle.quic_headline.proofs.Places.Theorems.{finished_means_arrived}
-use Rattle.quic_headline.proofs.headline.finished_means_arrived.Goals as goal
-
-pub returns : goal.returns
-returns c = finished_means_arrived

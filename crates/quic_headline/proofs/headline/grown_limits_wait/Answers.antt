@@ -1,5 +1,0 @@
-use Rattle.quic_headline.proofs.Places.Theorems.{grown_limits_wait}
-use Rattle.quic_headline.proofs.headline.grown_limits_wait.Goals as goal
-
-pub returns : goal.returns
-returns c = grown_limits_wait

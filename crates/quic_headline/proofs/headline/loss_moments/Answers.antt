@@ -1,5 +1,0 @@
-use Rattle.quic_headline.proofs.Places.Theorems.{loss_moments}
-use Rattle.quic_headline.proofs.headline.loss_moments.Goals as goal
-
-pub returns : goal.returns
-returns c = loss_moments

@@ -1,5 +1,0 @@
-use Rattle.quic_headline.proofs.Places.Theorems.{names_were_taken}
-use Rattle.quic_headline.proofs.headline.names_were_taken.Goals as goal
-
-pub returns : goal.returns
-returns c = names_were_taken

@@ -1,5 +1,0 @@
-use Rattle.quic_headline.proofs.Channel.Clauses.{no_blame}
-use Rattle.quic_headline.proofs.headline.no_blame.Goals as goal
-
-pub returns : goal.returns
-returns c = no_blame

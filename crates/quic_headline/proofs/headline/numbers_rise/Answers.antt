@@ -1,5 +1,0 @@
-use Rattle.quic_headline.proofs.Places.Theorems.{numbers_rise}
-use Rattle.quic_headline.proofs.headline.numbers_rise.Goals as goal
-
-pub returns : goal.returns
-returns c = numbers_rise

@@ -1,5 +1,0 @@
-use Rattle.quic_headline.proofs.Places.Theorems.{ordered_prefix}
-use Rattle.quic_headline.proofs.headline.ordered_prefix.Goals as goal
-
-pub returns : goal.returns
-returns c = ordered_prefix

@@ -1,5 +1,0 @@
-use Rattle.quic_run_core.proofs.Taking.{keeps_none}
-use Rattle.quic_run_core.proofs.lines.Lines.new.Goals as goal
-
-pub returns-clause-left : goal.returns-clause-left
-returns-clause-left g c = keeps_none (g.R.Read.remaining c.args.reader)

@@ -1,0 +1,5 @@
+pub mod Assembler
+pub mod SendBuffer
+pub mod Sources
+pub mod Messages
+pub mod Handles
