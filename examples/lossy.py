@@ -1,65 +1,17 @@
 #!/usr/bin/env python3
-"""Moves a file as transfer.py does, through a proxy that loses datagrams and changes their order.
+"""Moves a file as transfer.py does, through a proxy that loses datagrams, changes some and their
+order.
 
-    python3 examples/lossy.py [--native] FILE [SEED]
+    python3 examples/lossy.py FILE [SEED]
 
-The proxy stands between the two endpoints, in this same program. Of the datagrams that pass it, it
-loses some, and delays some, so that later ones overtake them. Which ones, the seed says. With
---native it first builds the program of the endpoints, as transfer.py does.
+The proxy (proxy.py) stands between the two endpoints, in this same program: it loses 3 % of the
+datagrams, alters 1 %, and delays 3 %. Which ones, the seed says. What was altered doesn't open, and
+counts as refused.
 """
-import random
 import sys
 
-from transfer import bound_socket, contents, main, now, received, run, two_endpoints
-
-LOST = 0.015  # The share of datagrams that are lost,
-LATE = 0.03  # and of those that are delayed,
-DELAY = 4_000_000  # for so many nanoseconds.
-
-
-class Proxy:
-    """A socket for each endpoint, at which what it sends comes in, to go on to the other one."""
-
-    def __init__(self, client, server, seed):
-        self.random = random.Random(seed)
-        self.endpoints = [client, server]
-        self.at = [bound_socket(), bound_socket()]
-        self.delayed = []  # When each that is delayed goes on, to which endpoint, and the datagram.
-        self.passed = self.late = self.lost = 0
-
-    def sockets(self):
-        return self.at
-
-    def next(self):
-        """When the first datagram that is delayed goes on, if there is one."""
-        return min((at for at, _, _ in self.delayed), default=None)
-
-    def turn(self):
-        """Passes on what came and what is due: whether there may be more to do at once."""
-        came = [(1 - i, datagram) for i in (0, 1) for datagram in received(self.at[i])]
-        for to, datagram in came:
-            self.judge(to, datagram)
-        due = [one for one in self.delayed if one[0] <= now()]
-        self.delayed = [one for one in self.delayed if one not in due]
-        for _, to, datagram in due:
-            self.forward(to, datagram)
-        return bool(came or due)
-
-    def judge(self, to, datagram):
-        """Loses a datagram, delays it, or passes it on."""
-        chance = self.random.random()
-        if chance < LOST:
-            self.lost += 1
-        elif chance < LOST + LATE:
-            self.late += 1
-            self.delayed.append((now() + DELAY, to, datagram))
-        else:
-            self.forward(to, datagram)
-
-    def forward(self, to, datagram):
-        """Sends a datagram on, to the endpoint 0 or 1."""
-        self.passed += 1
-        self.at[to].sendto(datagram, self.endpoints[to].socket.getsockname())
+from proxy import Proxy, socket_at
+from transfer import contents, main, run, two_endpoints
 
 
 def lossy(path, seed="7"):
@@ -67,14 +19,15 @@ def lossy(path, seed="7"):
     data = contents(path)
     client, server = two_endpoints()
     try:
-        proxy = Proxy(client, server, seed)
-        client.begin(server, proxy.at[0].getsockname())
-        server.begin(client, proxy.at[1].getsockname())
+        peers = [client.socket.getsockname(), server.socket.getsockname()]
+        proxy = Proxy([socket_at(0), socket_at(0)], peers, seed=seed)
+        client.begin(server.hello, proxy.at[0].getsockname())
+        server.begin(client.hello, proxy.at[1].getsockname())
         status = run([client, server, proxy], client, server, data)
     finally:
-        client.stop()
-        server.stop()
-    print(f"{proxy.passed} datagrams passed, {proxy.late} of them late, and {proxy.lost} were lost")
+        client.free()
+        server.free()
+    print(proxy)
     return status
 
 

@@ -1,50 +1,58 @@
 #!/usr/bin/env python3
 """Moves a file between the two endpoints of a connection over UDP on loopback, there and back.
 
-    python3 examples/transfer.py [--native] FILE
+    python3 examples/transfer.py FILE
 
-With --native it first builds the program of the endpoints, if there is no build: in about two
-minutes of processor time, unproved. `./quic-peer --proved < /dev/null` proves it, in up to an hour.
-
-Each endpoint is a `quic-peer` process with a socket of its own, driven by the lines of
-docs/PEER.md. The client writes the file to a stream, and the server sends back what it read there;
-then the digests are compared. In place of a handshake this program hands each endpoint the other's
-parameters and connection ID. The keys are stand-ins that hide nothing. At the end the client closes
-the connection, and the server hears of it. Where nothing comes from one endpoint for five seconds,
-the other gives the connection up.
+It needs the libraries that ./quic-lib and examples/build build. Both endpoints are in this program,
+each with a socket of its own; examples/udp_file.py has one, for two processes. The client writes
+the file to a stream, and the server sends back what it read there; then the digests are compared.
+In place of a handshake this program hands each endpoint the other's parameters and connection ID,
+and both seal by a secret that is drawn anew. At the end the client closes the connection, and the
+server hears of it. Where nothing comes from one endpoint for five seconds, the other gives the
+connection up.
 """
 import hashlib
-import os
 import secrets
 import select
 import socket
-import subprocess
 import sys
 import time
 
-PROGRAM = os.path.join(os.path.dirname(os.path.dirname(os.path.abspath(__file__))), "quic-peer")
-PIECE = 64 * 1024  # The most bytes of a write and of a read.
-BURST = 32  # The most datagrams that a party takes, and sends, in one turn.
-LONGEST_WAIT = 1_000_000_000
+import hello
+from fennelhammer import BI, CLIENT, SERVER, Blocked, Connection, Error, EventKind, Lost, Missing
+from fennelhammer import PIECE, Refused, SealCode, Settings, State, library
+
+BURST = 64  # The most datagrams that an endpoint takes, and sends, in one turn.
+LONGEST_WAIT = 100_000_000
 IDLE = 5_000  # For how many milliseconds nothing may come.
-START = time.monotonic_ns()
-LOST = {"peer": "the peer closed it", "idle": f"nothing came for {IDLE / 1000:g} seconds"}
+NAMES = {CLIENT: "client", SERVER: "server"}
+# Linux's numbers of an option and its value, which the module socket doesn't name: datagrams go
+# unfragmented, whatever the kernel believes of the path.
+IP_MTU_DISCOVER, IP_PMTUDISC_PROBE = 10, 3
+UNIDIRECTIONAL = 2  # The bit of a stream's ID that says so (RFC 9000, section 2.1).
 
 
 class Failed(Exception):
-    """Why the file can't be moved, in one line."""
+    """Why the file can't be moved, in one line, and the status to end with."""
+
+    def __init__(self, why, status=1):
+        super().__init__(why)
+        self.status = status
 
 
-def now():
-    """The time, in nanoseconds from the start of the program."""
-    return time.monotonic_ns() - START
+now = time.monotonic_ns
 
 
-def bound_socket():
-    """A socket at a free port of loopback, which never waits."""
+def bound_socket(address=("127.0.0.1", 0)):
+    """A socket at an address, by default at a free port of loopback, which never waits, and sends
+    nothing in fragments, as path MTU discovery wants it."""
     bound = socket.socket(socket.AF_INET, socket.SOCK_DGRAM)
-    bound.setsockopt(socket.SOL_SOCKET, socket.SO_RCVBUF, 1 << 20)
-    bound.bind(("127.0.0.1", 0))
+    bound.setsockopt(socket.SOL_SOCKET, socket.SO_RCVBUF, 4 << 20)
+    try:
+        bound.setsockopt(socket.IPPROTO_IP, IP_MTU_DISCOVER, IP_PMTUDISC_PROBE)
+    except OSError:
+        pass  # A system that refuses it carries datagrams all the same.
+    bound.bind(address)
     bound.setblocking(False)
     return bound
 
@@ -53,145 +61,136 @@ def received(bound):
     """The datagrams that came to a socket, as many as are taken in one turn."""
     for _ in range(BURST):
         try:
-            yield bound.recv(2048)
-        except BlockingIOError:
+            yield bytearray(bound.recv(2048))
+        except (BlockingIOError, ConnectionRefusedError):
             return
 
 
 class Endpoint:
-    """One endpoint of a connection: its process, its socket, and which streams can go on."""
+    """One endpoint of a connection, its socket and keys, and which streams can go on."""
 
-    def __init__(self, side):
-        self.side = side
-        self.process = subprocess.Popen(
-            [PROGRAM], stdin=subprocess.PIPE, stdout=subprocess.PIPE
-        )
-        self.notice = self.process.stdout.readline().decode().strip()
-        self.socket = bound_socket()
-        self.id = secrets.token_hex(8)
-        self.ask("set", "pcg", secrets.randbits(64))  # Else all IDs that it draws are alike.
-        self.ask("set", "idle", IDLE)
-        (self.parameters,) = self.ask("params")
-        self.peer = None  # Where datagrams go.
-        self.readable = set()
-        self.writable = set()
+    def __init__(self, side, secret, bound):
+        self.side, self.secret, self.socket = side, secret, bound
+        self.settings = Settings(max_idle_timeout_ms=IDLE)
+        own_id = secrets.token_bytes(hello.ID)
+        self.hello = hello.write(secret, side == CLIENT, own_id, self.settings.parameters())
+        self.connection = self.seal = self.unseal = self.peer = None
+        self.readable, self.writable, self.finished = set(), set(), set()
         self.parting = False  # Whether the connection is to be closed now.
         self.lost = None  # Why it is lost, once it is.
 
-    def ask(self, *words):
-        """Writes a line, and gives the words of its answer behind the first."""
-        try:
-            self.process.stdin.write((" ".join(map(str, words)) + "\n").encode())
-            self.process.stdin.flush()
-        except BrokenPipeError:
-            self.gone()
-        answer = self.process.stdout.readline().decode().split()
-        if not answer:
-            self.gone()
-        if answer[0] != words[0] or answer[1:2] in (["failed"], ["memory"]):
-            raise Failed(f"endpoint {self.side} answers {' '.join(answer)} to {words[0]}")
-        return answer[1:]
-
-    def gone(self):
-        """The process of the endpoint has ended, and nobody asked it to."""
-        raise Failed(f"endpoint {self.side} went away, with status {self.process.wait()}")
-
-    def begin(self, other, peer):
-        """Makes the endpoint for the other one, whose datagrams come from this address."""
-        made = self.ask("new", self.side, self.id, other.id, now(), other.parameters)
-        if made != ["ok"]:
-            raise Failed(f"endpoint {self.side} isn't made: {made[0]}")
+    def begin(self, theirs, peer):
+        """Makes the endpoint for the one that wrote this hello, whose datagrams come from there."""
+        words = (self.hello.id, theirs.id, theirs.parameters, now(), self.settings)
+        self.connection = Connection(self.side, *words)
+        self.connection.ping()  # The idle timeout begins with what is sent, and not before.
+        self.seal = hello.keys(self.secret, self.hello, theirs, True)
+        self.unseal = hello.keys(self.secret, theirs, self.hello, False)
         self.peer = peer
+
+    def free(self):
+        """Frees what was made."""
+        for each in (self.connection, self.seal, self.unseal):
+            if each is not None:
+                each.free()
+        self.socket.close()
 
     def sockets(self):
         return [self.socket]
 
     def next(self):
         """When a timer expires, if one is set."""
-        (timer,) = self.ask("next")
-        return None if timer == "none" else int(timer)
+        return self.connection.next_timeout()
 
     def turn(self):
-        """Takes what came and what is due, and sends: whether there may be more to do at once."""
-        datagrams = list(received(self.socket))
-        for datagram in datagrams:
-            self.ask("receive", now(), "-", datagram.hex() or "-")
+        """Takes what came and is due, and sends: whether there may be more to do at once."""
+        came = [self.take(datagram) for datagram in received(self.socket)]
         timer = self.next()
         if timer is not None and timer <= now():
-            self.ask("timeout", now())
+            self.connection.timeout(now())
         self.hear()
-        return self.send() or bool(datagrams)
+        return self.send() or bool(came)
+
+    def take(self, datagram):
+        """Hands a datagram in, if it opens."""
+        try:
+            self.unseal(datagram)
+            self.connection.receive(now(), datagram)
+        except Refused as refused:
+            if refused.code not in (SealCode.REFUSED, SealCode.SHORT):
+                raise Failed(str(refused))
+            return  # Somebody changed it, or made it up.
+        except Error:
+            return  # The connection is closed by it, which an event says.
 
     def hear(self):
-        """Notes the events of streams; one that the peer opened is accepted."""
-        while True:
-            event = self.ask("event")
-            if event == ["none"]:
-                return
-            if event[0] == "lost":
-                self.part(*event[1:])
-            if event[0] == "opened":
-                self.readable.update(self.ask("accept", event[1]))
-            if event[0] == "readable":
-                self.readable.add(event[1])
-            if event[0] == "writable":
-                self.writable.add(event[1])
+        """Notes the events of bidirectional streams, of which the peer's are accepted. Others aren't
+        read."""
+        for event in self.connection.events():
+            if event.kind == EventKind.LOST:
+                self.part(event)
+            if event.kind == EventKind.OPENED and event.dir == BI:
+                self.readable.add(self.connection.accept(event.dir))
+            if event.kind == EventKind.READABLE and not event.stream & UNIDIRECTIONAL:
+                self.readable.add(event.stream)
+            if event.kind == EventKind.WRITABLE:
+                self.writable.add(event.stream)
+            if event.kind == EventKind.FINISHED:
+                self.finished.add(event.stream)
 
-    def part(self, reason, *said):
-        """The connection is lost for this reason, which is a fault unless it is to be closed. A peer
-        that closed it said by which kind of close, with which code and with which text."""
-        self.lost = reason
-        if not self.parting:
-            why = " ".join([LOST.get(reason, reason), *said])
-            raise Failed(f"endpoint {self.side} lost the connection: {why}")
+    def part(self, event):
+        """The connection is lost: a fault, unless it is to be closed, or was with code 0."""
+        self.lost = event.reason
+        by_peer = event.reason == Lost.PEER_APPLICATION
+        if self.parting or (by_peer and event.code == 0):
+            return
+        if event.reason == Lost.IDLE:
+            raise Failed(f"nothing came for {IDLE / 1000:g} seconds", 3)
+        raise Failed(f"{'the peer closed' if by_peer else 'failed'}: {event.text}", 3)
 
     def send(self):
         """Sends the datagrams that are ready: whether there may be more."""
         for _ in range(BURST):
-            answer = self.ask("poll", now())
-            if answer == ["none"]:
+            datagram = self.connection.poll(now())
+            if datagram is None:
                 return False
-            _mark, datagram = answer
-            self.socket.sendto(bytes.fromhex(datagram), self.peer)
+            try:
+                self.seal(datagram)
+                self.socket.sendto(datagram, self.peer)
+            except Refused as refused:
+                raise Failed(str(refused))
+            except OSError:
+                continue  # It counts as lost.
         return True
 
     def write(self, stream, data, start):
         """Writes what lies behind the start, as far as it is taken: up to which offset."""
-        while stream in self.writable and start < len(data):
-            (taken,) = self.ask("write", stream, data[start : start + PIECE].hex())
-            if taken == "blocked":
-                self.writable.discard(stream)
-            else:
-                start += int(taken)
+        try:
+            while stream in self.writable and start < len(data):
+                start += self.connection.write(stream, data[start : start + PIECE])
+        except Blocked:
+            self.writable.discard(stream)
         return start
 
-    def read(self, stream, data):
+    def read(self, stream, append):
         """Appends what can be read: whether the stream is read to its end."""
-        while stream in self.readable:
-            answer = self.ask("read", stream, PIECE)
-            if answer == ["end"]:
-                return True
-            if answer == ["blocked"]:
-                self.readable.discard(stream)
-            else:
-                data += bytes.fromhex(answer[1])
+        try:
+            while stream in self.readable:
+                data, fin = self.connection.read(stream)
+                append(data)
+                if fin:
+                    return True
+        except Blocked:
+            self.readable.discard(stream)
         return False
 
-    def figures(self):
-        """What was counted of the endpoint, by the names of its figures."""
-        words = self.ask("stats")
-        return {name: int(value) for name, value in zip(words[::2], words[1::2])}
+    def close(self, code, text):
+        """Closes the connection."""
+        self.parting = True
+        self.connection.close(now(), code, text)
 
-    def close(self):
-        """Ends the process, which has run all its lines."""
-        self.process.stdin.close()
-        if self.process.wait() != 0:
-            self.gone()
-
-    def stop(self):
-        """Ends the process, wherever it is."""
-        self.process.kill()
-        self.process.wait()
+    def is_drained(self):
+        return self.connection.state() >= State.DRAINED
 
 
 def wait(parties):
@@ -202,25 +201,31 @@ def wait(parties):
     select.select(sockets, [], [], max(left, 0) / 1e9)
 
 
+def turn_all(parties):
+    """Each party has its turn; where none has more to do, they wait."""
+    if not any([party.turn() for party in parties]):
+        wait(parties)
+
+
 def move(parties, sender, receiver, stream, data):
     """Moves bytes from one endpoint to the other on a stream: what came."""
     came, written, finished = bytearray(), 0, False
     sender.writable.add(stream)
     begun = now()
-    while not receiver.read(stream, came):
+    while not receiver.read(stream, came.extend):
         written = sender.write(stream, data, written)
         if written == len(data) and not finished:
-            finished = sender.ask("finish", stream) == ["ok"]
-        if not any([party.turn() for party in parties]):
-            wait(parties)
-    seconds = (now() - begun) / 1e9
-    print(f"{sender.side} to {receiver.side}: {len(came)} bytes in {seconds:.1f} seconds")
+            sender.connection.finish(stream)
+            finished = True
+        turn_all(parties)
+    seconds, names = (now() - begun) / 1e9, (NAMES[sender.side], NAMES[receiver.side])
+    print(f"{names[0]} to {names[1]}: {len(came)} bytes in {seconds:.1f} seconds")
     return bytes(came)
 
 
 def there_and_back(parties, client, server, data):
     """Moves bytes to the server and back: whether they came as they went."""
-    (stream,) = client.ask("open", "bi")
+    stream = client.connection.open(BI)
     there = move(parties, client, server, stream, data)
     back = move(parties, server, client, stream, there)
     digests = [hashlib.sha256(each).hexdigest() for each in (data, there, back)]
@@ -230,20 +235,20 @@ def there_and_back(parties, client, server, data):
 
 
 def tell_figures(endpoint):
-    """Says how many packets an endpoint lost, and how long a round trip took."""
-    figures = endpoint.figures()
+    """Says how many packets an endpoint lost, how long a round trip took, and what it refused."""
+    figures = endpoint.connection.stats()
     lost, sent, rtt = (figures[name] for name in ("lost_packets", "sent_packets", "rtt"))
-    print(f"{endpoint.side}: {lost} of {sent} packets lost, a round trip takes {rtt / 1e6:.2f} ms")
+    path = f"{lost} of {sent} packets lost, a round trip takes {rtt / 1e6:.2f} ms"
+    print(f"{NAMES[endpoint.side]}: {path}, {endpoint.unseal.refused()} datagrams refused")
 
 
 def take_leave(parties, client, server):
     """The client closes the connection, and the server hears of it, or of nothing more."""
-    client.parting = server.parting = True
-    client.ask("close", now(), 0, b"moved".hex())
-    while server.lost is None or client.ask("state")[0] != "drained":
-        if not any([party.turn() for party in parties]):
-            wait(parties)
-    heard = "of it" if server.lost == "peer" else "nothing more"
+    server.parting = True
+    client.close(0, b"moved")
+    while server.lost is None or not client.is_drained():
+        turn_all(parties)
+    heard = "of it" if server.lost == Lost.PEER_APPLICATION else "nothing more"
     print(f"the client closed the connection, and the server heard {heard}")
 
 
@@ -256,27 +261,11 @@ def contents(path):
         raise Failed(f"{path}: {error.strerror}")
 
 
-def need_build():
-    """The program of the endpoints has to be built: with --native it is, where it isn't yet."""
-    status = subprocess.run([PROGRAM, "--is-built"]).returncode
-    if status == 1 and sys.argv[1:2] == ["--native"]:
-        quiet = {"stdin": subprocess.DEVNULL, "stdout": subprocess.DEVNULL}
-        status = subprocess.run([PROGRAM, "--native"], **quiet).returncode
-    elif status == 1:
-        raise Failed(
-            "there is no build: --native makes one, unproved, in about two minutes; "
-            "./quic-peer --proved < /dev/null proves it, in up to an hour"
-        )
-    if status != 0:
-        sys.exit(status)
-
-
 def two_endpoints():
     """A client and a server, which aren't made yet."""
-    need_build()
-    client, server = Endpoint("c"), Endpoint("s")
-    print(client.notice)
-    return client, server
+    print(library().fh_build().decode())
+    secret = secrets.token_bytes(hello.SECRET)
+    return [Endpoint(side, secret, bound_socket()) for side in (CLIENT, SERVER)]
 
 
 def run(parties, client, server, data):
@@ -285,8 +274,6 @@ def run(parties, client, server, data):
     tell_figures(client)
     tell_figures(server)
     take_leave(parties, client, server)
-    client.close()
-    server.close()
     print("the digests are the same" if same else "THE DIGESTS DIFFER")
     return 0 if same else 1
 
@@ -296,12 +283,12 @@ def transfer(path):
     data = contents(path)
     client, server = two_endpoints()
     try:
-        client.begin(server, server.socket.getsockname())
-        server.begin(client, client.socket.getsockname())
+        client.begin(server.hello, server.socket.getsockname())
+        server.begin(client.hello, client.socket.getsockname())
         return run([client, server], client, server, data)
     finally:
-        client.stop()
-        server.stop()
+        client.free()
+        server.free()
 
 
 def main(name, usage, least, most, act):
@@ -310,16 +297,14 @@ def main(name, usage, least, most, act):
     if words in (["-h"], ["--help"]):
         print(usage.strip())
         return 0
-    if words[:1] == ["--native"]:
-        del words[0]
     if not least <= len(words) <= most:
         print(usage.strip(), file=sys.stderr)
         return 2
     try:
         return act(*words)
-    except Failed as failed:
+    except (Failed, Missing, Error) as failed:
         print(f"{name}: {failed}", file=sys.stderr)
-        return 1
+        return getattr(failed, "status", 1)
     except KeyboardInterrupt:
         print(f"{name}: interrupted", file=sys.stderr)
         return 130

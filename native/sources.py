@@ -15,6 +15,8 @@ import sys
 from pathlib import Path
 
 HERE = Path(__file__).resolve().parent
+# What makes native builds.
+MAKERS = ("build", "cases.py", "library", "sources.py", "toolchain.py")
 PARTS = ("src", "specs", "proofs")
 SOURCES = (".rt", ".antt")
 
@@ -73,9 +75,8 @@ class Program:
         for path in self.files():
             add_file(sums, path.relative_to(self.top), path)
         proved = sums.hexdigest()
-        for path in sorted(HERE.iterdir()):
-            if path.is_file():
-                add_file(sums, path.name, path)
+        for name in MAKERS:
+            add_file(sums, name, HERE / name)
         return proved, sums.hexdigest()
 
 
@@ -89,6 +90,11 @@ def add_file(sums, name, path):
     """Adds a file to a digest, under this name."""
     data = path.read_bytes()
     sums.update(f"{name} {len(data)}\n".encode() + data)
+
+
+def sum_of(path):
+    """The digest of a file."""
+    return hashlib.sha256(path.read_bytes()).hexdigest()
 
 
 def toolchain_line():

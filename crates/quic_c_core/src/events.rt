@@ -1,0 +1,139 @@
+//! What the application is told, as numbers.
+
+use crate::call_error::CallError;
+use crate::endpoint::{Endpoint, put};
+use quic_connection::{Close, Dir, Event, LostReason, StreamEvent, StreamId, VarInt};
+
+/// An event: `fh_event` of the header, which says what the numbers mean. What the kind doesn't name
+/// is 0.
+#[derive(Clone, Copy, Debug, Default, PartialEq, Eq)]
+#[repr(C)]
+pub struct EventRecord {
+    /// What happened, from 1 to 8.
+    pub kind: u64,
+    /// The stream to which it happened.
+    pub stream: u64,
+    /// The kind of streams: 0 bidirectional, 1 unidirectional.
+    pub dir: u64,
+    /// An error code.
+    pub code: u64,
+    /// Why the connection is lost, from 1 to 8.
+    pub reason: u64,
+    /// How many bytes the text has that says more of why.
+    pub text_len: u64,
+}
+
+impl EventRecord {
+    /// An event of this kind.
+    fn of_kind(kind: u64) -> Self {
+        EventRecord {
+            kind,
+            ..EventRecord::default()
+        }
+    }
+
+    /// An event of this kind at a stream.
+    fn at_stream(kind: u64, id: StreamId) -> Self {
+        EventRecord {
+            kind,
+            stream: VarInt::from(id).into_inner(),
+            ..EventRecord::default()
+        }
+    }
+
+    /// An event of this kind that is about a kind of streams.
+    fn about(kind: u64, dir: Dir) -> Self {
+        EventRecord {
+            kind,
+            dir: match dir {
+                Dir::Bi => 0,
+                Dir::Uni => 1,
+            },
+            ..EventRecord::default()
+        }
+    }
+
+    /// What happened to streams.
+    fn of_stream(event: StreamEvent) -> Self {
+        match event {
+            StreamEvent::Opened { dir } => EventRecord::about(1, dir),
+            StreamEvent::Readable { id } => EventRecord::at_stream(2, id),
+            StreamEvent::Writable { id } => EventRecord::at_stream(3, id),
+            StreamEvent::Finished { id } => EventRecord::at_stream(4, id),
+            StreamEvent::Stopped { id, error_code } => EventRecord {
+                code: error_code.into_inner(),
+                ..EventRecord::at_stream(5, id)
+            },
+            StreamEvent::Available { dir } => EventRecord::about(6, dir),
+        }
+    }
+
+    /// That the connection is lost, and why.
+    fn of_loss(reason: &LostReason) -> Self {
+        let (number, code) = reason_of(reason);
+        EventRecord {
+            code,
+            reason: number,
+            text_len: text_of(reason).len() as u64,
+            ..EventRecord::of_kind(8)
+        }
+    }
+}
+
+/// The number of a reason, and the code that comes with it.
+fn reason_of(reason: &LostReason) -> (u64, u64) {
+    match reason {
+        LostReason::Application => (1, 0),
+        LostReason::Peer(close) => match close.as_close() {
+            Close::Application(close) => (2, close.error_code.into_inner()),
+            Close::Connection(close) => (3, VarInt::from(close.error_code).into_inner()),
+        },
+        LostReason::Idle => (4, 0),
+        LostReason::Pieces => (5, 0),
+        LostReason::KeyLimit => (6, 0),
+        LostReason::NumberLimit => (7, 0),
+        LostReason::Transport(error) => (8, VarInt::from(error.code()).into_inner()),
+    }
+}
+
+/// The text that says more of a reason; none where there is no more to say.
+fn text_of(reason: &LostReason) -> &[u8] {
+    match reason {
+        LostReason::Peer(close) => match close.as_close() {
+            Close::Application(close) => &close.reason,
+            Close::Connection(close) => &close.reason,
+        },
+        LostReason::Transport(error) => error.reason().as_str().as_bytes(),
+        _ => &[],
+    }
+}
+
+impl Endpoint {
+    /// Takes the next event; `None` where there is none.
+    pub fn next_event(&mut self) -> Option<EventRecord> {
+        let event = self.conn.poll()?;
+        Some(match &event {
+            Event::Stream(event) => EventRecord::of_stream(*event),
+            Event::Message => EventRecord::of_kind(7),
+            Event::Lost(reason) => EventRecord::of_loss(reason),
+        })
+    }
+
+    /// The text that says more of why the connection is lost; none where it isn't, or where there
+    /// is no more to say.
+    fn lost_text(&self) -> &[u8] {
+        match self.conn.lost() {
+            Some(reason) => text_of(reason),
+            None => &[],
+        }
+    }
+
+    /// Copies that text to the front of a room: how many bytes it has.
+    ///
+    /// # Errors
+    ///
+    /// - [`CallError::Room`]: the room is smaller; nothing is copied.
+    pub fn put_lost_text(&self, out: &mut [u8]) -> Result<usize, CallError> {
+        put(out, self.lost_text())
+    }
+}

@@ -1,0 +1,93 @@
+//! Why a file isn't got.
+use std::fmt::Display;
+use thiserror::Error;
+
+/// Errors of QUIC (RFC 9000, section 20.1): the general one, and where those of TLS begin, of which
+/// one is no_application_protocol (RFC 7301, section 3.2).
+const PROTOCOL_VIOLATION: u64 = 0x0a;
+const CRYPTO_ERROR: u64 = 0x100;
+const NO_APPLICATION_PROTOCOL: u64 = CRYPTO_ERROR + 120;
+
+/// With which status the program ends.
+#[derive(Clone, Copy, Debug, PartialEq, Eq)]
+pub enum Status {
+    /// A file, a socket, memory or the library is at fault,
+    Fault = 1,
+    /// or the arguments are.
+    Usage,
+    /// Nothing came from the server for too long.
+    Silent,
+    /// The server's certificate isn't trusted.
+    Certificate,
+    /// No application protocol, or no version, is in common.
+    NoProtocol,
+    NoVersion,
+    /// The server reset the stream, or closed the connection.
+    Refused,
+    /// The server broke a rule.
+    Broken,
+}
+
+/// Why a file isn't got.
+#[derive(Debug, Error)]
+#[error("{why}")]
+pub struct Failure {
+    pub status: Status,
+    why: String,
+    /// By which error the server is told during the handshake, if it is to be told.
+    pub code: Option<u64>,
+}
+
+impl Failure {
+    pub fn new(status: Status, why: impl Display) -> Self {
+        Failure { status, why: why.to_string(), code: None }
+    }
+
+    /// What is at fault here, and why.
+    pub fn fault(what: &str, why: impl Display) -> Self {
+        Failure::new(Status::Fault, format!("{}: {}", what, why))
+    }
+
+    /// A rule that the server broke.
+    pub fn broken(why: impl Display) -> Self {
+        let why = format!("the server broke a rule: {}", why);
+        Failure { code: Some(PROTOCOL_VIOLATION), ..Failure::new(Status::Broken, why) }
+    }
+
+    /// The server closed the connection during the handshake.
+    pub fn closed(code: u64, text: &[u8]) -> Self {
+        if code == NO_APPLICATION_PROTOCOL {
+            return Failure::new(
+                Status::NoProtocol,
+                "no application protocol in common: no hq-interop",
+            );
+        }
+        let text = String::from_utf8_lossy(text);
+        Failure::new(Status::Refused, format!("the server closed by error {:#x}: {}", code, text))
+    }
+
+    /// What TLS refused, by this alert.
+    pub fn tls(error: &rustls::Error, alert: Option<u8>) -> Self {
+        use rustls::Error::*;
+        let code = alert.map(|alert| CRYPTO_ERROR + u64::from(alert));
+        let refused = match error {
+            NoCertificatesPresented
+            | UnsupportedNameType
+            | InvalidCertificateEncoding
+            | InvalidCertificateSignatureType
+            | InvalidCertificateSignature
+            | InvalidCertificateData(_) => {
+                let why = format!("the server's certificate isn't trusted: {}", error);
+                Failure::new(Status::Certificate, why)
+            }
+            _ => Failure::broken(error),
+        };
+        Failure { code, ..refused }
+    }
+}
+
+impl From<fennelhammer::Error> for Failure {
+    fn from(error: fennelhammer::Error) -> Self {
+        Failure::fault("the endpoint", error)
+    }
+}

@@ -1,0 +1,149 @@
+//! A server and a client that quinn makes, with `hq-interop`: a request is `GET /path` on a stream
+//! of its own, and the answer is the file, up to the FIN.
+//!
+//!     quinn_peer serve PORT CERT KEY FOLDER [OPTION..]   serves the files of FOLDER on loopback
+//!     quinn_peer get PORT CERT PATH FILE                 gets one from `localhost`
+//!
+//! CERT and KEY are PEM files; a client trusts CERT as a root. A file that isn't there is a reset
+//! with code 404. Options, for tests: `retry=` validates addresses, `draft=` has no version 1,
+//! `alpn=NAME` is in place of `hq-interop`; after so many bytes of a file `reset=BYTES` resets with
+//! code 7, `close=BYTES` closes with code 9, and `update=BYTES` updates the keys again and again.
+use quinn::{ClientConfig, Connecting, Connection, Endpoint, EndpointConfig, SendStream};
+use rustls::{version::TLS13, Certificate, PrivateKey, RootCertStore};
+use std::error::Error;
+use std::fs::File;
+use std::io::{BufReader, Read};
+use std::net::{Ipv4Addr, UdpSocket};
+use std::path::{Component, Path, PathBuf};
+use std::sync::Arc;
+use std::time::Duration;
+
+type Fallible<T> = Result<T, Box<dyn Error + Send + Sync>>;
+
+/// What a server does besides serving.
+#[derive(Clone)]
+struct Options(Vec<String>);
+
+impl Options {
+    fn value(&self, name: &str) -> Option<&str> {
+        self.0.iter().find_map(|word| word.strip_prefix(name)?.strip_prefix('='))
+    }
+
+    fn number(&self, name: &str) -> usize {
+        self.value(name).and_then(|value| value.parse().ok()).unwrap_or(usize::MAX)
+    }
+}
+
+fn certificates(path: &str) -> Fallible<Vec<Certificate>> {
+    let found = rustls_pemfile::certs(&mut BufReader::new(File::open(path)?))?;
+    Ok(found.into_iter().map(Certificate).collect())
+}
+
+fn server_config(cert: &str, key: &str, options: &Options) -> Fallible<quinn::ServerConfig> {
+    let keys = rustls_pemfile::pkcs8_private_keys(&mut BufReader::new(File::open(key)?))?;
+    let key = keys.into_iter().next().ok_or("there is no PKCS #8 key")?;
+    let mut crypto = rustls::ServerConfig::builder()
+        .with_safe_default_cipher_suites()
+        .with_safe_default_kx_groups()
+        .with_protocol_versions(&[&TLS13])?
+        .with_no_client_auth()
+        .with_single_cert(certificates(cert)?, PrivateKey(key))?;
+    crypto.alpn_protocols = vec![options.value("alpn").unwrap_or("hq-interop").into()];
+    let mut config = quinn::ServerConfig::with_crypto(Arc::new(crypto));
+    config.use_retry(options.value("retry").is_some());
+    Ok(config)
+}
+
+/// The file of a request, if it names one of the folder.
+fn open_asked(request: &[u8], folder: &Path) -> Option<File> {
+    let path = std::str::from_utf8(request).ok()?.strip_prefix("GET /")?.trim_end();
+    let is_plain = Path::new(path).components().all(|part| matches!(part, Component::Normal(_)));
+    File::open(folder.join(path)).ok().filter(|_| is_plain)
+}
+
+async fn send_file(
+    connection: &Connection,
+    to: &mut SendStream,
+    mut file: File,
+    options: &Options,
+) -> Fallible<()> {
+    let (mut block, mut sent, update) = (vec![0; 65536], 0, options.number("update"));
+    loop {
+        let len = file.read(&mut block)?;
+        if len == 0 {
+            return Ok(to.finish().await?);
+        }
+        to.write_all(&block[..len]).await?;
+        sent += len;
+        if sent >= options.number("reset") {
+            return Ok(to.reset(7u32.into())?);
+        }
+        if sent >= options.number("close") {
+            return Ok(connection.close(9u32.into(), b"enough"));
+        }
+        if (sent - len) / update < sent / update {
+            // Packets of the keys in use have to be acknowledged first (RFC 9001, section 6.1).
+            tokio::time::sleep(Duration::from_millis(100)).await;
+            connection.force_key_update();
+        }
+    }
+}
+
+async fn serve_connection(incoming: Connecting, folder: PathBuf, options: Options) -> Fallible<()> {
+    let connection = incoming.await?;
+    loop {
+        let (mut to, from) = connection.accept_bi().await?;
+        match open_asked(&from.read_to_end(4096).await?, &folder) {
+            Some(file) => send_file(&connection, &mut to, file, &options).await?,
+            None => to.reset(404u32.into())?,
+        }
+    }
+}
+
+async fn serve([port, cert, key, folder]: [&str; 4], options: Options) -> Fallible<()> {
+    let socket = UdpSocket::bind((Ipv4Addr::LOCALHOST, port.parse()?))?;
+    let mut config = EndpointConfig::default();
+    if options.value("draft").is_some() {
+        config.supported_versions(vec![0xff00_001d]);
+    }
+    let server = server_config(cert, key, &options)?;
+    let endpoint = Endpoint::new(config, Some(server), socket, quinn::TokioRuntime)?;
+    while let Some(incoming) = endpoint.accept().await {
+        let (folder, options) = (PathBuf::from(folder), options.clone());
+        tokio::spawn(async move {
+            let ended = serve_connection(incoming, folder, options).await;
+            ended.unwrap_or_else(|why| println!("{:?}", why));
+        });
+    }
+    Ok(())
+}
+
+async fn get(port: &str, cert: &str, path: &str, file: &str) -> Fallible<()> {
+    let mut roots = RootCertStore::empty();
+    certificates(cert)?.iter().try_for_each(|root| roots.add(root))?;
+    let mut crypto = rustls::ClientConfig::builder()
+        .with_safe_defaults()
+        .with_root_certificates(roots)
+        .with_no_client_auth();
+    crypto.alpn_protocols = vec![b"hq-interop".to_vec()];
+    let endpoint = Endpoint::client((Ipv4Addr::LOCALHOST, 0).into())?;
+    let (config, at) = (ClientConfig::new(Arc::new(crypto)), (Ipv4Addr::LOCALHOST, port.parse()?));
+    let connection = endpoint.connect_with(config, at.into(), "localhost")?.await?;
+    let (mut to, from) = connection.open_bi().await?;
+    to.write_all(format!("GET {}\r\n", path).as_bytes()).await?;
+    to.finish().await?;
+    std::fs::write(file, from.read_to_end(1 << 30).await?)?;
+    connection.close(0u32.into(), b"got");
+    Ok(endpoint.wait_idle().await)
+}
+
+#[tokio::main(flavor = "current_thread")]
+async fn main() -> Fallible<()> {
+    let mut words: Vec<String> = std::env::args().skip(1).collect();
+    let options = Options(words.split_off(words.len().min(5)));
+    match words.iter().map(String::as_str).collect::<Vec<_>>()[..] {
+        ["serve", port, cert, key, folder] => serve([port, cert, key, folder], options).await,
+        ["get", port, cert, path, file] => get(port, cert, path, file).await,
+        _ => Err("usage: quinn_peer serve PORT CERT KEY FOLDER [OPTION..], or get ..".into()),
+    }
+}
