@@ -12,19 +12,28 @@ const BATCH: u64 = 2;
 /// Both ends of a connection at rest, without the lanes between them.
 fn at_rest(alloc: Global, limits: &Limits) -> Result<Box<BothEnds>, Fault> {
     let mut pair = Pair::new(alloc, limits, BATCH)?;
-    pair.settle()?;
-    Ok(pair.ends)
+    match pair.settle() {
+        Ok(()) => Ok(pair.into_ends()),
+        Err(fault) => {
+            drop(pair);
+            Err(fault)
+        }
+    }
 }
 
-/// So many connections at rest.
-fn all_at_rest(alloc: Global, limits: &Limits, count: u64) -> Result<Vec<Box<BothEnds>>, Fault> {
-    let mut kept = Vec::new(alloc);
+/// So many connections come to rest, and are kept.
+fn keep(
+    alloc: Global,
+    limits: &Limits,
+    count: u64,
+    kept: &mut Vec<Box<BothEnds>>,
+) -> Result<(), Fault> {
     for _ in 0..count {
         if kept.push(at_rest(alloc, limits)?).is_err() {
             return Err(Fault::Memory);
         }
     }
-    Ok(kept)
+    Ok(())
 }
 
 /// So many connections come to rest, both ends of each, and are kept.
@@ -41,6 +50,11 @@ pub fn run<R: Clock + CpuClock + AllocGlobal>(
 ) -> Result<Figures, Fault> {
     pair.begin();
     let watch = Watch::start(rt)?;
-    let kept = all_at_rest(rt.alloc(), &pair.limits, count)?;
-    pair.figures(rt, &watch, kept.len() as u64, 0)
+    let mut kept = Vec::new(rt.alloc());
+    let figures = match keep(rt.alloc(), &pair.limits, count, &mut kept) {
+        Ok(()) => pair.figures(rt, &watch, kept.len() as u64, 0),
+        Err(fault) => Err(fault),
+    };
+    drop(kept);
+    figures
 }

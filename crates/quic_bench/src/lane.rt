@@ -1,20 +1,53 @@
-//! A lane of the network: it takes datagrams from one end to the other in virtual time, loses some
-//! and has some come late.
+//! A lane of the network: it takes datagrams from one end to the other in virtual time, as fast as
+//! its rate lets them leave, loses some and has some come late.
 use quic_connection::EcnCodepoint;
 use std::alloc::{AllocError, Global};
 use std::collections::VecDeque;
 
-/// How long a timely datagram is under way, in nanoseconds.
+/// How long a timely datagram is under way once it has left, unless it is said, in nanoseconds.
 pub const ONE_WAY: u64 = 10_000_000;
 
-/// How long a late one is.
-const LATE: u64 = 13_000_000;
+/// How much longer a late one is.
+const LATENESS: u64 = 3_000_000;
 
 /// How many bytes of a datagram every lane carries.
 pub const LEAST_MTU: u16 = 1200;
 
+/// At a bit a second a byte takes so many nanoseconds to leave.
+const BYTE_AT_LEAST_RATE: u64 = 8_000_000_000;
+
 /// The most buffers that are kept to be used again.
 const MAX_SPARE: usize = 4096;
+
+/// What a lane carries, how fast, and how long that is under way.
+#[derive(Clone, Copy)]
+pub struct Link {
+    /// The most bytes of a datagram that goes through; a longer one is lost.
+    pub mtu: u16,
+    /// How many bits leave in a second; 0 where each datagram leaves at once.
+    pub rate: u64,
+    /// How many bytes may wait to leave, with those of the datagram that is leaving. One that comes
+    /// when there is no room for it is lost.
+    pub queue: u64,
+    /// How long a timely datagram is under way once it has left, in nanoseconds.
+    pub delay: u64,
+}
+
+impl Link {
+    /// Whether a datagram may go through that is as long as every lane carries.
+    pub fn carries_any(&self) -> bool {
+        self.rate == 0 || self.queue >= u64::from(LEAST_MTU)
+    }
+
+    /// How long so many bytes take to leave, in nanoseconds. Of more than 2 GB it says that they
+    /// never do.
+    fn time_of(&self, bytes: u64) -> u64 {
+        match bytes.checked_mul(BYTE_AT_LEAST_RATE) {
+            Some(time) => time.checked_div(self.rate).unwrap_or(0),
+            None => u64::MAX,
+        }
+    }
+}
 
 /// A datagram under way.
 #[derive(Drop)]
@@ -31,8 +64,9 @@ pub struct Datagram {
 #[derive(Drop)]
 pub struct Lane {
     alloc: Global,
-    /// The most bytes of a datagram that goes through; a longer one is lost.
-    mtu: u16,
+    link: Link,
+    /// The moment at which all that was sent has left, in nanoseconds.
+    idle_from: u64,
     /// The state of the generator that says what happens to a datagram.
     random: u64,
     /// How many of 1000 datagrams are lost.
@@ -50,11 +84,12 @@ pub struct Lane {
 }
 
 impl Lane {
-    /// A lane without loss, which carries datagrams of so many bytes.
-    pub fn new(alloc: Global, mtu: u16) -> Self {
+    /// A lane that loses only what its link doesn't carry.
+    pub fn new(alloc: Global, link: Link) -> Self {
         Lane {
             alloc,
-            mtu,
+            link,
+            idle_from: 0,
             random: 0,
             loss: 0,
             late_share: 0,
@@ -76,7 +111,7 @@ impl Lane {
 
     /// From now on it carries datagrams of so many bytes. What is under way arrives.
     pub fn shrink(&mut self, mtu: u16) {
-        self.mtu = mtu;
+        self.link.mtu = mtu;
     }
 
     /// A datagram came too late for its end to tell whether it came before: it counts as lost.
@@ -107,7 +142,7 @@ impl Lane {
     pub fn buffer(&mut self) -> Result<Vec<u8>, AllocError> {
         match self.spare.pop() {
             Some(buffer) => Ok(buffer),
-            None => Vec::with_capacity(self.alloc, usize::from(self.mtu)),
+            None => Vec::with_capacity(self.alloc, usize::from(self.link.mtu)),
         }
     }
 
@@ -118,6 +153,27 @@ impl Lane {
             // Where memory lacks, the buffer is let go.
             let _ = self.spare.push(buffer);
         }
+    }
+
+    /// The moment at which a datagram leaves that is sent at this one, behind those before it; none
+    /// where the queue has no room for it.
+    fn leave(&mut self, now: u64, bytes: &[u8]) -> Option<u64> {
+        let time = self.link.time_of(bytes.len() as u64);
+        let leaves = self.idle_from.max(now).saturating_add(time);
+        if leaves.saturating_sub(now) > self.link.time_of(self.link.queue) {
+            return None;
+        }
+        self.idle_from = leaves;
+        Some(leaves)
+    }
+
+    /// The moment at which a datagram leaves that is sent at this one, as a word of the generator
+    /// says; none where it is lost.
+    fn pass(&mut self, now: u64, word: u64, bytes: &[u8]) -> Option<u64> {
+        if word % 1000 < self.loss || bytes.len() > usize::from(self.link.mtu) {
+            return None;
+        }
+        self.leave(now, bytes)
     }
 
     /// Sends a datagram at a moment.
@@ -133,18 +189,20 @@ impl Lane {
     ) -> Result<(), AllocError> {
         let word = self.draw();
         self.sent = self.sent.wrapping_add(1);
-        if word % 1000 < self.loss || bytes.len() > usize::from(self.mtu) {
+        let Some(leaves) = self.pass(now, word, &bytes) else {
             self.lost = self.lost.wrapping_add(1);
             self.give_back(bytes);
-        } else if (word >> 32) % 1000 < self.late_share {
-            let arrives = now.saturating_add(LATE);
+            return Ok(());
+        };
+        let arrives = leaves.saturating_add(self.link.delay);
+        if (word >> 32) % 1000 < self.late_share {
+            let arrives = arrives.saturating_add(LATENESS);
             self.late.push_back(Datagram {
                 arrives,
                 ecn,
                 bytes,
             })?;
         } else {
-            let arrives = now.saturating_add(ONE_WAY);
             self.timely.push_back(Datagram {
                 arrives,
                 ecn,

@@ -4,7 +4,7 @@
 //! until it gives nothing. Then the next moment is the least of timers and arrivals.
 use crate::fault::Fault;
 use crate::figures::{Figures, Watch};
-use crate::lane::{Datagram, LEAST_MTU, Lane, ONE_WAY, earlier};
+use crate::lane::{Datagram, LEAST_MTU, Lane, Link, earlier};
 use quic_connection::{
     AckFrequencyConfig, Config, ConfigError, Connection, DropReason, EcnCodepoint, Ends, Instant,
     Making, NewReno, NewRenoConfig, Received, TransportConfig,
@@ -12,6 +12,7 @@ use quic_connection::{
 use quic_keys::{PlainHeaderKey, PlainKey, Words, keys_for};
 use quic_wire_core::{ConnectionId, Side, VarInt};
 use std::alloc::{AllocError, Global};
+use std::mem;
 use std::rt::Clock;
 use std::time::CpuClock;
 
@@ -50,8 +51,8 @@ pub struct Limits {
     pub threshold: Option<VarInt>,
     /// Whether each end looks for a larger path MTU, by the default settings.
     pub searches: bool,
-    /// How many bytes of a datagram the lanes carry at first.
-    pub mtu: u16,
+    /// What the lanes carry at first.
+    pub link: Link,
 }
 
 impl Limits {
@@ -62,7 +63,7 @@ impl Limits {
             window: self.window,
             threshold: self.threshold,
             searches: self.searches,
-            mtu: self.mtu,
+            link: self.link,
         }
     }
 }
@@ -112,7 +113,8 @@ impl Work for Rest {
     }
 }
 
-/// A client and a server, and the lanes between them.
+/// A client and a server, and the lanes between them. It is dropped by name: a proof takes long
+/// where a function lets go of two ends at its end.
 #[derive(Drop)]
 pub struct Pair {
     /// Both ends. They lie on the heap, so that a pair is small.
@@ -195,8 +197,8 @@ impl Pair {
         let ends = boxed(alloc, new_ends(alloc, limits)?)?;
         Ok(Pair {
             ends,
-            up: Lane::new(alloc, limits.mtu),
-            down: Lane::new(alloc, limits.mtu),
+            up: Lane::new(alloc, limits.link),
+            down: Lane::new(alloc, limits.link),
             limits: limits.copied(),
             batch,
             now: 0,
@@ -211,8 +213,17 @@ impl Pair {
     /// - [`Fault::Config`]: the endpoints can't be made. The old ones stay.
     /// - [`Fault::Memory`]: an allocation fails. The old ones stay.
     pub fn renew(&mut self, alloc: Global) -> Result<(), Fault> {
-        self.ends = boxed(alloc, new_ends(alloc, &self.limits)?)?;
+        let ends = boxed(alloc, new_ends(alloc, &self.limits)?)?;
+        drop(mem::replace(&mut self.ends, ends));
         Ok(())
+    }
+
+    /// Both ends, without the lanes between them.
+    pub fn into_ends(self) -> Box<BothEnds> {
+        let Pair { ends, up, down, .. } = self;
+        drop(up);
+        drop(down);
+        ends
     }
 
     /// Each end learns the round trip from a PING, as from a handshake, and both come to rest.
@@ -224,7 +235,7 @@ impl Pair {
         let ends = self.ends.as_mut();
         ends.client.ping();
         ends.server.ping();
-        self.run_until(20 * ONE_WAY, &mut Rest)
+        self.run_until(self.limits.link.delay.saturating_mul(20), &mut Rest)
     }
 
     /// The network becomes what it is to be.

@@ -2,7 +2,7 @@
 use crate::application::PATTERN;
 use crate::bulk::Plan;
 use crate::hostile::attack::{self, Attack};
-use crate::lane::LEAST_MTU;
+use crate::lane::{LEAST_MTU, Link, ONE_WAY};
 use crate::pair::{Limits, Network};
 use crate::shrink;
 use anyhow::Result;
@@ -16,6 +16,9 @@ const DEFAULT_WINDOW: u64 = 1_250_000;
 
 /// The largest path MTU that an end looks for by its default settings.
 const FOUND_MTU: u16 = 1452;
+
+/// How many nanoseconds a millisecond has.
+const MILLISECOND: u64 = 1_000_000;
 
 /// A workload, with its values.
 #[derive(Clone, Copy)]
@@ -76,6 +79,16 @@ pub enum Workload {
     },
 }
 
+impl Workload {
+    /// How many bytes of a datagram the lanes carry at first.
+    fn mtu(&self) -> u16 {
+        match self {
+            Workload::Shrink { plan } => plan.first,
+            _ => LEAST_MTU,
+        }
+    }
+}
+
 /// What is asked for.
 #[derive(Clone, Copy)]
 pub struct Task {
@@ -83,6 +96,8 @@ pub struct Task {
     pub workload: Workload,
     /// The network between the ends.
     pub network: Network,
+    /// What its lanes carry at first.
+    link: Link,
     /// How many bytes may come of a stream before any is read.
     window: u64,
     /// How many packets that ask for an acknowledgement each end asks the other to take without
@@ -229,6 +244,19 @@ impl Values {
             batch: self.take("batch", 2),
         }
     }
+
+    /// What the lanes carry that they name, of datagrams of so many bytes at most. Unless it is
+    /// said the queue holds what leaves in two delays.
+    fn link(&mut self, mtu: u16) -> Link {
+        let rate = self.take("rate", 0);
+        let delay = self.take("delay", ONE_WAY / MILLISECOND);
+        Link {
+            mtu,
+            rate,
+            queue: self.take("queue", rate.saturating_mul(delay) / 4000),
+            delay: delay.saturating_mul(MILLISECOND),
+        }
+    }
 }
 
 /// The attack that the word behind the name `hostile` says.
@@ -261,6 +289,7 @@ impl Task {
         let task = Task {
             workload,
             network: values.network(),
+            link: values.link(workload.mtu()),
             window: values.take("window", DEFAULT_WINDOW),
             threshold: values.given.remove("threshold"),
         };
@@ -272,10 +301,11 @@ impl Task {
     }
 
     /// Whether the work can be done as it is asked for: it has an end (lost messages don't come
-    /// again), and what is written at once is no longer than the pattern that it is taken from.
+    /// again, and a queue may lose some), and what is written at once is no longer than the pattern
+    /// that it is taken from.
     fn can_be_done(&self) -> bool {
         let Network { loss, batch, .. } = self.network;
-        if batch == 0 || loss >= 1000 {
+        if batch == 0 || loss >= 1000 || !self.link.carries_any() {
             return false;
         }
         match self.workload {
@@ -284,7 +314,9 @@ impl Task {
             Workload::Requests { size, answer, .. } => {
                 size <= PATTERN as u64 && answer <= PATTERN as u64
             }
-            Workload::Messages { size, .. } => size <= PATTERN as u64 && loss == 0,
+            Workload::Messages { size, .. } => {
+                size <= PATTERN as u64 && loss == 0 && self.link.rate == 0
+            }
             _ => true,
         }
     }
@@ -304,16 +336,8 @@ impl Task {
                 None => None,
             },
             searches: matches!(self.workload, Workload::Shrink { .. }),
-            mtu: self.mtu(),
+            link: self.link,
         })
-    }
-
-    /// How many bytes of a datagram the lanes carry at first.
-    fn mtu(&self) -> u16 {
-        match self.workload {
-            Workload::Shrink { plan } => plan.first,
-            _ => LEAST_MTU,
-        }
     }
 
     /// How many streams of each kind an end lets the other have open at once. Beside idle ones it

@@ -34,7 +34,7 @@ use Rattle.quic_machine.specs.Heard.{Heard}
 use Rattle.quic_machine.specs.Control.{Control}
 use Rattle.quic_machine.specs.End.{End, with_closing, with_numbers, closed_by}
 use Rattle.quic_machine.specs.Opens.{own_id_length}
-use Rattle.quic_machine.specs.Receive.{Fault, broke, too_many_pieces, closed_by_peer, reason_of, violation, is_empty, asks_in, take_frame, take_item, take_items, take_payload, unless_fault, dropped, ends_as, by_state, opened_to, opened_as, opening, headed, received_in, is_read, drawn_if, unopened_in}
+use Rattle.quic_machine.specs.Receive.{Fault, broke, too_many_pieces, closed_by_peer, reason_of, violation, is_empty, asks_in, is_urged, take_frame, take_item, take_items, take_payload, unless_fault, dropped, ends_as, by_state, opened_to, opened_as, opening, headed, received_in, is_read, drawn_if, unopened_in}
 use Rattle.quic_machine.specs.Poll.{Polled, bounds, may_seal, polled}
 use Rattle.quic_machine.specs.Timeouts.{loss_judged}
 use Rattle.quic_machine.specs.Machine.{World, Policies, IsLeft, IsStep, after_call, after_delivered, says_last, reads_window, fails, end_at, policy_at, given_by}
@@ -121,17 +121,17 @@ module _ (n : ℕ) where
       go true = i
       go false = items_keep Fits frame_keeps_text is x i
 
-  ends_fit : (fault : Option Fault) (asking : Bool) (k : ℕ) (mark : Option EcnCodepoint) (x : End) → fault_len fault ≤ n → Fits x → Fits (ends_as fault asking k mark x).end
-  ends_fit None asking k mark x few i = i
-  ends_fit (Some (closed_by_peer close)) asking k mark x few i = few
-  ends_fit (Some (broke error)) asking k mark x few i = few
-  ends_fit (Some too_many_pieces) asking k mark x few i = few
+  ends_fit : (fault : Option Fault) (asking urged : Bool) (k : ℕ) (mark : Option EcnCodepoint) (x : End) → fault_len fault ≤ n → Fits x → Fits (ends_as fault asking urged k mark x).end
+  ends_fit None asking urged k mark x few i = i
+  ends_fit (Some (closed_by_peer close)) asking urged k mark x few i = few
+  ends_fit (Some (broke error)) asking urged k mark x few i = few
+  ends_fit (Some too_many_pieces) asking urged k mark x few i = few
 
   state_fits : (s : State) (o : Opening) (arrival : Arrival) (x : End) → length o.payload ≤ n → Fits x → Fits (by_state s o arrival x).end
   state_fits states.Open o arrival x few i =
       let begins : End = with_closing x (ticked x.closing arrival.now) in
       let taken = take_payload o.first (items o.payload) begins in
-      ends_fit taken.fault (asks_in (items o.payload)) o.number arrival.mark taken.end (payload_fault n o.first (items o.payload) begins (items_fit n o.payload few)) (payload_keeps_text o.first (items o.payload) begins i)
+      ends_fit taken.fault (asks_in (items o.payload)) (is_urged arrival.mark (items o.payload) begins) o.number arrival.mark taken.end (payload_fault n o.first (items o.payload) begins (items_fit n o.payload few)) (payload_keeps_text o.first (items o.payload) begins i)
   state_fits states.Closing o arrival x few i = i
   state_fits states.Drained o arrival x few i = i
   state_fits states.Failed o arrival x few i = i

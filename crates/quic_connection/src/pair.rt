@@ -203,9 +203,13 @@ impl<H: HeaderKey + Drop, K: PacketKey + Drop, R: Rng + Drop, C: Controller> End
         let told_by_client = parameters(alloc, &client.config)?;
         let told_by_server = parameters(alloc, &server.config)?;
         let (client_id, server_id) = (client.id, server.id);
-        Ok(Ends {
-            client: client.connection(alloc, Side::Client, now, &told_by_server, server_id)?,
-            server: server.connection(alloc, Side::Server, now, &told_by_client, client_id)?,
-        })
+        let client = client.connection(alloc, Side::Client, now, &told_by_server, server_id)?;
+        match server.connection(alloc, Side::Server, now, &told_by_client, client_id) {
+            Ok(server) => Ok(Ends { client, server }),
+            Err(error) => {
+                drop(client);
+                Err(error)
+            }
+        }
     }
 }

@@ -38,7 +38,7 @@ use Rattle.quic_machine.specs.Ids.{frame_of, retires_for}
 use Rattle.quic_machine.specs.End.{End, side_of, with_closing, with_numbers}
 use Rattle.quic_recovery_core.specs.AckFrequency.{is_stale}
 use Rattle.quic_machine.specs.FrameCases.{ack_taken}
-use Rattle.quic_machine.specs.Receive.{Fault, broke, too_many_pieces, closed_by_peer, violation, error_of, fault_of, fault_at, names_ungiven, message_judged, retired_for, id_judged, retirement_judged, asks_too_soon, frequency_judged, take_frame, take_item, take_items, take_payload, unless_fault, is_empty, asks_in, ends_as, dropped, drop_of, by_state, opened_to}
+use Rattle.quic_machine.specs.Receive.{Fault, broke, too_many_pieces, closed_by_peer, violation, error_of, fault_of, fault_at, names_ungiven, message_judged, retired_for, id_judged, retirement_judged, asks_too_soon, frequency_judged, take_frame, take_item, take_items, take_payload, unless_fault, is_empty, asks_in, is_urged, ends_as, dropped, drop_of, by_state, opened_to}
 
 -- a header that can't be read is none
 pub header_kept : (error : HeaderError) (h : Heard) → heard_answer (receives.Dropped (drop_of error)) h ≡ h
@@ -144,11 +144,11 @@ ToOpened (receives.Dropped drops.NotOpened) = ⊥
 ToOpened (receives.Dropped reason) = Unit {0}
 ToOpened receives.Failed = Unit {0}
 
-ends_apart : (o : Option Fault) (asking : Bool) (n : ℕ) (mark : Option EcnCodepoint) (e : End) → Apart o → ToOpened (ends_as o asking n mark e).answer
-ends_apart None asking n mark e here = tt
-ends_apart (Some (closed_by_peer close)) asking n mark e here = tt
-ends_apart (Some (broke error)) asking n mark e here = here
-ends_apart (Some too_many_pieces) asking n mark e here = here
+ends_apart : (o : Option Fault) (asking urged : Bool) (n : ℕ) (mark : Option EcnCodepoint) (e : End) → Apart o → ToOpened (ends_as o asking urged n mark e).answer
+ends_apart None asking urged n mark e here = tt
+ends_apart (Some (closed_by_peer close)) asking urged n mark e here = tt
+ends_apart (Some (broke error)) asking urged n mark e here = here
+ends_apart (Some too_many_pieces) asking urged n mark e here = here
 
 pub opened_answer : (o : Opening) (arrival : Arrival) (e : End) → ToOpened (opened_to o arrival e).answer
 opened_answer o arrival e = by (key_phase o.first) (is_duplicate e.numbers.opened o.number)
@@ -159,7 +159,7 @@ opened_answer o arrival e = by (key_phase o.first) (is_duplicate e.numbers.opene
     in_state : (s : State) → ToOpened (by_state s o arrival x).answer
     in_state states.Open =
         let y : End = with_closing x (ticked x.closing arrival.now) in
-        ends_apart (take_payload o.first (items o.payload) y).fault (asks_in (items o.payload)) o.number arrival.mark (take_payload o.first (items o.payload) y).end (payload_apart o.first (items o.payload) y)
+        ends_apart (take_payload o.first (items o.payload) y).fault (asks_in (items o.payload)) (is_urged arrival.mark (items o.payload) y) o.number arrival.mark (take_payload o.first (items o.payload) y).end (payload_apart o.first (items o.payload) y)
     in_state states.Closing = tt
     in_state states.Drained = tt
     in_state states.Failed = tt

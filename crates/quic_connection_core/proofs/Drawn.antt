@@ -128,10 +128,10 @@ module _ (e : End) where
       go true kept = i
       go false kept = kept
 
-  ends : (o : Option Fault) (asks : Bool) (n : ℕ) (mark : Option EcnCodepoint) (x : End) → Same x → Same (ends_as o asks n mark x).end
-  ends None asks n mark x i = i
-  ends (Some (closed_by_peer close)) asks n mark x i = i
-  ends (Some fault) asks n mark x i = i
+  ends : (o : Option Fault) (asks urged : Bool) (n : ℕ) (mark : Option EcnCodepoint) (x : End) → Same x → Same (ends_as o asks urged n mark x).end
+  ends None asks urged n mark x i = i
+  ends (Some (closed_by_peer close)) asks urged n mark x i = i
+  ends (Some fault) asks urged n mark x i = i
 
 -- a packet that opened draws none but for ids that are issued for it
 pub opened_words : (o : Opening) (arrival : Arrival) (e : End) → words_drawn (opened_to o arrival e).end ≡ words_drawn e
@@ -141,7 +141,7 @@ opened_words o arrival e = by (key_phase o.first) (is_duplicate e.numbers.opened
     x = with_numbers e (number_opened e.numbers o.number)
 
     in_state : (s : State) → words_drawn (by_state s o arrival x).end ≡ words_drawn e
-    in_state states.Open = ends e _ _ o.number arrival.mark _ (payload e o.first (items o.payload) _ refl)
+    in_state states.Open = ends e _ _ _ o.number arrival.mark _ (payload e o.first (items o.payload) _ refl)
     in_state states.Closing = refl
     in_state states.Drained = refl
     in_state states.Failed = refl

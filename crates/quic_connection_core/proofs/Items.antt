@@ -1,12 +1,14 @@
 -- The items of a payload, one after another.
-use Rattle.std.proofs.Common.{◌≡◌, ℕ, Bool, true, false, not, cond, ◌||◌, List, [], ◌∷◌, ◌++◌, length, Option, Some, None, IfSome, Result, Ok, Err, refl, sym, ap, subst, ◌∙◌, append-nil, arith}
+use Rattle.std.proofs.Common.{◌≡◌, ℕ, Bool, true, false, not, cond, ◌&&◌, ◌||◌, List, [], ◌∷◌, ◌++◌, length, Option, Some, None, IfSome, Result, Ok, Err, refl, sym, ap, subst, ◌∙◌, append-nil, arith}
 use Rattle.quic_wire.specs.Value.{FrameValue, padding, ack}
 use Rattle.quic_wire.specs.Items.{items, pads, without_padding}
 use Rattle.quic_wire.specs.declared.frame.InvalidFrame.{InvalidFrame}
+use Rattle.quic_wire_core.specs.declared.shared.EcnCodepoint.{EcnCodepoint}
 use Rattle.quic_packet.specs.Header.{reserved_bits}
+use Rattle.quic_spaces.specs.Marks.{is_congested}
 use Rattle.quic_congestion.specs.Congestion.{Told, Steps, after_calls}
 use Rattle.quic_machine.specs.End.{End, ConnectionValue}
-use Rattle.quic_machine.specs.Receive.{Fault, Progress, take_item, take_items, behind, told_item, told_items, told_behind, item_asks, asks_in, told_payload}
+use Rattle.quic_machine.specs.Receive.{Fault, Progress, take_item, take_items, behind, told_item, told_items, told_behind, item_asks, item_answers, items_answer, asks_in, is_urged, told_payload}
 use Rattle.quic_connection_parts.specs.declared.receiving.Trouble.{Trouble}
 use Rattle.quic_connection_parts.specs.Faults.{fault_view, ItemHasForm, AllHaveForm, IsOther, TellsAs}
 use Rattle.quic_connection_parts.proofs.Told.{told_parts}
@@ -41,12 +43,52 @@ pub told_stop : {C : Type 0} (steps : Steps C) (c d : C) (i : Item) (is all : Li
 told_stop steps c d i is all e f None whole first takes tells is_whole = tt
 told_stop steps c d i is all e f (Some fault) whole first takes tells is_whole = told_last steps c d i is all e f fault first takes tells ∙ is_whole
 
--- whether one asks
-pub asks_already : (a whole : Bool) (i : Item) (is all : List Item) → all ≡ i ∷ is → a ≡ true → (a || asks_in all) ≡ whole → (a || asks_in is) ≡ whole
-asks_already a whole i is all first asks before = rw asks (rw asks at before)
+-- ---- what items ask for
 
-pub asks_now : (a b whole : Bool) (i : Item) (is all : List Item) → all ≡ i ∷ is → a ≡ false → b ≡ item_asks i → (a || asks_in all) ≡ whole → (b || asks_in is) ≡ whole
-asks_now a b whole i is all first asks is_item before = rw is_item (ap asks_in (sym first) ∙ rw asks at before)
+or_assoc : (a b c : Bool) → ((a || b) || c) ≡ (a || (b || c))
+or_assoc true b c = refl
+or_assoc false b c = refl
+
+or_false : (a : Bool) → (a || false) ≡ a
+or_false true = refl
+or_false false = refl
+
+-- whether one asks
+pub asks_step : (a b whole : Bool) (i : Item) (is all : List Item) → all ≡ i ∷ is → b ≡ (a || item_asks i) → (a || asks_in all) ≡ whole → (b || asks_in is) ≡ whole
+asks_step a b whole i is all first more before =
+    ap (λ (x : Bool). x || asks_in is) more
+    ∙ or_assoc a (item_asks i) (asks_in is)
+    ∙ ap (λ (xs : List Item). a || asks_in xs) (sym first)
+    ∙ before
+
+pub asks_last : (a whole : Bool) (all : List Item) → all ≡ [] → (a || asks_in all) ≡ whole → a ≡ whole
+asks_last a whole all none before = sym (or_false a) ∙ ap (λ (xs : List Item). a || asks_in xs) (sym none) ∙ before
+
+-- whether one urges: with a mark, where it asks or answers
+urges_so : (a c p ps q qs : Bool) → ((a || (c && (p || q))) || (c && (ps || qs))) ≡ (a || (c && ((p || ps) || (q || qs))))
+urges_so true c p ps q qs = refl
+urges_so false false p ps q qs = refl
+urges_so false true true ps q qs = refl
+urges_so false true false true true qs = refl
+urges_so false true false false true qs = refl
+urges_so false true false ps false qs = refl
+
+pub urged_step : (a b whole : Bool) (mark : Option EcnCodepoint) (i : Item) (is all : List Item) (e f : End) → all ≡ i ∷ is → take_item i e ≡ record { end = f; fault = None }
+    → b ≡ (a || (is_congested mark && (item_asks i || item_answers i e))) → (a || is_urged mark all e) ≡ whole → (b || is_urged mark is f) ≡ whole
+urged_step a b whole mark i is all e f first takes more before =
+    ap (λ (x : Bool). x || is_urged mark is f) more
+    ∙ ap (λ (p : Progress). (a || (is_congested mark && (item_asks i || item_answers i e))) || is_urged mark is p.end) (sym takes)
+    ∙ urges_so a (is_congested mark) (item_asks i) (asks_in is) (item_answers i e) (items_answer is (take_item i e).end)
+    ∙ ap (λ (xs : List Item). a || is_urged mark xs e) (sym first)
+    ∙ before
+
+none_urge : (a c : Bool) → (a || (c && false)) ≡ a
+none_urge true c = refl
+none_urge false true = refl
+none_urge false false = refl
+
+pub urged_last : (a whole : Bool) (mark : Option EcnCodepoint) (all : List Item) (e : End) → all ≡ [] → (a || is_urged mark all e) ≡ whole → a ≡ whole
+urged_last a whole mark all e none before = sym (none_urge a (is_congested mark)) ∙ ap (λ (xs : List Item). a || is_urged mark xs e) (sym none) ∙ before
 
 pub form_behind : (i : Item) (is all : List Item) → all ≡ i ∷ is → AllHaveForm all → AllHaveForm is
 form_behind i is all first form = (subst (λ (xs : List Item). AllHaveForm xs) first form).1
@@ -101,6 +143,20 @@ pub asks_unpadded : (is : List Item) → asks_in (without_padding is) ≡ asks_i
 unfolding without_padding
 asks_unpadded [] = refl
 asks_unpadded (i ∷ is) = asks_but i is (without_padding is) (pads i) refl (asks_unpadded is)
+
+answers_but : (i : Item) (is others : List Item) (b : Bool) → pads i ≡ b → ((e : End) → items_answer others e ≡ items_answer is e) → (e : End) → items_answer (cond (not b) (i ∷ others) others) e ≡ items_answer (i ∷ is) e
+answers_but i is others true so same e = same e ∙ ap (λ (j : Item). items_answer (j ∷ is) e) (sym (pads_is i so))
+answers_but i is others false so same e = ap (λ (b : Bool). item_answers i e || b) (same (take_item i e).end)
+
+answers_unpadded : (is : List Item) (e : End) → items_answer (without_padding is) e ≡ items_answer is e
+unfolding without_padding
+answers_unpadded [] e = refl
+answers_unpadded (i ∷ is) e = answers_but i is (without_padding is) (pads i) refl (λ x. answers_unpadded is x) e
+
+pub urged_unpadded : (mark : Option EcnCodepoint) (is : List Item) (e : End) → is_urged mark (without_padding is) e ≡ is_urged mark is e
+urged_unpadded mark is e =
+    ap (λ (b : Bool). is_congested mark && (b || items_answer (without_padding is) e)) (asks_unpadded is)
+    ∙ ap (λ (b : Bool). is_congested mark && (asks_in is || b)) (answers_unpadded is e)
 
 form_but : (i : Item) (others : List Item) (b : Bool) → ItemHasForm i → AllHaveForm others → AllHaveForm (cond b (i ∷ others) others)
 form_but i others true first all = (first, all)

@@ -44,7 +44,7 @@ use quic_connection_parts::ids::{Ids, OWN_ID_LENGTH};
 use quic_connection_parts::making::{
     are_keys_short, are_sizes_wrong, first_filter, first_path, first_streams, told_ack_delay,
 };
-use quic_connection_parts::receiving::is_congested;
+use quic_connection_parts::receiving::AckDemand;
 use quic_machine::{ConfigError, Instant, LostReason, State, TransportConfig};
 use quic_messages::DatagramState;
 use quic_packet::crypto::{HeaderKey, Keys, PacketKey};
@@ -408,18 +408,17 @@ impl<H: HeaderKey + Drop, K: PacketKey + Drop, R: Rng + Drop, C: Controller> Con
         self.space.numbers.open(number)
     }
 
-    /// Notes that the whole payload of a packet of this number was processed. `asks` says whether
-    /// the packet is ack-eliciting, and `ecn` with which codepoint it came. Its number is to be
-    /// acknowledged, and the idle and keep-alive times begin anew. Fails if out of memory; nothing
-    /// has changed then.
+    /// Notes that the whole payload of a packet of this number was processed, what its frames ask
+    /// for, and with which codepoint it came. Its number is to be acknowledged, and the idle and
+    /// keep-alive times begin anew. Fails if out of memory; nothing has changed then.
     fn take_number(
         &mut self,
         number: u64,
-        asks: bool,
+        demand: AckDemand,
         ecn: Option<EcnCodepoint>,
     ) -> Result<(), AllocError>
         requires { number < 2 ^ 62 }
-        ensures ok { OnOk result (self.new ≡ with_end self.old (after_taken number asks ecn self.old.end)) }
+        ensures ok { OnOk result (self.new ≡ with_end self.old (after_taken number demand.asks demand.urged ecn self.old.end)) }
         ensures err { OnErr result (self.new ≡ self.old) }
     {
         let now = self.closing.clock();
@@ -427,8 +426,8 @@ impl<H: HeaderKey + Drop, K: PacketKey + Drop, R: Rng + Drop, C: Controller> Con
         let waits = space.acknowledging.take(
             number,
             now,
-            asks,
-            is_congested(ecn),
+            demand.asks,
+            demand.urged,
             space.numbers.dedup(),
         )?;
         space.numbers.take(number);

@@ -14,6 +14,7 @@ use Rattle.quic_retransmits.specs.declared.retransmits.RetireError.{RetireError}
 use Rattle.quic_retransmits.specs.declared.retransmits.RetireError.TheVariants as retiring
 use Rattle.quic_machine.specs.declared.answers.NextIdError.{NextIdError}
 use Rattle.quic_machine.specs.declared.answers.NextIdError.TheVariants as next_errors
+use Rattle.quic_connection_parts.specs.declared.receiving.AckDemand.{AckDemand}
 use Rattle.quic_connection_parts.specs.declared.receiving.Trouble.{Trouble}
 use Rattle.quic_connection_parts.specs.declared.receiving.Trouble.TheVariants as troubles
 
@@ -30,15 +31,16 @@ abbrev pub TakesAs : Result (Unit {0}) Trouble → Progress → End → Type 0
 TakesAs (Ok x) p e = p ≡ record { end = e; fault = None }
 TakesAs (Err trouble) p e = IfSome (fault_view trouble) (λ fault. p ≡ record { end = e; fault = Some fault })
 
--- the same, where it is answered whether a frame asks for an acknowledgement
-abbrev pub TakesAllAs : Result Bool Trouble → Progress → Bool → End → Type 0
-TakesAllAs (Ok asks) p asking e = (asks ≡ asking) × (p ≡ record { end = e; fault = None })
-TakesAllAs (Err trouble) p asking e = IfSome (fault_view trouble) (λ fault. p ≡ record { end = e; fault = Some fault })
+-- the same, where it is answered whether a frame asks for an acknowledgement, and whether one is due
+-- at once
+abbrev pub TakesAllAs : Result AckDemand Trouble → Progress → Bool → Bool → End → Type 0
+TakesAllAs (Ok demand) p asking urged e = (demand.asks ≡ asking) × (demand.urged ≡ urged) × (p ≡ record { end = e; fault = None })
+TakesAllAs (Err trouble) p asking urged e = IfSome (fault_view trouble) (λ fault. p ≡ record { end = e; fault = Some fault })
 
 -- the same, where the number is taken behind the frames of its packet
-abbrev pub TakesPacketAs : Result (Unit {0}) Trouble → Progress → Bool → ℕ → Option EcnCodepoint → End → Type 0
-TakesPacketAs (Ok x) p asking n mark e = (p.fault ≡ None) × (e ≡ after_taken n asking mark p.end)
-TakesPacketAs (Err trouble) p asking n mark e = IfSome (fault_view trouble) (λ fault. p ≡ record { end = e; fault = Some fault })
+abbrev pub TakesPacketAs : Result (Unit {0}) Trouble → Progress → Bool → Bool → ℕ → Option EcnCodepoint → End → Type 0
+TakesPacketAs (Ok x) p asking urged n mark e = (p.fault ≡ None) × (e ≡ after_taken n asking urged mark p.end)
+TakesPacketAs (Err trouble) p asking urged n mark e = IfSome (fault_view trouble) (λ fault. p ≡ record { end = e; fault = Some fault })
 
 -- unless memory lacked, a controller was told this
 abbrev pub TellsAs : {A H K R C : Type 0} → Result A Trouble → Steps C → ConnectionValue H K R C → List Told → ConnectionValue H K R C → Type 0

@@ -26,6 +26,15 @@ pub enum Trouble {
     Memory,
 }
 
+/// What the frames of a packet ask for.
+#[derive(Clone, Copy, Debug)]
+pub struct AckDemand {
+    /// Whether the packet is to be acknowledged: it is ack-eliciting (RFC 9000, section 13.2).
+    pub asks: bool,
+    /// Whether an acknowledgement becomes due at once, as the packet came with CE (section 13.2.1).
+    pub urged: bool,
+}
+
 impl From<AllocError> for Trouble {
     ghost use Rattle.std.specs.Prelude.{◌≡◌};
     ghost use Rattle.quic_connection_parts.specs.declared.receiving.Trouble.TheVariants as troubles;

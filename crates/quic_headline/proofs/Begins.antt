@@ -10,4 +10,7 @@ pub mod Acks
 pub mod Queued
 pub mod Probed
 pub mod Steps
+pub mod Behind
+pub mod SaidWalk
+pub mod Said
 pub mod Clause

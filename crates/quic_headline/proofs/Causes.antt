@@ -4,6 +4,7 @@ pub mod Ordinary
 pub mod UsedUp
 pub mod Come
 pub mod Runs
+pub mod Window
 pub mod Crowded
 pub mod Shown
 pub mod Judged

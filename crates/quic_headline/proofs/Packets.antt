@@ -16,6 +16,7 @@ pub mod Carried
 pub mod Composed
 pub mod Going
 pub mod Kinds
+pub mod Told
 pub mod MayGo
 pub mod Given
 pub mod Probes
@@ -43,5 +44,6 @@ pub mod Ids
 pub mod Widths
 pub mod Group
 pub mod Sight
+pub mod Acked
 pub mod Referring
 pub mod References

@@ -2,7 +2,7 @@
 -- sections 4 to 6), as an observer of a run's lists reckons it, and that the next poll gives it.
 -- The constants are the observer's own: it reads nothing of an end but what came to it and what it
 -- gave.
-use Rattle.std.specs.Prelude.{ℕ, suc, ◌+◌, ◌-◌, ◌≡◌, ◌==◌, max, not, nat_lt, nat_le, ◌&&◌, ◌||◌, Bool, true, false, if◌then◌else◌, find, List, [], ◌∷◌, length, slice_get, Option, Some, None, ◌⊎◌}
+use Rattle.std.specs.Prelude.{ℕ, suc, ◌+◌, ◌-◌, ◌≡◌, ◌==◌, max, not, nat_lt, nat_le, ◌&&◌, ◌||◌, Bool, true, false, if◌then◌else◌, find, List, [], ◌∷◌, length, drop, slice_get, Option, Some, None, ◌⊎◌}
 use Rattle.std.specs.List.{list_any, range_with_len}
 use Rattle.quic_wire_core.specs.declared.shared.EcnCodepoint.{EcnCodepoint}
 use Rattle.quic_wire_core.specs.declared.shared.EcnCodepoint.TheVariants.{Ce}
@@ -18,7 +18,7 @@ use Rattle.quic_machine.specs.declared.run.View.{View}
 use Rattle.quic_machine.specs.Machine.{end_at}
 use Rattle.quic_headline.specs.Runs.{Run, Told, Packet, Intake, is_again, state_in, AreServed, folded, until, given_of}
 use Rattle.quic_headline.specs.Requested.{Requested, requested}
-use Rattle.quic_headline.specs.Observer.{Watch, watch_from, watch, news, is_past, is_timely, Lens, lens_of}
+use Rattle.quic_headline.specs.Observer.{Sent, asks_of, Watch, watch_from, watch, news, is_past, is_timely, Lens, lens_of}
 use Rattle.quic_headline.specs.Headline.{IsAt}
 use Rattle.quic_headline.specs.Polls.{IsLimited}
 use Rattle.quic_headline.specs.Moments.{acknowledges, went, Debt, debt_told, first_debt, first_deadline}
@@ -96,6 +96,16 @@ abbrev pub takes_marked : Call → Answer → Bool
 takes_marked (calls.Deliver delivery) (answers.Deliver Taken) = is_marked delivery.ecn
 takes_marked call a = false
 
+-- the datagrams that are acknowledged in flight between two moments
+abbrev pub acked_between : Watch → Watch → List Sent
+acked_between before after = drop (length before.flight.acked) after.flight.acked
+
+-- whether a packet is taken that bears the mark, and asks for an acknowledgement, or newly
+-- acknowledges a datagram that does: what only acknowledges what needn't be acknowledged is answered
+-- by nothing, whatever mark it bears (RFC 9000, section 13.2.1)
+abbrev pub takes_urged : Told → Watch → Watch → Bool
+takes_urged t before after = takes_marked t.call t.answer && (list_any (λ p. list_any asks p.frames) (news before.intake after.intake) || list_any asks_of (acked_between before after))
+
 -- whether there are some
 abbrev pub are_some : List Packet → Bool
 are_some [] = false
@@ -117,12 +127,12 @@ pub record Haste : Type 0 where
   pub acked : Option ℕ
 
 -- whether one is due behind a call: an ACK frame that goes ends it. It becomes due where a packet
--- hastens it, or bears the mark, while one that asks waits, or where one has waited as long as it
--- may (RFC 9000, section 13.2.1)
+-- hastens it, or is urged by its mark, while one that asks waits, or where one has waited as long as
+-- it may (RFC 9000, section 13.2.1)
 abbrev pub due_behind : Haste → Told → Unanswered → Debt → Bool
 due_behind h t after debt =
     if acknowledges (went h.known.watch after.watch) then false
-    else h.due || (one_hastens h.acked h.known.watch.intake after.watch.intake after.packets || ((takes_marked t.call t.answer && are_some after.packets) || waits_out t debt.deadlines after.watch.clock))
+    else h.due || (one_hastens h.acked h.known.watch.intake after.watch.intake after.packets || ((takes_urged t h.known.watch after.watch && are_some after.packets) || waits_out t debt.deadlines after.watch.clock))
 
 -- the greatest number of those that ask, as the last ACK frame went, behind a call
 abbrev pub acked_behind : Haste → Unanswered → Option ℕ

@@ -1,12 +1,13 @@
 -- What makes something wait at an end to go (RFC 9000, sections 2.4, 3.1, 3.5, 4.1, 4.2, 4.6,
 -- 13.2.1 and 13.3; RFC 9002, sections 6.1 and 6.2.4; RFC 9221, section 5). What waits, the end says
 -- itself; the causes are read off a run's lists.
-use Rattle.std.specs.Prelude.{ℕ, suc, ◌<◌, ◌≤◌, ◌≡◌, ◌⊎◌, ◌==◌, ◌&&◌, ◌||◌, nat_lt, nat_le, Bool, true, false, List, [], ◌∷◌, ◌++◌, length, drop, Option, Some, unwrap_or, Ok, Err}
+use Rattle.std.specs.Prelude.{ℕ, suc, ◌<◌, ◌≤◌, ◌≡◌, ◌⊎◌, ◌==◌, ◌&&◌, ◌||◌, not, nat_lt, nat_le, Bool, true, false, List, [], ◌∷◌, ◌++◌, length, Option, Some, unwrap_or, Ok, Err}
 use Rattle.std.specs.List.{list_any}
 use Rattle.std.specs.Option.{is_some, is_none}
 use Rattle.quic_wire_core.specs.declared.stream_id.Side.{Side}
 use Rattle.quic_wire_core.specs.StreamId.{other_side}
-use Rattle.quic_wire.specs.Value.{FrameValue, ack, stream, reset_stream, stop_sending, max_stream_data, stream_data_blocked, new_connection_id, retire_connection_id}
+use Rattle.quic_parameters.specs.Parameters.{ParameterValues}
+use Rattle.quic_wire.specs.Value.{FrameValue, ack, stream, reset_stream, stop_sending, max_stream_data, data_blocked, stream_data_blocked, new_connection_id, retire_connection_id}
 use Rattle.quic_wire.specs.FrameView.{is_one_way}
 use Rattle.quic_send_buffer.specs.Buffered.{is_lost, is_unsent}
 use Rattle.quic_streams_parts.specs.declared.answers.WriteError.TheVariants as write_errors
@@ -22,13 +23,14 @@ use Rattle.quic_machine.specs.CallCases.{is_poll, is_timeout}
 use Rattle.quic_machine.specs.End.{End}
 use Rattle.quic_machine.specs.Machine.{World, end_at}
 use Rattle.quic_headline.specs.Runs.{Run, Told, Packet, In, until, state_at, AreServed, LeadsTo, written, ended_by, reset_by}
-use Rattle.quic_headline.specs.Observer.{Sent, HoldsOffset, HoldsEnd, Watch, watch, news, loss_due, is_past, is_timely}
+use Rattle.quic_headline.specs.Observer.{Sent, HoldsOffset, HoldsEnd, Watch, watch, news, loss_due, is_past, is_timely, sents_until}
 use Rattle.quic_headline.specs.Headline.{IsAt}
+use Rattle.quic_headline.specs.Amounts.{data_limit, stream_limit}
 use Rattle.quic_headline.specs.InUse.{brought, next_of, in_use}
 use Rattle.quic_headline.specs.InFlight.{is_max_data, is_max_streams, is_data_blocked, is_ack_frequency}
 use Rattle.quic_headline.specs.Duties.{Limited, AllData, StreamData, StreamCount, has_reset, has_stop, limit_waits, on_half}
 use Rattle.quic_headline.specs.Moments.{acknowledges, went}
-use Rattle.quic_headline.specs.AcksDue.{is_immediate_ack, is_due}
+use Rattle.quic_headline.specs.AcksDue.{is_immediate_ack, is_due, acked_between}
 use Rattle.quic_headline.specs.Unread.{stopped_by}
 use Rattle.quic_headline.specs.Messages.{sent_by}
 use Rattle.quic_headline.specs.Requests.{Asking, asking_at, wants_anew}
@@ -139,9 +141,10 @@ HasGone ss q = ⊥
 
 -- What an observer of an end knows of a call: what was told before, the call, what is known before
 -- and behind it, the packets that came before it since the end gave an ACK frame, whether one is
--- due behind it for packets that ask, and whether one bore the mark of congestion since one went,
+-- due behind it for packets that ask, and whether one was urged by its mark since one went,
 -- when the time without a packet is over, if it is kept, how the end asks its peer to acknowledge,
--- and the number of the peer's id that it uses before the call.
+-- the number of the peer's id that it uses before the call; and its side, the peer's parameters, and
+-- the datagrams that it gave before the call.
 pub record Seen : Type 0 where
   pub told : List Told
   pub now : Told
@@ -153,6 +156,9 @@ pub record Seen : Type 0 where
   pub alive : Option ℕ
   pub asking : Asking
   pub using : ℕ
+  pub side : Side
+  pub params : ParameterValues
+  pub gave : List Sent
 
 -- the packets that came by it
 abbrev pub came : Seen → List Packet
@@ -164,7 +170,7 @@ brings test s = list_any (λ p. list_any test p.frames) (came s)
 
 -- the datagrams that were acknowledged by it in flight
 abbrev pub acknowledged_by : Seen → List Sent
-acknowledged_by s = drop (length s.before.flight.acked) s.behind.flight.acked
+acknowledged_by s = acked_between s.before s.behind
 
 -- A datagram that bore it is lost (RFC 9002, section 6.1): it was in flight, and behind the call it
 -- neither is, nor was acknowledged by it. What it bore goes again (RFC 9000, section 13.3).
@@ -257,31 +263,49 @@ abbrev pub may_end : FrameValue → Bool
 may_end (ack a) = true
 may_end f = brings_data f
 
+-- whether a frame says that this limit on all streams is used up
+abbrev pub says_blocked : ℕ → FrameValue → Bool
+says_blocked limit (data_blocked said) = said == limit
+says_blocked limit f = false
+
+-- whether a frame says that this limit on a stream is used up
+abbrev pub says_blocked_on : ℕ → ℕ → FrameValue → Bool
+says_blocked_on id limit (stream_data_blocked f) = f.id == id && f.limit == limit
+says_blocked_on id limit f = false
+
+-- whether DATA_BLOCKED said the limit that the peer advertised last
+abbrev pub has_said : Seen → Bool
+has_said s = stands (says_blocked (data_limit s.params s.before.intake.took)) s.gave
+
+-- whether STREAM_DATA_BLOCKED said the limit that it advertised last on a stream
+abbrev pub has_said_on : ℕ → Seen → Bool
+has_said_on id s = stands (says_blocked_on id (stream_limit s.params s.side s.before.intake.took id)) s.gave
+
 -- Whether a call, or a frame that comes by it, asks for a control frame: a reset and a stop are
 -- called for (RFC 9000, sections 3.1 and 3.5); MAX_DATA goes where more was used up (section 4.1),
 -- MAX_STREAM_DATA where more of the stream was read, and MAX_STREAMS where a stream may be done
--- (section 4.6); and the frames that say that a limit is used up where a write is blocked (sections
--- 19.12 and 19.13). The peer is told of an own id where it retires one. An id of the peer is
--- retired where the next one is used and its number lies below that, or where it comes late. And a
--- poll asks the peer by ACK_FREQUENCY where it is to be asked anew (QUIC Acknowledgement Frequency,
--- section 4).
+-- (section 4.6); and the frames that say that a limit is used up where a write is blocked, unless
+-- one said that limit before (sections 19.12 and 19.13). The peer is told of an own id where it
+-- retires one. An id of the peer is retired where the next one is used and its number lies below
+-- that, or where it comes late. And a poll asks the peer by ACK_FREQUENCY where it is to be asked
+-- anew (QUIC Acknowledgement Frequency, section 4).
 abbrev pub asks_for : Seen → Control → Bool
 asks_for s (ResetOf id) = is_some (reset_by id s.now.call s.now.answer)
 asks_for s (StopOf id) = stopped_by id s.now.call s.now.answer
 asks_for s (LimitOf AllData) = uses_up s.now.call s.now.answer || brings brings_data s
 asks_for s (LimitOf (StreamData id)) = reads_on id s.now.call s.now.answer
 asks_for s (LimitOf (StreamCount dir)) = uses_up s.now.call s.now.answer || brings may_end s
-asks_for s Blocked = finds_blocked (λ id. true) s.now.call s.now.answer
-asks_for s (BlockedOn id) = finds_blocked (λ j. j == id) s.now.call s.now.answer
+asks_for s Blocked = finds_blocked (λ id. true) s.now.call s.now.answer && not (has_said s)
+asks_for s (BlockedOn id) = finds_blocked (λ j. j == id) s.now.call s.now.answer && not (has_said_on id s)
 asks_for s (NewId number) = brings is_retirement s
 asks_for s (Retirement number) = passes_over s number || brings (retires s.using number) s
 asks_for s Request = is_poll s.now.call && wants_anew s.asking s.before.own s.before.flight
 
 -- ---- the causes
 
--- whether an ACK frame may become due by a call: behind it one is due for packets that ask; or one
--- bore the mark of congestion; or a datagram may go, and many came that don't ask (RFC 9000, section
--- 13.2.1)
+-- whether an ACK frame may become due by a call: behind it one is due for packets that ask; or a
+-- packet was urged by its mark; or a datagram may go, and many came that don't ask (RFC 9000,
+-- section 13.2.1)
 abbrev pub may_hasten : Seen → Bool
 may_hasten s = s.due || (s.marked || (is_poll s.now.call && nat_lt may_come (count_silent s.unanswered)))
 
@@ -318,6 +342,9 @@ seen_at r side i call a = record {
   alive = (wants r side i).alive;
   asking = asking_at r side;
   using = in_use r side i;
+  side = side;
+  params = (end_at side r.start).peer_params;
+  gave = sents_until r side i;
 }
 
 -- It waited before, and didn't go by the call; or it has a cause.

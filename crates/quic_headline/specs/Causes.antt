@@ -1,6 +1,6 @@
 -- Why an end closes between honest ends (RFC 9000, sections 10.2 and 20), by the run's lists and
 -- the views behind its answers.
-use Rattle.std.specs.Prelude.{ℕ, ◌+◌, ◌-◌, ◌^◌, ◌<◌, ◌≤◌, ◌≡◌, ◌⊎◌, max, not, ◌==◌, Bool, eqb, true, false, List, [], ◌∷◌, ◌++◌, filter, length, slice_get, Option, Some, None, Ok}
+use Rattle.std.specs.Prelude.{ℕ, ◌+◌, ◌-◌, ◌/◌, ◌^◌, ◌<◌, ◌≤◌, ◌≡◌, ◌⊎◌, max, not, ◌==◌, Bool, eqb, true, false, List, [], ◌∷◌, ◌++◌, filter, length, slice_get, Option, Some, None, Ok}
 use Rattle.std.specs.List.{IsDistinct}
 use Rattle.quic_wire_core.specs.declared.stream_id.Side.{Side}
 use Rattle.quic_wire_core.specs.declared.stream_id.Side.TheVariants.{Client, Server}
@@ -22,7 +22,7 @@ use Rattle.quic_machine.specs.declared.run.Answer.TheVariants as answers
 use Rattle.quic_machine.specs.declared.run.View.{View}
 use Rattle.quic_wire_core.specs.TransportError.{ErrorValue}
 use Rattle.quic_machine.specs.Policy.{Policy}
-use Rattle.quic_machine.specs.Machine.{policy_at}
+use Rattle.quic_machine.specs.Machine.{policy_at, end_at}
 use Rattle.quic_headline.specs.Runs.{Run, Told, Packet, Intake, nothing_came, and_told, folded, given_of, until, AreServed, In, frames_of, is_again, handed, came_open, acknowledged, reads, offsets_of, HasArrived, given_until, state_at}
 use Rattle.quic_headline.specs.Observer.{Sent, closes_of, took, sents_until, next_number, watch}
 use Rattle.quic_headline.specs.Headline.{IsAt}
@@ -214,31 +214,36 @@ pub record IsCrowded (p : Policy) (given : List (List ℕ)) (told : List Told) (
   pub frames : frames_of (items c.opening.payload) ≡ front ++ stream frame ∷ rest
   pub many : HasMoreRuns (IsUnread (record { number = c.opening.number; frames = front ++ stream frame ∷ [] } ∷ (came_by p given c.before).took) c.before frame.id) count
 
--- so many runs of a stream may wait to be read (RFC 9000, section 21.7)
-abbrev pub most_runs : ℕ
-most_runs = 2048
+-- so many runs of a stream may wait to be read, where so many bytes more than were read may come on
+-- it: one for each 1,024 of these bytes, and 2048 at least (RFC 9000, section 21.7)
+abbrev pub most_runs : ℕ → ℕ
+most_runs window = max 2048 (window / 1024)
+
+-- how many bytes more than were read may come on a stream of an end, as it was made
+abbrev pub stream_window_at : Run → Side → ℕ
+stream_window_at r side = (end_at side r.start).streams.receiving.stream_window
 
 -- INTERNAL_ERROR, of no frame (section 20.1)
 abbrev pub internal_error : ErrorValue
 internal_error = record { code = 1; frame = None }
 
--- one that has it came
-pub record CrowdCame (p : Policy) (given : List (List ℕ)) (told : List Told) : Type 0 where
+-- one that has it came to an end whose streams have so large a receive window
+pub record CrowdCame (p : Policy) (window : ℕ) (given : List (List ℕ)) (told : List Told) : Type 0 where
   pub packet : PacketCame p given told
-  pub crowded : IsCrowded p given told packet most_runs
+  pub crowded : IsCrowded p given told packet (most_runs window)
 
--- an end closes for too many pieces only where more than 2048 runs of one stream had arrived and
--- not been read
+-- an end closes for too many pieces only where more runs of one stream had arrived and not been
+-- read than may wait
 abbrev pub TooManyPieces : Run → Type 0
-TooManyPieces r = (side : Side) (place : ℕ) → Shows r side place (Some reasons.Pieces) → CrowdCame (policy_at side r.keys) (given_of r (other_side side)) (until r side (place + 1))
+TooManyPieces r = (side : Side) (place : ℕ) → Shows r side place (Some reasons.Pieces) → CrowdCame (policy_at side r.keys) (stream_window_at r side) (given_of r (other_side side)) (until r side (place + 1))
 
 -- A packet that came was taken whole; or it was refused, by INTERNAL_ERROR, and came to too many
 -- pieces.
-abbrev pub IsTakenOrCrowded : (p : Policy) (given : List (List ℕ)) (told : List Told) → PacketCame p given told → Type 0
-IsTakenOrCrowded p given told c = (c.call.answer ≡ answers.Deliver receives.Taken) ⊎ ((c.call.answer ≡ answers.Deliver (receives.Closed internal_error)) × IsCrowded p given told c most_runs)
+abbrev pub IsTakenOrCrowded : (p : Policy) (window : ℕ) (given : List (List ℕ)) (told : List Told) → PacketCame p given told → Type 0
+IsTakenOrCrowded p window given told c = (c.call.answer ≡ answers.Deliver receives.Taken) ⊎ ((c.call.answer ≡ answers.Deliver (receives.Closed internal_error)) × IsCrowded p given told c (most_runs window))
 
 -- each packet that comes is taken whole, unless it comes to too many pieces: so it is the rules of
 -- receiving that say which packets an end takes, and not what it answers
 abbrev pub TakenOrTooMany : Run → Type 0
 TakenOrTooMany r = (side : Side) (i : ℕ) → AreServed r i → (c : PacketCame (policy_at side r.keys) (given_of r (other_side side)) (until r side i))
-    → IsTakenOrCrowded (policy_at side r.keys) (given_of r (other_side side)) (until r side i) c
+    → IsTakenOrCrowded (policy_at side r.keys) (stream_window_at r side) (given_of r (other_side side)) (until r side i) c

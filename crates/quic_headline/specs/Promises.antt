@@ -255,7 +255,7 @@ pub record Causes (r : Run) : Type 0 where
   -- only what opens and is new is taken, and exactly what opens and isn't is a duplicate (section
   -- 12.3)
   pub taken_exactly : TakenExactly r
-  -- an end closes for too many pieces only where over 2048 of a stream wait to be read (section
+  -- an end closes for too many pieces only where more of a stream wait to be read than may (section
   -- 21.7)
   pub too_many_pieces : TooManyPieces r
   -- each view shows why an end isn't open, unless it failed (section 10)

@@ -17,7 +17,7 @@ use Rattle.quic_headline.specs.Observer.{Sent, HoldsOffset, asks_of, is_close, W
 use Rattle.quic_headline.specs.InFlight.{is_max_data, is_data_blocked, is_max_streams, is_ack_frequency}
 use Rattle.quic_headline.specs.Moments.{ack_timer, acknowledges, went, debt, first_deadline}
 use Rattle.quic_headline.specs.Polls.{GaveOne, IsSizeProbe}
-use Rattle.quic_headline.specs.AcksDue.{takes_marked, is_due}
+use Rattle.quic_headline.specs.AcksDue.{takes_urged, is_due}
 use Rattle.quic_headline.specs.Requests.{Asking, asking_at, wants_anew}
 
 -- ---- what is wanted of an end
@@ -56,7 +56,7 @@ asks_ping calls.Ping = true
 asks_ping call = false
 
 -- What is wanted of an end, beside what an observer knows of it: the packets that came since it
--- gave an ACK frame, the latest first; whether one of them bore the mark of congestion; whether
+-- gave an ACK frame, the latest first; whether one of them was urged by its mark; whether
 -- PING was asked for since one went, or the time without a packet was over; when that is over, if
 -- it is kept (RFC 9000, section 10.1.2); whether a probe of losses waited at a poll that gave
 -- nothing, since a datagram went that asks: it may be PING or IMMEDIATE_ACK, and wait (section
@@ -101,7 +101,7 @@ abbrev pub wants_behind : Option ℕ → Told → List Sent → List Packet → 
 wants_behind interval t sents came after w = record {
   watch = after;
   packets = (if acknowledges sents then [] else came ++ w.packets);
-  marked = (if acknowledges sents then false else takes_marked t.call t.answer || w.marked);
+  marked = (if acknowledges sents then false else takes_urged t w.watch after || w.marked);
   pinged = (if stands is_ping sents then false else asks_ping t.call || (wakes t after.clock w.alive || w.pinged));
   alive = alive_behind interval t sents came after.clock w.alive;
   probed = (if list_any asks_of sents then false else probes_in_vain t.call sents w.watch || w.probed);
@@ -122,7 +122,7 @@ wants r side i = folded (wants_told (lens_of r side)) (until r side i) (no_wants
 
 -- whether an ACK frame is wanted at an end behind the first so many answers: one is due for packets
 -- that ask (RFC 9000, section 13.2.1; QUIC Acknowledgement Frequency, sections 4 to 6); or since one
--- went a packet bore the mark, or more than so many came that don't ask
+-- went a packet was urged by its mark, or more than so many came that don't ask
 abbrev pub wants_ack : Run → Side → ℕ → Bool
 wants_ack r side i = is_due r side i || ((wants r side i).marked || nat_lt may_come (count_silent (wants r side i).packets))
 

@@ -55,7 +55,7 @@ use Rattle.quic_machine.specs.Acked.{request_acked, without_known, reset_acked, 
 use Rattle.quic_paths.specs.Paths.{is_asked}
 use Rattle.quic_paths.specs.Responses.{Response}
 use Rattle.quic_machine.specs.Validation.{Asked, asked_of, path_asked, path_validated, word_of, validated_if}
-use Rattle.quic_machine.specs.Receive.{Fault, broke, too_many_pieces, closed_by_peer, drained_at, exhausted, unopened_in, violation, reason_of, Progress, goes_on, is_above, names_ungiven, message_taken, message_judged, take_message, retired_for, id_judged, retirement_judged, asks_too_soon, frequency_judged, take_frame, take_item, unless_fault, take_items, is_empty, take_payload, asks_in, after_taken, dropped, ends_as, by_state, opened_to, opened_as, opening, headed, received_in, is_read, drawn_if, received}
+use Rattle.quic_machine.specs.Receive.{Fault, broke, too_many_pieces, closed_by_peer, drained_at, exhausted, unopened_in, violation, reason_of, Progress, goes_on, is_above, names_ungiven, message_taken, message_judged, take_message, retired_for, id_judged, retirement_judged, asks_too_soon, frequency_judged, take_frame, take_item, unless_fault, take_items, is_empty, take_payload, asks_in, is_urged, after_taken, dropped, ends_as, by_state, opened_to, opened_as, opening, headed, received_in, is_read, drawn_if, received}
 
 -- ---- packets that are acknowledged, and those that are lost
 
@@ -426,7 +426,7 @@ pub record Receives (P : End → Type 0) : Type 0 where
   pub begins : (now n : ℕ) (e : End) → P e → P (begun e now n)
   pub frame : (f : FrameValue) (e : End) → P e → P (take_frame f e).end
   -- all was taken, or a frame was at fault
-  pub takes : (n : ℕ) (asks : Bool) (mark : Option EcnCodepoint) (e : End) → P e → P (after_taken n asks mark e)
+  pub takes : (n : ℕ) (asks urged : Bool) (mark : Option EcnCodepoint) (e : End) → P e → P (after_taken n asks urged mark e)
   pub closes : (reason : LostReason) (e : End) → P e → P (closed_by reason e)
   -- the peer closed so, in the packet of this number
   pub drains : (close : ℕ × CloseValue) (e : End) → P e → P (drained_at close.0 close.1 e)
@@ -447,17 +447,18 @@ module _ (P : End → Type 0) (c : Receives P) where
       go false = items_keep P c.frame is e i
 
   -- all frames were taken, or one was at fault
-  ends_keep : (fault : Option Fault) (asks : Bool) (n : ℕ) (mark : Option EcnCodepoint) (e : End) → P e → P (ends_as fault asks n mark e).end
-  ends_keep None asks n mark e i = c.takes n asks mark e i
-  ends_keep (Some (closed_by_peer close)) asks n mark e i = c.drains (n, close) e i
-  ends_keep (Some (broke error)) asks n mark e i = c.closes (reason_of (broke error)) e i
-  ends_keep (Some too_many_pieces) asks n mark e i = c.closes (reason_of too_many_pieces) e i
+  ends_keep : (fault : Option Fault) (asks urged : Bool) (n : ℕ) (mark : Option EcnCodepoint) (e : End) → P e → P (ends_as fault asks urged n mark e).end
+  ends_keep None asks urged n mark e i = c.takes n asks urged mark e i
+  ends_keep (Some (closed_by_peer close)) asks urged n mark e i = c.drains (n, close) e i
+  ends_keep (Some (broke error)) asks urged n mark e i = c.closes (reason_of (broke error)) e i
+  ends_keep (Some too_many_pieces) asks urged n mark e i = c.closes (reason_of too_many_pieces) e i
 
   -- a packet whose number is new
   state_keeps : (state : State) (o : Opening) (arrival : Arrival) (e : End) → P e → P (by_state state o arrival (with_numbers e (number_opened e.numbers o.number))).end
   state_keeps states.Open o arrival e i =
-      let taken = take_payload o.first (items o.payload) (begun e arrival.now o.number) in
-      ends_keep taken.fault (asks_in (items o.payload)) o.number arrival.mark taken.end (payload_keeps o.first (items o.payload) (begun e arrival.now o.number) (c.begins arrival.now o.number e i))
+      let begins = begun e arrival.now o.number in
+      let taken = take_payload o.first (items o.payload) begins in
+      ends_keep taken.fault (asks_in (items o.payload)) (is_urged arrival.mark (items o.payload) begins) o.number arrival.mark taken.end (payload_keeps o.first (items o.payload) begins (c.begins arrival.now o.number e i))
   state_keeps states.Closing o arrival e i = c.asks_close (with_numbers e (number_opened e.numbers o.number)) (c.notes o.number e i)
   state_keeps states.Drained o arrival e i = c.notes o.number e i
   state_keeps states.Failed o arrival e i = c.notes o.number e i

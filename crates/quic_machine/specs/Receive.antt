@@ -1,5 +1,5 @@
 -- What an end makes of a datagram that comes (RFC 9000, sections 5.2, 12 and 13.1).
-use Rattle.std.specs.Prelude.{ℕ, ◌+◌, Bool, true, false, ◌==◌, ◌||◌, not, nat_le, nat_lt, ltb, if◌then◌else◌, List, [], ◌∷◌, ◌++◌, Option, Some, None, Result, Ok, Err}
+use Rattle.std.specs.Prelude.{ℕ, ◌+◌, Bool, true, false, ◌==◌, ◌&&◌, ◌||◌, not, nat_le, nat_lt, ltb, if◌then◌else◌, List, [], ◌∷◌, ◌++◌, Option, Some, None, Result, Ok, Err}
 use Rattle.std.specs.List.{list_any}
 use Rattle.quic_wire_core.specs.TransportError.{ErrorValue}
 use Rattle.quic_wire_core.specs.declared.shared.EcnCodepoint.{EcnCodepoint}
@@ -58,7 +58,7 @@ use Rattle.quic_machine.specs.Policy.{Policy}
 use Rattle.quic_machine.specs.Idle.{packet_heard}
 use Rattle.quic_machine.specs.End.{End, side_of, with_closing, closed_by, drained_by, with_numbers, with_acknowledging, with_frequency, with_frames, with_streams, with_messages, with_ack_timer, with_loss_timer}
 use Rattle.quic_machine.specs.Opens.{own_id_length}
-use Rattle.quic_machine.specs.Tracking.{dir_named}
+use Rattle.quic_machine.specs.Tracking.{dir_named, asks_any, acked_by}
 use Rattle.quic_machine.specs.Acked.{after_acked, told_acked}
 
 -- ---- what is wrong with a packet that opened
@@ -136,6 +136,10 @@ is_above (Some m) n = nat_lt m n
 -- broken rule (RFC 9000, section 13.1), and so is the one that was left out last.
 abbrev pub names_ungiven : AckValue → End → Bool
 names_ungiven a e = nat_le e.numbers.next a.largest || list_any (λ r. names_skipped e.filter.last r.0 r.1) a.ranges
+
+-- whether it newly acknowledges a packet that asks for it: a tracked one that it names
+abbrev pub acks_asking : AckValue → End → Bool
+acks_asking a e = not (names_ungiven a e) && asks_any (acked_by a e.tracking.packets)
 
 -- what an ACK frame makes of the end: nothing where it names such a number
 abbrev pub take_ack : AckValue → End → Progress
@@ -266,6 +270,11 @@ take_frame immediate_ack e = goes_on (ack_required e)
 take_frame (ack_frequency f) e = take_frequency f e
 take_frame f e = record { end = e; fault = fault_of (broken e.streams (id_rule f)) }
 
+-- whether an item of a payload is an ACK frame that newly acknowledges such a packet
+abbrev pub item_answers : Result FrameValue InvalidFrame → End → Bool
+item_answers (Ok (ack a)) e = acks_asking a e
+item_answers i e = false
+
 -- what the next item of a payload comes to
 abbrev pub take_item : Result FrameValue InvalidFrame → End → Progress
 take_item (Ok f) e = take_frame f e
@@ -289,6 +298,11 @@ behind p next = unless_fault p.fault p next
 abbrev pub take_items : List (Result FrameValue InvalidFrame) → End → Progress
 take_items [] e = goes_on e
 take_items (i ∷ is) e = behind (take_item i e) (take_items is)
+
+-- whether one of the items of a payload is such a frame
+abbrev pub items_answer : List (Result FrameValue InvalidFrame) → End → Bool
+items_answer [] e = false
+items_answer (i ∷ is) e = item_answers i e || items_answer is (take_item i e).end
 
 -- what is told where nothing is wrong
 abbrev pub told_unless : Option Fault → List Told → List Told
@@ -335,39 +349,6 @@ dropped reason e = record { answer = Dropped reason; end = e }
 abbrev pub timers_after : ℕ → Timers → Pending → ℕ → ℕ → Bool → Seen → Timers
 timers_after delay t p now n asking seen = if packet_starts_wait p n asking seen then with_ack_timer t (Some (ack_due delay now)) else t
 
--- the whole payload of a packet of this number was taken, which asks for an acknowledgement or
--- doesn't, and came with this mark or with none: the number is to be acknowledged, at once where it
--- is marked CE (section 13.2.1), and the mark counts (section 13.4.1)
-abbrev pub number_noted : ℕ → Bool → Option EcnCodepoint → End → End
-number_noted n asking mark e =
-    let now = e.closing.clock in
-    let p = with_due (is_congested mark) (after_insert e.acknowledging n now) in
-    record e {
-      numbers = number_taken e.numbers n;
-      acknowledging = after_packet p now n asking e.numbers.opened;
-      timers = timers_after e.frequency.own_delay e.timers p now n asking e.numbers.opened;
-      marks = record e.marks { came = after_mark mark e.marks.came };
-    }
-
--- the times without a packet begin anew, and the loss timer is set to what the frames left
-abbrev pub after_taken : ℕ → Bool → Option EcnCodepoint → End → End
-after_taken n asking mark e = with_loss_timer (packet_heard (number_noted n asking mark e))
-
--- the peer closed: the number of its packet counts as taken, and the end is drained (section
--- 10.2.2)
-abbrev pub drained_at : ℕ → CloseValue → End → End
-drained_at n close e = drained_by (reasons.Peer close) (with_numbers e (number_taken e.numbers n))
-
--- all frames were taken; or the peer closed; or one was at fault: those before it keep their effect
-abbrev pub ends_as : Option Fault → Bool → ℕ → Option EcnCodepoint → End → Outcome
-ends_as None asking n mark e = record { answer = Taken; end = after_taken n asking mark e }
-ends_as (Some (closed_by_peer close)) asking n mark e = record { answer = Taken; end = drained_at n close e }
-ends_as (Some fault) asking n mark e = record { answer = Closed (error_of fault); end = closed_by (reason_of fault) e }
-
--- what a payload comes to that asks for an acknowledgement or doesn't, where it was taken so far
-abbrev pub judged : Progress → Bool → ℕ → Option EcnCodepoint → Outcome
-judged p asking n mark = ends_as p.fault asking n mark p.end
-
 -- whether an item of a payload asks for an acknowledgement
 abbrev pub item_asks : Result FrameValue InvalidFrame → Bool
 item_asks (Ok f) = asks f
@@ -377,9 +358,52 @@ item_asks (Err x) = false
 abbrev pub asks_in : List (Result FrameValue InvalidFrame) → Bool
 asks_in is = list_any item_asks is
 
+-- whether a packet of these items is to be acknowledged at once for its mark: it came with CE, and
+-- asks for an acknowledgement, or newly acknowledges one that does (section 13.2.1). One that only
+-- acknowledges what needn't be acknowledged is answered by none: else two ends on a path that marks
+-- each packet would acknowledge acknowledgements without end
+abbrev pub is_urged : Option EcnCodepoint → List (Result FrameValue InvalidFrame) → End → Bool
+is_urged mark is e = is_congested mark && (asks_in is || items_answer is e)
+
+-- the whole payload of a packet of this number was taken, which asks for an acknowledgement or
+-- doesn't, is to be acknowledged at once for its mark or isn't, and came with this mark or with
+-- none: the number is to be acknowledged, and the mark counts (section 13.4.1)
+abbrev pub number_noted : ℕ → Bool → Bool → Option EcnCodepoint → End → End
+number_noted n asking urged mark e =
+    let now = e.closing.clock in
+    let p = with_due urged (after_insert e.acknowledging n now) in
+    record e {
+      numbers = number_taken e.numbers n;
+      acknowledging = after_packet p now n asking e.numbers.opened;
+      timers = timers_after e.frequency.own_delay e.timers p now n asking e.numbers.opened;
+      marks = record e.marks { came = after_mark mark e.marks.came };
+    }
+
+-- the times without a packet begin anew, and the loss timer is set to what the frames left
+abbrev pub after_taken : ℕ → Bool → Bool → Option EcnCodepoint → End → End
+after_taken n asking urged mark e = with_loss_timer (packet_heard (number_noted n asking urged mark e))
+
+-- the peer closed: the number of its packet counts as taken, and the end is drained (section
+-- 10.2.2)
+abbrev pub drained_at : ℕ → CloseValue → End → End
+drained_at n close e = drained_by (reasons.Peer close) (with_numbers e (number_taken e.numbers n))
+
+-- all frames were taken; or the peer closed; or one was at fault: those before it keep their effect
+abbrev pub ends_as : Option Fault → Bool → Bool → ℕ → Option EcnCodepoint → End → Outcome
+ends_as None asking urged n mark e = record { answer = Taken; end = after_taken n asking urged mark e }
+ends_as (Some (closed_by_peer close)) asking urged n mark e = record { answer = Taken; end = drained_at n close e }
+ends_as (Some fault) asking urged n mark e = record { answer = Closed (error_of fault); end = closed_by (reason_of fault) e }
+
+-- what a payload comes to that asks for an acknowledgement or doesn't, at once or not, where it was
+-- taken so far
+abbrev pub judged : Progress → Bool → Bool → ℕ → Option EcnCodepoint → Outcome
+judged p asking urged n mark = ends_as p.fault asking urged n mark p.end
+
 -- a packet that opened at an open end, under a number that didn't come before
 abbrev pub processed : Opening → Arrival → End → Outcome
-processed o arrival e = judged (take_payload o.first (items o.payload) (with_closing e (ticked e.closing arrival.now))) (asks_in (items o.payload)) o.number arrival.mark
+processed o arrival e =
+    let now = with_closing e (ticked e.closing arrival.now) in
+    judged (take_payload o.first (items o.payload) now) (asks_in (items o.payload)) (is_urged arrival.mark (items o.payload) now) o.number arrival.mark
 
 -- a closing end reads nothing of the packet, and its close is to go once more (section 10.2.1)
 abbrev pub by_state : State → Opening → Arrival → End → Outcome

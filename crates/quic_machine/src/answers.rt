@@ -40,7 +40,8 @@ pub enum LostReason {
     Application,
     /// The peer closed it, and said this (RFC 9000, section 19.19).
     Peer(PeerClose),
-    /// More than 2048 runs of a stream waited to be read.
+    /// More runs of a stream waited to be read than its receive window lets: one for each 1,024
+    /// bytes of it, and 2048 at least.
     Pieces,
     /// Nothing came for the idle timeout (RFC 9000, section 10.1).
     Idle,
@@ -93,7 +94,7 @@ impl fmt::Display for LostReason {
         match self {
             LostReason::Application => f.write_str("closed by the application"),
             LostReason::Peer(close) => write!(f, "closed by the peer: {close}"),
-            LostReason::Pieces => f.write_str("more than 2048 pieces of a stream waited"),
+            LostReason::Pieces => f.write_str("too many pieces of a stream waited"),
             LostReason::Idle => f.write_str("timed out"),
             LostReason::KeyLimit => f.write_str("a limit of the key was reached"),
             LostReason::NumberLimit => f.write_str("the packet numbers were used up"),

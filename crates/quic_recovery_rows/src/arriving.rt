@@ -93,7 +93,7 @@ pub fn ranges_are_acknowledged()
         ≡ 0x02 ∷ 0x04 ∷ 0x43 ∷ 0x6b ∷ 0x02 ∷ 0x00 ∷ 0x00 ∷ 0x00 ∷ 0x00 ∷ 0x00 ∷ [] }
 {}
 
-/// One that came with CE is acknowledged at once, and the frame has the counts.
+/// One that asks and came with CE is acknowledged at once, and the frame has the counts.
 pub fn congested_packet_is_acknowledged_at_once()
     ensures due { can_send (comes_with true nothing_came 0).pending ≡ true }
     ensures frame { ack_spelling (ack_at (comes_with true nothing_came 0).pending (millis 7) (Some (0, 0, 1)))

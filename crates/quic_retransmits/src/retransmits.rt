@@ -366,17 +366,29 @@ impl Retransmits {
         self.max_stream_data.pop_first()
     }
 
-    /// STREAM_DATA_BLOCKED of a stream waits (RFC 9000, section 19.13).
+    /// STREAM_DATA_BLOCKED of a stream waits (RFC 9000, section 19.13). The answer is whether it
+    /// didn't before.
     ///
     /// # Errors
     ///
-    /// - [`AllocError`]: an allocation fails. Nothing changes.
-    pub fn insert_stream_data_blocked(&mut self, id: StreamId) -> Result<(), AllocError>
+    /// - [`AllocError`]: an allocation fails, where the stream's didn't wait before. Nothing
+    ///   changes.
+    pub fn insert_stream_data_blocked(&mut self, id: StreamId) -> Result<bool, AllocError>
         ensures ok { OnOk result (self.new ≡ record self.old { stream_data_blocked = with_id id self.old.stream_data_blocked }) }
+        ensures answer { IfOk result (λ is_new. is_new ≡ not (has_id id self.old.stream_data_blocked)) }
         ensures err { OnErr result (self.new ≡ self.old) }
+        ensures lacking { OnErr result (has_id id self.old.stream_data_blocked ≡ false) }
     {
-        self.stream_data_blocked.insert(id)?;
-        Ok(())
+        let is_new = self.stream_data_blocked.insert(id)?;
+        Ok(is_new)
+    }
+
+    /// Takes back the STREAM_DATA_BLOCKED of a stream that was made to wait, and hadn't waited
+    /// before or had.
+    pub fn take_back_stream_data_blocked(&mut self, id: StreamId, was_new: bool)
+        ensures { (before : Waiting) → self.old ≡ record before { stream_data_blocked = with_id id before.stream_data_blocked } → was_new ≡ not (has_id id before.stream_data_blocked) → self.new ≡ before }
+    {
+        self.stream_data_blocked.take_back(id, was_new);
     }
 
     /// STREAM_DATA_BLOCKED of a stream waits no more.

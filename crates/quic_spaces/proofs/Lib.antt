@@ -6,3 +6,4 @@ pub mod NamedLaws
 pub mod WalkLaws
 pub mod RecordLaws
 pub mod MarkLaws
+pub mod AskingLaws

@@ -1,5 +1,5 @@
 -- What an ACK frame takes out of tracked packets.
-use Rattle.std.proofs.Common.{◌≡◌, ℕ, ◌-◌, ◌≤◌, ◌<◌, Bool, true, false, not, ◌||◌, nat_le, cond, List, [], ◌∷◌, ◌++◌, filter, reverse, Option, Some, None, is_some, refl, sym, ap, ◌∙◌, subst, arith}
+use Rattle.std.proofs.Common.{◌≡◌, ℕ, ◌-◌, ◌≤◌, ◌<◌, Bool, true, false, not, ◌&&◌, ◌||◌, nat_lt, nat_le, cond, List, [], ◌∷◌, ◌++◌, filter, reverse, Some, None, refl, sym, ap, ◌∙◌, subst, arith}
 use Rattle.std.specs.Option.{option_map}
 use Rattle.std.specs.List.{AllByRecursion}
 use Rattle.std.specs.Map.{keys_of}
@@ -7,7 +7,7 @@ use Rattle.std.specs.BTreeMap.{is_at}
 use Rattle.std.specs.Ordering.{nat_cmp}
 use Rattle.std.specs.declared.cmp.Ordering.TheVariants.{Less}
 use Rattle.std.specs.Cmp.{unsigned_tied, ranked}
-use Rattle.std.proofs.lemmas.Bool.{leb-true, le-leb, lt-leb, eq-eqb, ne_eqb, and_parts, and_right}
+use Rattle.std.proofs.lemmas.Bool.{lt-ltb, le-ltb, leb-true, le-leb, lt-leb, eq-eqb, ne_eqb, and_parts, and_right}
 use Rattle.std.proofs.lemmas.List.{append_assoc, reverse-append}
 use Rattle.std.specs.List.Sorted.{IsStrictlySortedBy}
 use Rattle.std.proofs.lemmas.List.Elements.{All-head, All-tail, All-same, All-filter}
@@ -110,6 +110,27 @@ pub taken_last : (low high : ℕ) (es rest : Table TrackedPacket) (n : ℕ) (v :
 taken_last low high es rest n v up e =
     let t = takes_last (is_within low high) (is_within low (n - 1)) n v (below_within low high n) (above_without low n) es rest up e in
     (t.found, t.passes, t.others)
+
+-- whether a number lies from one on and below another
+abbrev pub is_before : ℕ → ℕ → ℕ → Bool
+is_before low n k = nat_le low k && nat_lt k n
+
+before_within : (low high n : ℕ) → is_within low high n ≡ true → (k : ℕ) → k < n → is_before low n k ≡ is_within low high k
+before_within low high n holds k l =
+    let top : n ≤ high = leb-true n high (and_parts (nat_le low n) (nat_le n high) holds).1 in
+    let under : nat_lt k n ≡ true = lt-ltb k n l in
+    let also : nat_le k high ≡ true = le-leb k high (omega (arith, l, top)) in
+    rw (under, also) refl
+
+none_before : (low n k : ℕ) → n < k → is_before low n k ≡ false
+none_before low n k l = and_right (nat_le low k) (nat_lt k n) (le-ltb k n (omega (arith, l)))
+
+-- the packet with the greatest number of a range is there and lies within, and the others lie before
+-- it
+pub last_before : (low high : ℕ) (es rest : Table TrackedPacket) (n : ℕ) (v : TrackedPacket) → Ascends es → within low high es ≡ rest ++ (n, v) ∷ [] → (at es n ≡ Some v) × (is_within low high n ≡ true) × (filter (λ e. is_before low n e.0) (without es n) ≡ rest)
+last_before low high es rest n v up e =
+    let t = takes_last (is_within low high) (is_before low n) n v (before_within low high n) (none_before low n) es rest up e in
+    (t.found, t.holds, t.passes)
 
 -- ---- the ranges of an ACK frame, one below the other
 

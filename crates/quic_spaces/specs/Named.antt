@@ -1,9 +1,18 @@
--- Which tracked packets an ACK frame takes out, range by range.
-use Rattle.std.specs.Prelude.{ℕ, ◌≤◌, Bool, not, List, [], ◌∷◌, filter}
+-- Which tracked packets an ACK frame names or takes out, range by range.
+use Rattle.std.specs.Prelude.{ℕ, ◌≤◌, Bool, false, not, List, [], ◌∷◌, filter, Option, None, Some}
 use Rattle.std.specs.List.{list_any}
 use Rattle.quic_wire.specs.AckGrammar.{Below}
-use Rattle.quic_streams_parts.specs.Table.{Table}
+use Rattle.quic_streams_parts.specs.Table.{Table, at}
 use Rattle.quic_sent_packets.specs.Packets.{TrackedPacket, is_within}
+
+-- whether there is a packet that asks
+abbrev pub asks_if : Option TrackedPacket → Bool
+asks_if None = false
+asks_if (Some p) = p.asks
+
+-- whether there is one of this number
+abbrev pub asks_at : Table TrackedPacket → ℕ → Bool
+asks_at packets n = asks_if (at packets n)
 
 -- the packets whose numbers don't lie between two others
 abbrev pub outside : ℕ → ℕ → Table TrackedPacket → Table TrackedPacket

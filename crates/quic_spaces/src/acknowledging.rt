@@ -59,9 +59,9 @@ impl Acknowledging {
     }
 
     /// A packet of this number was taken at this moment, which asks for an acknowledgement or
-    /// doesn't: whether the timer of acknowledgements is to be set. It is to be acknowledged at
-    /// once where it came with the mark CE (RFC 9000, section 13.2.1). `dedup` has the numbers
-    /// opened, this one too.
+    /// doesn't: whether the timer of acknowledgements is to be set. One that is `urged` is to be
+    /// acknowledged at once (RFC 9000, section 13.2.1). `dedup` has the numbers opened, this one
+    /// too.
     ///
     /// # Errors
     ///
@@ -71,16 +71,16 @@ impl Acknowledging {
         number: u64,
         now: Instant,
         asks: bool,
-        congested: bool,
+        urged: bool,
         dedup: &Dedup,
     ) -> Result<bool, AllocError>
         requires { number < 2 ^ 62 }
-        ensures waits { IfOk result (λ waits. waits ≡ packet_starts_wait (with_due congested (after_insert self.old number now)) number asks dedup.now) }
-        ensures ok { OnOk result (self.new ≡ after_packet (with_due congested (after_insert self.old number now)) now number asks dedup.now) }
+        ensures waits { IfOk result (λ waits. waits ≡ packet_starts_wait (with_due urged (after_insert self.old number now)) number asks dedup.now) }
+        ensures ok { OnOk result (self.new ≡ after_packet (with_due urged (after_insert self.old number now)) now number asks dedup.now) }
         ensures err { OnErr result (self.new ≡ self.old) }
     {
         self.pending.insert_one(number, now)?;
-        if congested {
+        if urged {
             self.pending.set_immediate_ack_required();
         }
         Ok(self.pending.packet_received(now, number, asks, dedup))

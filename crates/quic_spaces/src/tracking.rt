@@ -6,7 +6,7 @@ ghost use Rattle.quic_sent_packets.specs.Packets.{Ascends, asks_any, has_in_flig
 ghost use Rattle.quic_spaces.specs.Tracking.{nothing_tracked, is_behind, forgotten, after_sent, after_loss_timeout, after_answered, acked_by, not_acked_by};
 ghost use Rattle.quic_spaces.specs.Tail.{tail_start, at_if, without_if, one_if};
 ghost use Rattle.quic_spaces.specs.Walks.{StepsTo};
-ghost use Rattle.quic_spaces.specs.Named.{outside, among, apart_from, Descends};
+ghost use Rattle.quic_spaces.specs.Named.{asks_at, outside, among, apart_from, Descends};
 
 use quic_sent_packets::{SentPacket, SentPackets};
 use quic_time::Instant;
@@ -101,6 +101,16 @@ fn is_there(packets: &SentPackets, number: u64) -> bool
 {
     match packets.get(number) {
         Some(_) => true,
+        None => false,
+    }
+}
+
+/// Whether a packet has this number and asks.
+fn is_asking(packets: &SentPackets, number: u64) -> bool
+    ensures { result ≡ asks_at packets.now number }
+{
+    match packets.get(number) {
+        Some(packet) => packet.ack_eliciting,
         None => false,
     }
 }
@@ -296,6 +306,37 @@ impl Tracking {
     {
         self.timeouts = 0;
         self.probes = 0;
+    }
+
+    /// Whether an ACK frame names a tracked packet that asks for an acknowledgement. Nothing is
+    /// taken out.
+    pub fn names_asking(&self, frame: &Ack<'_>) -> bool
+        ensures { result ≡ asks_any (acked_by frame.now self.now.packets) }
+    {
+        for range in frame.iter() {
+            if self.asks_within(*range.start(), *range.end()) {
+                return true;
+            }
+        }
+        false
+    }
+
+    /// Whether a packet asks that has a number of a range. It looks at the greatest first, and at
+    /// none below one that asks.
+    fn asks_within(&self, low: u64, high: u64) -> bool
+        ensures { result ≡ asks_any (within low high self.now.packets) }
+    {
+        let mut last = high;
+        while let Some(number) = self.packets.last_within(low, last) {
+            if is_asking(&self.packets, number) {
+                return true;
+            }
+            if number == low {
+                return false;
+            }
+            last = number - 1;
+        }
+        false
     }
 
     /// Takes out the packets that an ACK frame names, and appends them to `acked` with their

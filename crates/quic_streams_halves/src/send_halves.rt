@@ -167,6 +167,16 @@ impl SendHalves {
         half.set_blocked(blocked);
     }
 
+    /// STREAM_DATA_BLOCKED of a part says this limit, if the part is in use.
+    pub fn set_said_limit(&mut self, id: StreamId, limit: u64)
+        ensures { self.new ≡ changed (λ h. record h { said = Some limit }) self.old id }
+    {
+        let Some(half) = self.live.get_mut(u64::from(id)) else {
+            return;
+        };
+        half.set_said_limit(limit);
+    }
+
     /// The first `len` bytes of chunks go behind those that were written on a part, if it is in
     /// use, each chunk as a piece that shares its bytes, and wait to go.
     ///

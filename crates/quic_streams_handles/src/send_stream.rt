@@ -52,12 +52,12 @@ impl<'a> SendStream<'a> {
     /// - [`WriteError::ClosedStream`]: there is no such stream, or its sending half is done.
     ///   Nothing changes.
     /// - [`WriteError::Blocked`]: the connection's limit or the send window leaves no room. The
-    ///   stream is noted as blocked, DATA_BLOCKED is pending where that limit is used up, and no
-    ///   byte is taken.
+    ///   stream is noted as blocked, DATA_BLOCKED is queued where that limit is used up and isn't
+    ///   the one that such a frame said last, and no byte is taken.
     /// - [`WriteError::ClosedStream`]: the stream was finished or reset. Nothing changes.
     /// - [`WriteError::Stopped`]: the peer sent STOP_SENDING for the stream. Nothing changes.
     /// - [`WriteError::Blocked`]: the stream's own limit leaves no room. STREAM_DATA_BLOCKED is
-    ///   pending, and no byte is taken.
+    ///   queued unless such a frame of the stream said that limit last, and no byte is taken.
     /// - [`WriteError::Memory`]: an allocation fails, of room to take some bytes, or to note that
     ///   the stream is blocked. Nothing changes.
     pub fn write(&mut self, data: &[u8]) -> Result<usize, WriteError>
@@ -85,12 +85,12 @@ impl<'a> SendStream<'a> {
     /// - [`WriteError::ClosedStream`]: there is no such stream, or its sending half is done.
     ///   Nothing changes.
     /// - [`WriteError::Blocked`]: the connection's limit or the send window leaves no room. The
-    ///   stream is noted as blocked, DATA_BLOCKED is pending where that limit is used up, and no
-    ///   byte is taken.
+    ///   stream is noted as blocked, DATA_BLOCKED is queued where that limit is used up and isn't
+    ///   the one that such a frame said last, and no byte is taken.
     /// - [`WriteError::ClosedStream`]: the stream was finished or reset. Nothing changes.
     /// - [`WriteError::Stopped`]: the peer sent STOP_SENDING for the stream. Nothing changes.
     /// - [`WriteError::Blocked`]: the stream's own limit leaves no room. STREAM_DATA_BLOCKED is
-    ///   pending, and no byte is taken.
+    ///   queued unless such a frame of the stream said that limit last, and no byte is taken.
     /// - [`WriteError::Memory`]: an allocation fails, of room to take some bytes, or to note that
     ///   the stream is blocked. Nothing changes.
     pub fn write_chunks(&mut self, chunks: &[Bytes]) -> Result<Written, WriteError>

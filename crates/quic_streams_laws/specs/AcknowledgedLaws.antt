@@ -79,6 +79,7 @@ module _ (arrived : ℕ → ℕ → Type 0) (end_arrived : ℕ → Type 0) where
   along = record {
     fresh = λ id limit. record { bytes = λ o has. absurd has; end = λ e. absurd (not_so e) };
     blocked = λ id h b x. same_arrived (arrived id) (end_arrived id) h (record h { blocked = b }) refl refl x;
+    noted = λ id h said x. same_arrived (arrived id) (end_arrived id) h (record h { said = said }) refl refl x;
     placed = λ id h p x. same_arrived (arrived id) (end_arrived id) h (record h { place = p }) refl refl x;
     grown = λ id h bytes x. same_arrived (arrived id) (end_arrived id) h (grown h bytes) refl refl x;
     ended = λ id h x. same_arrived (arrived id) (end_arrived id) h (ended h) refl refl x;

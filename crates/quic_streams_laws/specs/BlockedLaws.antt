@@ -134,4 +134,5 @@ blocked_kept (changes.joins id h) s is i = record { shape = shape_kept (changes.
 blocked_kept (changes.passes id ids) s is i = record { shape = shape_kept (changes.passes id ids) s is i.shape; blocked = blocked_passes s id ids is i.blocked }
 blocked_kept (changes.ends_sending id h) s (is, over) i = record { shape = shape_kept (changes.ends_sending id h) s (is, over) i.shape; blocked = blocked_sent s id i.shape i.blocked }
 blocked_kept (changes.ends_receiving id h) s is i = record { shape = shape_kept (changes.ends_receiving id h) s is i.shape; blocked = blocked_done (not (is_own s.side id) && (not (is_two_way (dir_of id)) || is_done (sending_status s id))) id (record s { receiving = record s.receiving { halves = without_half s.receiving.halves id; gone = s.receiving.gone + seen_at (at s.receiving.halves.live id) } }) (record { once = i.blocked.once; told = i.blocked.told; used = i.blocked.used }) }
+blocked_kept (changes.notes_on id h said) s is i = record { shape = shape_kept (changes.notes_on id h said) s is i.shape; blocked = blocked_same s id h (record h { said = said }) is refl i.shape i.blocked }
 blocked_kept c s may i = record { shape = shape_kept c s may i.shape; blocked = record { once = i.blocked.once; told = i.blocked.told; used = i.blocked.used } }

@@ -29,9 +29,11 @@ pub record EachSends (F : ℕ → ℕ → Type 0) (N : ℕ → Type 0) (Q : ℕ 
   pub each : (id : ℕ) → HalfIs (N id) (Q id) (D id) (at s.sending.halves.live id) (has_place s.side s.sending.halves.places id)
 
 -- they hold of a half that comes into use, and of one that is done; and it doesn't matter to them
--- whether a half is blocked, or where it stands in the queue
+-- whether a half is blocked, which limit the peer was told to be used up, or where it stands in the
+-- queue
 pub record AreOfHalves (F : ℕ → ℕ → Type 0) (N : ℕ → Type 0) (Q : ℕ → SendHalf → Type 0) (D : ℕ → Type 0) : Type 0 where
   pub fresh : (id limit : ℕ) → F id limit → N id → Q id (new_send_half limit)
   pub over : (id : ℕ) (h : SendHalf) → Q id h → HasEnded h → D id
   pub blocked : (id : ℕ) (h : SendHalf) (b : Bool) → Q id h → Q id (record h { blocked = b })
+  pub noted : (id : ℕ) (h : SendHalf) (said : Option ℕ) → Q id h → Q id (record h { said = said })
   pub placed : (id : ℕ) (h : SendHalf) (p : Option (ℕ × ℕ)) → Q id h → Q id (record h { place = p })

@@ -164,4 +164,5 @@ module _ (F : ℕ → ℕ → Type 0) (N : ℕ → Type 0) (Q : ℕ → SendHalf
   each_kept (changes.changes_receiving r id old new) s (is, on, same) i = record { shape = shape_any (changes.changes_receiving r id old new) s (is, tt, same) i.shape; first = i.first; each = i.each }
   each_kept (changes.ends_receiving id h) s may i = each_done (not (is_own s.side id) && (not (is_two_way (dir_of id)) || is_done (sending_status s id))) id (record s { receiving = record s.receiving { halves = without_half s.receiving.halves id; gone = s.receiving.gone + seen_at (at s.receiving.halves.live id) } })
       (record { shape = shape_received s id i.shape; first = i.first; each = i.each })
+  each_kept (changes.notes_on id h said) s is i = record { shape = shape_kept (changes.notes_on id h said) s is i.shape; first = i.first; each = each_put s id h (record h { said = said }) (k.noted id h said (said_of s id h is i)) i }
   each_kept c s may i = record { shape = shape_kept c s may i.shape; first = i.first; each = i.each }

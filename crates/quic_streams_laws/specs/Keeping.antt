@@ -1,6 +1,6 @@
 -- The small changes that calls and frames make of all streams of one end: a fact that each of them
 -- keeps is kept by every word.
-use Rattle.std.specs.Prelude.{◌≡◌, ℕ, ◌+◌, ◌-◌, ◌<◌, ◌≤◌, ◌⊎◌, Bool, true, ◌==◌, if◌then◌else◌, List, [], ◌∷◌, Some, None}
+use Rattle.std.specs.Prelude.{◌≡◌, ℕ, ◌+◌, ◌-◌, ◌<◌, ◌≤◌, ◌⊎◌, Bool, true, ◌==◌, if◌then◌else◌, List, [], ◌∷◌, Option, Some, None}
 use Rattle.std.specs.Option.{is_some}
 use Rattle.quic_wire_core.specs.declared.stream_id.Dir.{Dir}
 use Rattle.quic_assembler.specs.Arrived.{bytes_read_of}
@@ -16,13 +16,16 @@ use Rattle.quic_streams_state.specs.State.{Receiving, seen, sending_half, receiv
 use Rattle.quic_streams_state.specs.Limits.{most_streams, raised_data}
 use Rattle.quic_streams_state.specs.Opening.{opens, opened_if, beyond, announced_count}
 use Rattle.quic_streams_state.specs.Taking.{joined}
+use Rattle.quic_streams_state.specs.Control.{blocked_told}
 use Rattle.quic_streams_state.specs.Writing.{put_queued}
 use Rattle.quic_streams_state.specs.Telling.{unblocked_at}
 
--- a sending half that stands where it stood in the queue, and is blocked as it was
+-- a sending half that stands where it stood in the queue, is blocked as it was, and whose limit the
+-- peer was told to be used up no more than before
 pub record StandsAlike (old new : SendHalf) : Type 0 where
   pub place : new.place ≡ old.place
   pub blocked : new.blocked ≡ old.blocked
+  pub said : new.said ≡ old.said
 
 -- a sending half on which nothing was written, and whose limit didn't fall
 pub record SendsOn (old new : SendHalf) : Type 0 where
@@ -114,6 +117,10 @@ pub data Change : Type 0 where
   tells : Change
   tells_on : ℕ → RecvHalf → Change
   tells_count : Dir → Change
+  -- the peer is told that a limit on all streams is used up; and which limit of a sending half it
+  -- was told so, which may be none
+  notes : ℕ → Change
+  notes_on : ℕ → SendHalf → Option ℕ → Change
 
 -- the streams that a change leaves
 abbrev pub after : Change → StreamsState → StreamsState
@@ -136,6 +143,8 @@ after (ends_receiving id h) s = recv_done s id
 after tells s = record s { receiving = record s.receiving { announced = raised_data s.receiving } }
 after (tells_on id h) s = with_recv s id (record h { announced = raised_on s.receiving.stream_window h })
 after (tells_count dir) s = record s { opening = announced_count dir s.opening }
+after (notes limit) s = record s { sending = blocked_told s.sending limit }
+after (notes_on id h said) s = with_send s id (record h { said = said })
 
 -- what is asked of changes: of a receiving half, of a sending half, and of one on which bytes are
 -- written; of streams that are accepted; of streams that it is told are finished; of sending halves
@@ -170,6 +179,8 @@ May q (ends_receiving id h) s = at s.receiving.halves.live id ≡ Some h
 May q tells s = Unit {0}
 May q (tells_on id h) s = at s.receiving.halves.live id ≡ Some h
 May q (tells_count dir) s = Unit {0}
+May q (notes limit) s = Unit {0}
+May q (notes_on id h said) s = sending_half s id ≡ Some h
 
 -- a fact that each small change keeps, where receiving halves change only as R says of them,
 -- sending halves as S says, and those on which bytes are written as W says; where streams of the

@@ -24,7 +24,7 @@ use Rattle.quic_streams_parts.specs.Events.{others_of}
 use Rattle.quic_streams_parts.specs.Table.{at}
 use Rattle.quic_streams_parts.specs.TableLaws.{at-put, at-added}
 use Rattle.quic_streams_parts.specs.Dirs.{of, is_own, is_two_way}
-use Rattle.quic_streams_parts.specs.SendHalf.{SendHalf, new_send_half, written_on, room_on, is_ready, has_pending, written_to, taken_unless, grown, grown_all, ended, reset_now, half_after, half_acked, half_lost, is_acked, requeued_at, Queued, finish_of, finish_unless}
+use Rattle.quic_streams_parts.specs.SendHalf.{SendHalf, new_send_half, was_said, written_on, room_on, is_ready, has_pending, written_to, taken_unless, grown, grown_all, ended, reset_now, half_after, half_acked, half_lost, is_acked, requeued_at, Queued, finish_of, finish_unless}
 use Rattle.quic_streams_parts.specs.RecvHalf.{RecvHalf, credit, raised_on, breaks_final, with_offsets_of, with_frame, reset_by, new_recv_half, stopped_now, begun, read_on, next_of, end_of, after_frame, after_reset_stream}
 use Rattle.quic_streams_halves.specs.Halves.{Halves, half_of, status_from, with_half, placed, has_place, changed_at}
 use Rattle.quic_retransmits.specs.Retransmits.{Retransmits}
@@ -47,7 +47,7 @@ use Rattle.quic_streams_state.specs.Telling.{Passing, Telling, passed as passed_
 use Rattle.quic_streams_state.specs.Frames.{Sent, stream_room, after_frame_sent, with_stream_frames}
 use Rattle.std.specs.List.{fold}
 use Rattle.quic_sets.specs.Offsets.{has_any}
-use Rattle.quic_streams_state.specs.Control.{limit_told}
+use Rattle.quic_streams_state.specs.Control.{limit_told, blocked_told_on}
 use Rattle.quic_streams_laws.specs.ControlWalk as walk
 use Rattle.quic_streams_laws.specs.Keeping.{finishes_in, SeesMore, CreditIs, all_of_it, as_before, some_more, EndsThere, ReceivesOn, SendsOn, WritesOn, KeepsBy, KeepsWhere, KeepsAll, MayAccept, unblocked}
 use Rattle.quic_streams_laws.specs.Keeping as changes
@@ -117,6 +117,7 @@ taken_ready h room len n e = go (room == 0) (is_ready h) refl e
 record GrownBy (h t : SendHalf) (n : ℕ) : Type 0 where
   place : t.place ≡ h.place
   blocked : t.blocked ≡ h.blocked
+  said : t.said ≡ h.said
   limit : t.limit ≡ h.limit
   reset : t.reset ≡ h.reset
   unsent : t.buffer.unsent ≡ h.buffer.unsent
@@ -127,7 +128,7 @@ grown_all_by h cs =
     let g = writes_add h.buffer cs in
     let base = g.base in
     let kept = g.kept in
-    record { place = refl; blocked = refl; limit = refl; reset = refl; unsent = g.unsent; bytes = omega (arith, base, kept) }
+    record { place = refl; blocked = refl; said = refl; limit = refl; reset = refl; unsent = g.unsent; bytes = omega (arith, base, kept) }
 
 -- buffers that are cut have as many bytes as they are cut to
 pub cut_bytes : (n : ℕ) (cs : List (List ℕ)) → n ≤ bytes_of cs → bytes_of (cut_to n cs) ≡ n
@@ -276,32 +277,32 @@ keeps_same to from k c s may i = to (changes.after c s) (k c s may (from s i))
 
 -- ---- what changes of a sending half
 
-record_same : (h new : SendHalf) → new.place ≡ h.place → new.blocked ≡ h.blocked → written_on new ≡ written_on h → h.limit ≤ new.limit → SendsOn h new
-record_same h new place blocked as_many limit = record { stands = record { place = place; blocked = blocked }; as_many = as_many; limit = limit }
+record_same : (h new : SendHalf) → new.place ≡ h.place → new.blocked ≡ h.blocked → new.said ≡ h.said → written_on new ≡ written_on h → h.limit ≤ new.limit → SendsOn h new
+record_same h new place blocked said as_many limit = record { stands = record { place = place; blocked = blocked; said = said }; as_many = as_many; limit = limit }
 
 -- its end, and a reset
 pub ended_on : (h : SendHalf) → SendsOn h (ended h)
-ended_on h = record_same h (ended h) refl refl refl (omega arith)
+ended_on h = record_same h (ended h) refl refl refl refl (omega arith)
 
 pub reset_now_on : (h : SendHalf) → SendsOn h (reset_now h)
-reset_now_on h = record_same h (reset_now h) refl refl refl (omega arith)
+reset_now_on h = record_same h (reset_now h) refl refl refl refl (omega arith)
 
 -- a priority, a stop and a limit
 pub priority_on : (h : SendHalf) (priority : ℤ) → SendsOn h (record h { priority = priority })
-priority_on h priority = record_same h (record h { priority = priority }) refl refl refl (omega arith)
+priority_on h priority = record_same h (record h { priority = priority }) refl refl refl refl (omega arith)
 
 pub stop_on : (h : SendHalf) (code : ℕ) → SendsOn h (stopped_half h code)
-stop_on h code = record_same h (stopped_half h code) refl refl refl (omega arith)
+stop_on h code = record_same h (stopped_half h code) refl refl refl refl (omega arith)
 
 pub limit_on : (h : SendHalf) (limit : ℕ) → h.limit < limit → SendsOn h (limited_half h limit)
-limit_on h limit above = record_same h (limited_half h limit) refl refl refl (omega arith)
+limit_on h limit above = record_same h (limited_half h limit) refl refl refl refl (omega arith)
 
 -- a frame of it goes, or is lost
 pub polled_on : (h : SendHalf) (room : ℕ) → SendsOn h (half_after h room)
-polled_on h room = record_same h (half_after h room) refl refl refl (omega arith)
+polled_on h room = record_same h (half_after h room) refl refl refl refl (omega arith)
 
 pub lost_on : (h : SendHalf) (m : StreamMeta) → SendsOn h (half_lost h m)
-lost_on h m = record_same h (half_lost h m) refl refl refl (omega arith)
+lost_on h m = record_same h (half_lost h m) refl refl refl refl (omega arith)
 
 -- pieces that are passed are some of those that are kept
 within_pieces : (ns : List ℕ) (room : ℕ) → passed ns room ≤ bytes_in ns
@@ -317,7 +318,7 @@ acked_as_many h m whole =
 
 -- or is acknowledged
 pub acked_on : (h : SendHalf) (m : StreamMeta) → bytes_in h.buffer.pieces ≡ length h.buffer.kept → SendsOn h (half_acked h m)
-acked_on h m whole = record_same h (half_acked h m) refl refl (acked_as_many h m whole) (omega arith)
+acked_on h m whole = record_same h (half_acked h m) refl refl refl (acked_as_many h m whole) (omega arith)
 
 -- a half without a code wasn't reset
 pub free : (o : Option ℕ) → is_some o ≡ false → o ≡ None
@@ -448,12 +449,13 @@ module _ {R : Receiving → ℕ → RecvHalf → RecvHalf → Type 0} {S : Strea
       → ((n : ℕ) (old new : SendHalf) → sending_half s id ≡ Some old → WritesOn (room s.sending) n old new → W s id n old new) → P s → P (accepted_at (Some h) s id bytes)
   by_accepted s id h bytes is bounded none fits within on p = cond_both (length bytes == 0) s (grown_by h s id bytes) P (λ e. p) (λ e.
       let some : 0 < length bytes = omega (arith, eqb-false (length bytes) 0 e) in
-      k (changes.writes id (length bytes) h (grown h bytes)) s (is, (on (length bytes) h (grown h bytes) is (record { stands = record { place = refl; blocked = refl }; more = more_written h bytes none; limit = refl; fits = fits; within = within })), (or_left _ _ (grows h.buffer bytes bounded some))) p)
+      k (changes.writes id (length bytes) h (grown h bytes)) s (is, (on (length bytes) h (grown h bytes) is (record { stands = record { place = refl; blocked = refl; said = refl }; more = more_written h bytes none; limit = refl; fits = fits; within = within })), (or_left _ _ (grows h.buffer bytes bounded some))) p)
 
   -- what was written is at most what is kept
   pub by_blocked : (s : StreamsState) (p : Retransmits) (id : ℕ) (o : Option SendHalf) → sending_half s id ≡ o → P s → P (blocked_at o s p id).state
   by_blocked s p id None is q = q
-  by_blocked s p id (Some h) is q = cond_both {A = Streams} (room s.sending == 0) _ _ (λ t. P t.state) (λ e. k (changes.joins id h) s is q) (λ e. q)
+  by_blocked s p id (Some h) is q = cond_both {A = Streams} (room s.sending == 0) _ _ (λ t. P t.state) (λ e. k (changes.joins id h) s is q) (λ e.
+      cond_both {A = Streams} (was_said h.said h.limit) _ _ (λ t. P t.state) (λ f. q) (λ f. k (changes.notes_on id h h.said) s is q))
 
   -- the answer to a write: what the rules say, or want of memory
   pub by_write : (is_open : Bool) (s : StreamsState) (p : Retransmits) (id : ℕ) (bytes : List ℕ) → ((h : SendHalf) → sending_half s id ≡ Some h → h.buffer.unsent ≤ written h.buffer)
@@ -674,7 +676,14 @@ module _ {R : Receiving → ℕ → RecvHalf → RecvHalf → Type 0} {S : Strea
       by_option (at s.receiving.halves.live id) (λ o. P (record s { receiving = record s.receiving { halves = record s.receiving.halves { live = changed_at o told s.receiving.halves.live id } } })) (λ e. q)
       (λ h e. subst (λ o. P (record s { receiving = record s.receiving { halves = placed o s.side s.receiving.halves id (told h) } })) e (k (changes.tells_on id h) s e q))
 
-  -- and on several
+  -- the peer is told that a limit on a stream is used up
+  pub by_blocked_told : (s : StreamsState) (id limit : ℕ) → P s → P (record s { sending = blocked_told_on s.sending id limit })
+  by_blocked_told s id limit q =
+      let told : SendHalf → SendHalf = λ h. record h { said = Some limit } in
+      by_option (at s.sending.halves.live id) (λ o. P (record s { sending = record s.sending { halves = record s.sending.halves { live = changed_at o told s.sending.halves.live id } } })) (λ e. q)
+      (λ h e. subst (λ o. P (record s { sending = record s.sending { halves = placed o s.side s.sending.halves id (told h) } })) e (k (changes.notes_on id h (Some limit)) s (live_sends s id h e) q))
+
+  -- and how far it may come on several
   pub by_limits_told : (ids : List ℕ) (s : StreamsState) → P s → P (record s { receiving = fold limit_told s.receiving ids })
   by_limits_told [] s q = q
   by_limits_told (id ∷ ids) s q = by_limits_told ids (record s { receiving = limit_told s.receiving id }) (by_limit_told s id q)
@@ -688,7 +697,7 @@ module _ {R : Receiving → ℕ → RecvHalf → RecvHalf → Type 0} {S : Strea
   chunks_taken s id h cs (suc n) is bounded none fits within all on q =
       let g : GrownBy h (grown_all h (cut_to (suc n) cs)) (bytes_of (cut_to (suc n) cs)) = grown_all_by h (cut_to (suc n) cs) in
       let count : bytes_of (cut_to (suc n) cs) ≡ suc n = cut_bytes (suc n) cs all in
-      k (changes.writes id (suc n) h (grown_all h (cut_to (suc n) cs))) s (is, (on (suc n) h (grown_all h (cut_to (suc n) cs)) is (record { stands = record { place = g.place; blocked = g.blocked }; more = grown_more h (grown_all h (cut_to (suc n) cs)) (suc n) (bytes_of (cut_to (suc n) cs)) count none g; limit = g.limit; fits = fits; within = within })), (grown_pending h (grown_all h (cut_to (suc n) cs)) (bytes_of (cut_to (suc n) cs)) g bounded (omega arith))) q
+      k (changes.writes id (suc n) h (grown_all h (cut_to (suc n) cs))) s (is, (on (suc n) h (grown_all h (cut_to (suc n) cs)) is (record { stands = record { place = g.place; blocked = g.blocked; said = g.said }; more = grown_more h (grown_all h (cut_to (suc n) cs)) (suc n) (bytes_of (cut_to (suc n) cs)) count none g; limit = g.limit; fits = fits; within = within })), (grown_pending h (grown_all h (cut_to (suc n) cs)) (bytes_of (cut_to (suc n) cs)) g bounded (omega arith))) q
 
   pub by_write_chunks : (is_open : Bool) (s : StreamsState) (p : Retransmits) (id : ℕ) (cs : List (List ℕ)) → ((h : SendHalf) → sending_half s id ≡ Some h → h.buffer.unsent ≤ written h.buffer)
       → ((n : ℕ) (old new : SendHalf) → sending_half s id ≡ Some old → WritesOn (room s.sending) n old new → W s id n old new) → P s → P (after_write_chunks is_open (write_chunks_answer is_open s id cs) s p id cs).state

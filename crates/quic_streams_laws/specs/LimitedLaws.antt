@@ -324,4 +324,5 @@ limits_kept (changes.ends_receiving id h) s is i = record { shape = shape_kept (
 limits_kept changes.tells s may i = record { shape = shape_kept changes.tells s tt i.shape; limits = record { accepted = i.limits.accepted; written = i.limits.written; announced = omega arith; seen = i.limits.seen; halves = i.limits.halves; window = i.limits.window; counts = i.limits.counts } }
 limits_kept (changes.tells_on id h) s is i = record { shape = shape_kept (changes.tells_on id h) s is i.shape; limits = limits_told s id h is i.shape i.limits }
 limits_kept (changes.tells_count dir) s may i = record { shape = shape_kept (changes.tells_count dir) s tt i.shape; limits = record { accepted = i.limits.accepted; written = i.limits.written; announced = i.limits.announced; seen = i.limits.seen; halves = i.limits.halves; window = i.limits.window; counts = λ d. told_counts dir d s.opening (i.limits.counts d) } }
+limits_kept (changes.notes_on id h said) s is i = record { shape = shape_kept (changes.notes_on id h said) s is i.shape; limits = limits_send s id (record h { said = said }) (written_was s id h is i.limits) i.limits }
 limits_kept c s may i = record { shape = shape_kept c s may i.shape; limits = record { accepted = i.limits.accepted; written = i.limits.written; announced = i.limits.announced; seen = i.limits.seen; halves = i.limits.halves; window = i.limits.window; counts = i.limits.counts } }

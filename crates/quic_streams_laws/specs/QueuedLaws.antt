@@ -219,4 +219,5 @@ queue_kept (changes.joins id h) s is i = record { shape = shape_kept (changes.jo
 queue_kept (changes.passes id ids) s is i = record { shape = shape_kept (changes.passes id ids) s is i.shape; queue = queue_passes s id ids i.queue }
 queue_kept (changes.ends_sending id h) s (is, over) i = record { shape = shape_kept (changes.ends_sending id h) s (is, over) i.shape; queue = queue_sent s id h is i.shape i.queue }
 queue_kept (changes.ends_receiving id h) s is i = record { shape = shape_kept (changes.ends_receiving id h) s is i.shape; queue = queue_done (not (is_own s.side id) && (not (is_two_way (dir_of id)) || is_done (sending_status s id))) id (record s { receiving = record s.receiving { halves = without_half s.receiving.halves id; gone = s.receiving.gone + seen_at (at s.receiving.halves.live id) } }) (record { stand = i.queue.stand; pending = i.queue.pending }) }
+queue_kept (changes.notes_on id h said) s is i = record { shape = shape_kept (changes.notes_on id h said) s is i.shape; queue = queue_same s id h (record h { said = said }) is refl refl i.queue }
 queue_kept c s may i = record { shape = shape_kept c s may i.shape; queue = record { stand = i.queue.stand; pending = i.queue.pending } }

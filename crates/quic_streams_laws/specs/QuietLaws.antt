@@ -2,38 +2,36 @@
 -- what an end sends.
 use Rattle.std.proofs.Common.{◌≡◌, ℕ, refl}
 use Rattle.quic_wire_core.specs.declared.stream_id.Dir.{Dir}
-use Rattle.quic_wire.specs.Value.{FrameValue, max_data, max_stream_data, max_streams}
+use Rattle.quic_wire.specs.Value.{FrameValue, max_data, max_stream_data, max_streams, data_blocked, stream_data_blocked}
 use Rattle.quic_streams_parts.specs.SendHalf.{SendHalf}
 use Rattle.quic_streams_parts.specs.RecvHalf.{RecvHalf}
 use Rattle.quic_streams_state.specs.declared.state.StreamsState.{StreamsState}
 use Rattle.quic_streams_state.specs.State.{Receiving}
 use Rattle.quic_streams_state.specs.Opening.{announced_count}
-use Rattle.quic_streams_state.specs.Control.{Draft, data_told, limit_told, dir_named, frame_told, with_control_frames}
+use Rattle.quic_streams_state.specs.Control.{Draft, data_told, limit_told, blocked_told, blocked_told_on, dir_named, frame_told, with_control_frames}
 use Rattle.quic_streams_laws.specs.ControlWalk.{by_control}
 use Rattle.quic_streams_laws.specs.Keeping.{KeepsWhere, KeepsAll}
 use Rattle.quic_streams_laws.specs.Keeping as changes
-use Rattle.quic_streams_laws.specs.KeepingLaws.{by_open, by_max_streams, by_write, by_write_chunks, by_finish, by_reset, by_set_priority, by_polled, by_stop_sending, by_max_data, by_max_stream_data, by_stream_acked, by_stream_lost, by_reset_acked, by_stream_frames, by_limit_told}
+use Rattle.quic_streams_laws.specs.KeepingLaws.{by_open, by_max_streams, by_write, by_write_chunks, by_finish, by_reset, by_set_priority, by_polled, by_stop_sending, by_max_data, by_max_stream_data, by_stream_acked, by_stream_lost, by_reset_acked, by_stream_frames, by_limit_told, by_blocked_told}
 use Rattle.quic_streams_laws.specs.Quiet.{IsQuiet}
 
 -- ---- a frame of control goes
 
--- what each limit that may be told leaves, any frame leaves
+-- what each limit that may be told leaves, and that one is used up, any frame leaves
 pub by_tells : (P : StreamsState → Type 0) (s : StreamsState) → P s → P (record s { receiving = data_told s.receiving }) → ((id : ℕ) → P (record s { receiving = limit_told s.receiving id })) → ((dir : Dir) → P (record s { opening = announced_count dir s.opening }))
-    → (f : FrameValue) → P (frame_told f s)
-by_tells P s same all one counts (max_data limit) = all
-by_tells P s same all one counts (max_stream_data f) = one f.id
-by_tells P s same all one counts (max_streams f) = counts (dir_named f.one_way)
-by_tells P s same all one counts f = same
-
--- so the sending halves stay as they were
-pub told_sending : (f : FrameValue) (s : StreamsState) → (frame_told f s).sending ≡ s.sending
-told_sending f s = by_tells (λ t. t.sending ≡ s.sending) s refl refl (λ id. refl) (λ dir. refl) f
+    → ((limit : ℕ) → P (record s { sending = blocked_told s.sending limit })) → ((id limit : ℕ) → P (record s { sending = blocked_told_on s.sending id limit })) → (f : FrameValue) → P (frame_told f s)
+by_tells P s same all one counts blocked blocked_on (max_data limit) = all
+by_tells P s same all one counts blocked blocked_on (max_stream_data f) = one f.id
+by_tells P s same all one counts blocked blocked_on (max_streams f) = counts (dir_named f.one_way)
+by_tells P s same all one counts blocked blocked_on (data_blocked limit) = blocked limit
+by_tells P s same all one counts blocked blocked_on (stream_data_blocked f) = blocked_on f.id f.limit
+by_tells P s same all one counts blocked blocked_on f = same
 
 module _ {R : Receiving → ℕ → RecvHalf → RecvHalf → Type 0} {S : StreamsState → ℕ → SendHalf → SendHalf → Type 0} {W : StreamsState → ℕ → ℕ → SendHalf → SendHalf → Type 0} {A : StreamsState → Dir → Type 0} {F : ℕ → Type 0} {E : ℕ → SendHalf → Type 0}
     {L : StreamsState → ℕ → Type 0} (P : StreamsState → Type 0) (k : KeepsWhere R S W A F E L P) where
   -- once a frame of control went
   pub by_told : (f : FrameValue) (s : StreamsState) → P s → P (frame_told f s)
-  by_told f s q = by_tells P s q (k changes.tells s tt q) (λ id. by_limit_told P k s id q) (λ dir. k (changes.tells_count dir) s tt q) f
+  by_told f s q = by_tells P s q (k changes.tells s tt q) (λ id. by_limit_told P k s id q) (λ dir. k (changes.tells_count dir) s tt q) (λ limit. k (changes.notes limit) s tt q) (λ id limit. by_blocked_told P k s id limit q) f
 
   pub by_control_frames : (most : ℕ) (d : Draft) → P d.state → P (with_control_frames most d).state
   by_control_frames most d q = by_control most (λ d. P d.state) (record {

@@ -301,6 +301,7 @@ shape_any (changes.ends_sending id h) s may i = shape_done _ id _ (shape_without
 shape_any (changes.changes_receiving r id old new) s (is, on, same) i = receive_with s id old new is i
 shape_any (changes.ends_receiving id h) s may i = shape_done _ id _ (shape_received s id i)
 shape_any (changes.tells_on id h) s is i = receive_with s id h _ (live_receives s id h is) i
+shape_any (changes.notes_on id h said) s is i = send_with s id h (record h { said = said }) is i
 shape_any c s may i = record { sending = i.sending; receiving = i.receiving }
 
 pub shape_kept : Keeps IsShaped

@@ -220,4 +220,5 @@ module _ (n : ℕ) (big : 2 ^ 62 ≤ n) (first : ℕ → ℕ) where
       let b : Bool = not (is_own s.side id) && (not (is_two_way (dir_of id)) || is_done (sending_status s id)) in
       let t : StreamsState = record s { receiving = record s.receiving { halves = without_half s.receiving.halves id; gone = s.receiving.gone + seen_at (at s.receiving.halves.live id) } } in
       written_on_each s (recv_done s id) i.final i (shape_kept (changes.ends_receiving id h) s is i.shape) (few_kept (changes.ends_receiving id h) s is i.few) (done_accepted b id t) (λ j. done_written i.final b id t j)
+  written_kept (changes.notes_on id h said) s is i = written_on_each s (with_send s id (record h { said = said })) i.final i (shape_kept (changes.notes_on id h said) s is i.shape) (few_kept (changes.notes_on id h said) s is i.few) refl (written_same i.final s id h (record h { said = said }) is refl i.shape)
   written_kept c s may i = written_on_each s _ i.final i (shape_kept c s may i.shape) (few_kept c s may i.few) refl (λ j. refl)

@@ -132,9 +132,12 @@ module _ (w : Wrote) (h : SendHalf) (i : IsSendHalf w h) where
 
   -- ---- what changes nothing of that
 
-  -- whether it is blocked, its place and its priority
+  -- whether it is blocked, which limit the peer was told to be used up, its place and its priority
   pub blocked_holds : (b : Bool) → IsSendHalf w (record h { blocked = b })
   blocked_holds b = record { lawful = i.lawful; finished = i.finished; reset = i.reset; rest = i.rest; gone = λ e. (let k = i.gone e in record { kept = k.kept; end = k.end }); within = i.within; limit = i.limit; waits = i.waits; acked = i.acked }
+
+  pub noted_holds : (said : Option ℕ) → IsSendHalf w (record h { said = said })
+  noted_holds said = record { lawful = i.lawful; finished = i.finished; reset = i.reset; rest = i.rest; gone = λ e. (let k = i.gone e in record { kept = k.kept; end = k.end }); within = i.within; limit = i.limit; waits = i.waits; acked = i.acked }
 
   pub placed_holds : (p : _) → IsSendHalf w (record h { place = p })
   placed_holds p = record { lawful = i.lawful; finished = i.finished; reset = i.reset; rest = i.rest; gone = λ e. (let k = i.gone e in record { kept = k.kept; end = k.end }); within = i.within; limit = i.limit; waits = i.waits; acked = i.acked }

@@ -26,7 +26,7 @@ use Rattle.quic_streams_laws.specs.WroteLaws.{GoesAlong, HoldsWith, ended_over, 
 
 -- nothing further
 along : GoesAlong (λ id h. Unit {0}) (λ id w. IsOver w)
-along = record { fresh = λ id limit. tt; blocked = λ id h b x. tt; placed = λ id h p x. tt; grown = λ id h bytes x. tt; ended = λ id h x. tt; reset = λ id h x. tt; over = λ w id h i x ended. ended_over w h i ended }
+along = record { fresh = λ id limit. tt; blocked = λ id h b x. tt; noted = λ id h said x. tt; placed = λ id h p x. tt; grown = λ id h bytes x. tt; ended = λ id h x. tt; reset = λ id h x. tt; over = λ w id h i x ended. ended_over w h i ended }
 
 abbrev Each : (ℕ → Wrote) → StreamsState → Type 0
 Each wrote s = HoldsWith (λ id h. Unit {0}) (λ id w. IsOver w) wrote s

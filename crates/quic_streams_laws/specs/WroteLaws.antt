@@ -32,7 +32,7 @@ use Rattle.quic_streams_laws.specs.StartLaws.{shape_new, shape_set_params, nowhe
 use Rattle.quic_streams_laws.specs.Each.{HalfIs, EachSends, AreOfHalves}
 use Rattle.quic_streams_laws.specs.EachLaws.{each_with, each_kept, said_of}
 use Rattle.quic_streams_laws.specs.Written.{Wrote, HasSmallLimits, IsOver, IsSendHalf, nothing_done, with_bytes, with_end, with_reset, done_on, wrote_by, wrote_chunks_by, wrote_end_by, wrote_reset_by}
-use Rattle.quic_streams_laws.specs.WrittenHalves.{new_holds, grown_holds, grown_all_holds, cut_concat, ended_holds, reset_holds, blocked_holds, placed_holds}
+use Rattle.quic_streams_laws.specs.WrittenHalves.{new_holds, grown_holds, grown_all_holds, cut_concat, ended_holds, reset_holds, blocked_holds, noted_holds, placed_holds}
 
 -- ---- one stream
 
@@ -65,6 +65,7 @@ same_done id more wrote same q = elim (cases_eq q id) [
 pub record GoesAlong (X : ℕ → SendHalf → Type 0) (D : ℕ → Wrote → Type 0) : Type 0 where
   pub fresh : (id limit : ℕ) → X id (new_send_half limit)
   pub blocked : (id : ℕ) (h : SendHalf) (b : Bool) → X id h → X id (record h { blocked = b })
+  pub noted : (id : ℕ) (h : SendHalf) (said : Option ℕ) → X id h → X id (record h { said = said })
   pub placed : (id : ℕ) (h : SendHalf) (p : Option (ℕ × ℕ)) → X id h → X id (record h { place = p })
   pub grown : (id : ℕ) (h : SendHalf) (bytes : List ℕ) → X id h → X id (grown h bytes)
   pub ended : (id : ℕ) (h : SendHalf) → X id h → X id (ended h)
@@ -82,6 +83,7 @@ module _ (X : ℕ → SendHalf → Type 0) (D : ℕ → Wrote → Type 0) (k : G
     fresh = λ id limit small none. (subst (λ w. IsSendHalf w (new_send_half limit)) (sym none) (new_holds limit small), k.fresh id limit);
     over = λ id h i ended. k.over (wrote id) id h i.0 i.1 ended;
     blocked = λ id h b i. (blocked_holds (wrote id) h i.0 b, k.blocked id h b i.1);
+    noted = λ id h said i. (noted_holds (wrote id) h i.0 said, k.noted id h said i.1);
     placed = λ id h p i. (placed_holds (wrote id) h i.0 p, k.placed id h p i.1);
   }
 

@@ -100,9 +100,14 @@ reset_by h code size = record (cleared h) { seen = size; final = Some size; rese
 abbrev pub after_reset_stream : RecvHalf → ℕ → ℕ → RecvHalf
 after_reset_stream h code size = if h.stopped then record h { seen = size; final = Some size } else (if is_some h.reset then h else reset_by h code size)
 
--- more pieces wait than may: 2048, our choice, as section 21.7 names no number
-abbrev pub has_too_many : RecvHalf → Bool
-has_too_many h = nat_lt 2048 (runs_of h.arrived.parts)
+-- how many pieces of a stream may wait where so many bytes more than were read may come on it: one
+-- for each 1,024 of them, and 2048 at least, our choice, as section 21.7 names no number
+abbrev pub most_pieces : ℕ → ℕ
+most_pieces window = max 2048 (window / 1024)
+
+-- more pieces wait than may
+abbrev pub has_too_many : ℕ → RecvHalf → Bool
+has_too_many window h = nat_lt (most_pieces window) (runs_of h.arrived.parts)
 
 -- ---- reading (RFC 9000, section 2.2) and stopping (section 3.5)
 

@@ -14,8 +14,8 @@ use Rattle.quic_streams_parts.specs.declared.answers.FinishError.TheVariants as 
 -- what was written and may have to go; how far the peer lets it come; its priority; whether it is
 -- finished, whether its end waits to go, and whether its end is acknowledged; the final size that
 -- was told, if it was reset; the code with which the peer stopped it, if it did; and whether it is
--- among those whose write the connection blocked; and its place among the streams with something to
--- send, while it has something
+-- among those whose write the connection blocked; the limit that STREAM_DATA_BLOCKED said last, if
+-- one went; and its place among the streams with something to send, while it has something
 pub record SendHalf : Type 0 where
   pub buffer : Buffered
   pub limit : ℕ
@@ -26,11 +26,17 @@ pub record SendHalf : Type 0 where
   pub reset : Option ℕ
   pub stopped : Option ℕ
   pub blocked : Bool
+  pub said : Option ℕ
   pub place : Option Place
 
 -- a half on which nothing was done
 abbrev pub new_send_half : ℕ → SendHalf
-new_send_half limit = record { buffer = nothing_written; limit = limit; priority = pos 0; finished = false; end_waits = false; end_acked = false; reset = None; stopped = None; blocked = false; place = None }
+new_send_half limit = record { buffer = nothing_written; limit = limit; priority = pos 0; finished = false; end_waits = false; end_acked = false; reset = None; stopped = None; blocked = false; said = None; place = None }
+
+-- whether this limit is the one that a frame said last, which says that a limit is used up
+abbrev pub was_said : Option ℕ → ℕ → Bool
+was_said None limit = false
+was_said (Some said) limit = said == limit
 
 -- how many bytes were written on a half
 abbrev pub written_on : SendHalf → ℕ

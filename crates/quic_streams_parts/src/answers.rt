@@ -125,7 +125,8 @@ pub enum Breach {
     FinalSize,
     /// A count of streams above 2^60 (RFC 9000, section 19.11).
     FrameEncoding,
-    /// More than 2048 separate pieces wait to be read.
+    /// More pieces wait to be read than the stream's receive window lets: one for each 1,024 bytes
+    /// of it, and 2048 at least.
     Pieces,
 }
 

@@ -5,7 +5,7 @@ ghost use Rattle.std.specs.Result.{is_err};
 ghost use Rattle.quic_wire.specs.FrameView.{stream_view};
 ghost use Rattle.quic_assembler.specs.Arrived.{given_by, bytes_read_of, after_read, is_next_in, cuts};
 ghost use Rattle.quic_streams_parts.specs.Lacking.{FrameMayLack, read_may_lack};
-ghost use Rattle.quic_streams_parts.specs.RecvHalf.{new_recv_half, credit, raised_on, limit_grew, takes_limits, greatest_offset, least_growth, end_of, breaks_final, with_frame, with_offsets_of, seen_to, reset_by, stopped_now, has_too_many, is_illegal, begun, next_of, read_on, half_after_next, is_read_up};
+ghost use Rattle.quic_streams_parts.specs.RecvHalf.{new_recv_half, credit, raised_on, limit_grew, takes_limits, greatest_offset, least_growth, end_of, breaks_final, with_frame, with_offsets_of, seen_to, reset_by, stopped_now, most_pieces, has_too_many, is_illegal, begun, next_of, read_on, half_after_next, is_read_up};
 ghost use Rattle.quic_streams_parts.specs.declared.answers.ReadError.TheVariants as read_errors;
 
 use crate::answers::ReadError;
@@ -25,6 +25,14 @@ pub fn least_growth(window: u64) -> u64
     ensures some { 0 < result }
 {
     (window / 8).max(1)
+}
+
+// How many pieces of a stream may wait where so many bytes more than were read may come on it: one
+// for each 1,024 of them, and `MOST_PIECES` at least.
+fn most_pieces(stream_receive_window: u64) -> u64
+    ensures { result ≡ most_pieces stream_receive_window }
+{
+    (MOST_PIECES as u64).max(stream_receive_window / 1024)
 }
 
 // The final size that is known behind bytes up to an offset, with the end or without.
@@ -232,11 +240,12 @@ impl Recv {
         self.stopped = true;
     }
 
-    /// Whether more pieces wait than may.
-    pub fn has_too_many_pieces(&self) -> bool
-        ensures { result ≡ has_too_many self.now }
+    /// Whether more pieces wait than may, where so many bytes more than were read may come on the
+    /// stream.
+    pub fn has_too_many_pieces(&self, stream_receive_window: u64) -> bool
+        ensures { result ≡ has_too_many stream_receive_window self.now }
     {
-        self.assembler.runs() > MOST_PIECES
+        self.assembler.runs() as u64 > most_pieces(stream_receive_window)
     }
 
     /// A read begins, in order or not.

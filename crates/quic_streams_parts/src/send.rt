@@ -5,7 +5,7 @@ ghost use Rattle.quic_wire.specs.Writing.{stream_spelling, width_of};
 ghost use Rattle.quic_send_buffer.specs.Buffered.{writes_length};
 ghost use Rattle.quic_send_buffer.specs.Source.{cut_to};
 ghost use Rattle.quic_streams_parts.specs.Queue.{rank_of};
-ghost use Rattle.quic_streams_parts.specs.SendHalf.{new_send_half, written_on, room_on, is_ready, has_pending, is_acked, grown_all, ended, reset_now, reaches_end, frame_of, frame_counts, frame_meta, HasFrame, HasSent, meta_of, half_after, half_acked, half_lost};
+ghost use Rattle.quic_streams_parts.specs.SendHalf.{new_send_half, written_on, room_on, is_ready, has_pending, is_acked, grown_all, ended, reset_now, reaches_end, frame_of, frame_counts, frame_meta, HasFrame, HasSent, meta_of, half_after, half_acked, half_lost, was_said};
 
 use crate::pending_queue::Place;
 use bytes::Bytes;
@@ -51,6 +51,8 @@ pub struct Send {
     stop_reason: Option<VarInt>,
     // Whether it is among those whose write the connection blocked.
     connection_blocked: bool,
+    // The limit that STREAM_DATA_BLOCKED said last.
+    said_limit: Option<u64>,
     place: Option<Place>,
     alloc: Global,
 }
@@ -61,7 +63,7 @@ impl Model for Send {
 
     ghost Value = { SendHalf };
 
-    ghost view = { λ h. record { buffer = h.pending; limit = h.max_data; priority = h.priority; finished = h.finished; end_waits = h.fin_pending; end_acked = h.fin_acked; reset = h.reset; stopped = h.stop_reason; blocked = h.connection_blocked; place = h.place } };
+    ghost view = { λ h. record { buffer = h.pending; limit = h.max_data; priority = h.priority; finished = h.finished; end_waits = h.fin_pending; end_acked = h.fin_acked; reset = h.reset; stopped = h.stop_reason; blocked = h.connection_blocked; said = h.said_limit; place = h.place } };
 
     // A final size is below 2^62.
     ghost invariant = { λ h. is_size h.reset ≡ true };
@@ -82,6 +84,7 @@ impl Send {
             reset: None,
             stop_reason: None,
             connection_blocked: false,
+            said_limit: None,
             place: None,
             alloc,
         }
@@ -177,6 +180,16 @@ impl Send {
         self.connection_blocked
     }
 
+    /// Whether its limit is the one that STREAM_DATA_BLOCKED said last.
+    pub fn was_limit_said(&self) -> bool
+        ensures { result ≡ was_said self.now.said self.now.limit }
+    {
+        match self.said_limit {
+            Some(said) => said == self.max_data.into_inner(),
+            None => false,
+        }
+    }
+
     /// Sets how far the peer lets it come.
     pub fn set_max_data(&mut self, max_data: VarInt)
         ensures { self.new ≡ record self.old { limit = max_data } }
@@ -203,6 +216,13 @@ impl Send {
         ensures { self.new ≡ record self.old { blocked = blocked } }
     {
         self.connection_blocked = blocked;
+    }
+
+    /// STREAM_DATA_BLOCKED says this limit.
+    pub fn set_said_limit(&mut self, limit: u64)
+        ensures { self.new ≡ record self.old { said = Some limit } }
+    {
+        self.said_limit = Some(limit);
     }
 
     /// Sets where it stands in the queue.

@@ -3,3 +3,4 @@ pub mod SendBuffer
 pub mod Sources
 pub mod Messages
 pub mod Handles
+pub mod Limits

@@ -5,6 +5,7 @@
 
 pub mod assembler;
 pub mod handles;
+pub mod limits;
 pub mod messages;
 pub mod send_buffer;
 pub mod sources;

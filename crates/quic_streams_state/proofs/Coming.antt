@@ -77,6 +77,11 @@ told_ended false true id s = refl
 told_ended true true id s = done_told (not (is_own s.side id) && (not (is_two_way (dir_of id)) || is_done (sending_status s id))) id (stream_events.Readable id)
     (record s { receiving = record s.receiving { halves = without_half s.receiving.halves id; gone = s.receiving.gone + seen_at (at s.receiving.halves.live id) } })
 
+-- nor of how far a stream may come
+told_window : (tells : Bool) (id : ℕ) (s : StreamsState) → (readable_if tells id s).receiving.stream_window ≡ s.receiving.stream_window
+told_window true id s = refl
+told_window false id s = refl
+
 -- a part takes its value before the application is told, or after
 told_with : (tells : Bool) (id : ℕ) (h : RecvHalf) (s : StreamsState) → with_recv (readable_if tells id s) id h ≡ readable_if tells id (with_recv s id h)
 told_with true id h s = refl
@@ -110,7 +115,7 @@ changes false id h f s found = rw found refl
 -- ---- what the frames answer and leave
 
 -- that too many pieces wait is what a frame breaks that isn't refused
-pub stream_answer : (s : StreamsState) (f : StreamValue) (h : RecvHalf) → refusal s f.id (end_of f) f.fin ≡ None → part_for s f.id ≡ Some h → stream_breach s f ≡ too_many_at (Some h) f
+pub stream_answer : (s : StreamsState) (f : StreamValue) (h : RecvHalf) → refusal s f.id (end_of f) f.fin ≡ None → part_for s f.id ≡ Some h → stream_breach s f ≡ too_many_at s.receiving.stream_window (Some h) f
 stream_answer s f h e is = rw (e, is) refl
 
 pub stream_leaves : (s : StreamsState) (p : Retransmits) (f : StreamValue) (h : RecvHalf) → refusal s f.id (end_of f) f.fin ≡ None → part_for s f.id ≡ Some h → after_stream s p f ≡ settled (framed_at h s f) p
@@ -135,13 +140,15 @@ pub record IsTaken (s : StreamsState) (p : Retransmits) (f : StreamValue) (u : S
 
 -- so it is once the part took it and the application was told, and the stream opened
 pub is_taken : (s : StreamsState) (p : Retransmits) (f : StreamValue) (t u : StreamsState) (q : Retransmits) (crowded : Bool) (h : RecvHalf) → refusal s f.id (end_of f) f.fin ≡ None → part_for s f.id ≡ Some h
-    → t ≡ noted_on s f.id h (after_frame h f) true → IfSome (at t.receiving.halves.live f.id) (λ x. crowded ≡ has_too_many x) → u ≡ ended_if (is_over (at t.receiving.halves.live f.id)) f.id (opened_by t f.id) → q ≡ decided u p
+    → t ≡ noted_on s f.id h (after_frame h f) true → IfSome (at t.receiving.halves.live f.id) (λ x. crowded ≡ has_too_many t.receiving.stream_window x) → u ≡ ended_if (is_over (at t.receiving.halves.live f.id)) f.id (opened_by t f.id) → q ≡ decided u p
     → IsTaken s p f u q crowded
 is_taken s p f t u q crowded h allowed part kept many new pending =
     let leaves = stream_leaves s p f h allowed part in
     let state : u ≡ framed_at h s f = new ∙ settles s t f.id h (after_frame h f) true kept in
     let here = ap (λ (x : StreamsState). at x.receiving.halves.live f.id) kept ∙ at-with_half (readable_if (true && not (h.stopped || opens s f.id)) f.id s).side (readable_if (true && not (h.stopped || opens s f.id)) f.id s).receiving.halves f.id (after_frame h f) in
-    let more : crowded ≡ has_too_many (after_frame h f) = subst (λ (o : Option RecvHalf). IfSome o (λ x. crowded ≡ has_too_many x)) here many in
+    let window = ap (λ (x : StreamsState). x.receiving.stream_window) kept ∙ told_window (true && not (h.stopped || opens s f.id)) f.id s in
+    let those : crowded ≡ has_too_many t.receiving.stream_window (after_frame h f) = subst (λ (o : Option RecvHalf). IfSome o (λ x. crowded ≡ has_too_many t.receiving.stream_window x)) here many in
+    let more : crowded ≡ has_too_many s.receiving.stream_window (after_frame h f) = those ∙ ap (λ (n : ℕ). has_too_many n (after_frame h f)) window in
     record {
       answer = stream_answer s f h allowed part ∙ ap (λ (b : Bool). if b then Some Pieces else None) (sym more);
       new = state ∙ sym (ap (λ (x : Streams). x.state) leaves);
@@ -150,7 +157,7 @@ is_taken s p f t u q crowded h allowed part kept many new pending =
 
 -- the same of a part that is in use
 pub is_taken_live : (s : StreamsState) (p : Retransmits) (f : StreamValue) (t u : StreamsState) (q : Retransmits) (crowded : Bool) → refusal s f.id (end_of f) f.fin ≡ None → IsSome (at s.receiving.halves.live f.id)
-    → IfSome (at s.receiving.halves.live f.id) (λ h. t ≡ noted_on s f.id h (after_frame h f) true) → IfSome (at t.receiving.halves.live f.id) (λ x. crowded ≡ has_too_many x) → u ≡ ended_if (is_over (at t.receiving.halves.live f.id)) f.id (opened_by t f.id) → q ≡ decided u p
+    → IfSome (at s.receiving.halves.live f.id) (λ h. t ≡ noted_on s f.id h (after_frame h f) true) → IfSome (at t.receiving.halves.live f.id) (λ x. crowded ≡ has_too_many t.receiving.stream_window x) → u ≡ ended_if (is_over (at t.receiving.halves.live f.id)) f.id (opened_by t f.id) → q ≡ decided u p
     → IsTaken s p f u q crowded
 is_taken_live s p f t u q crowded allowed used kept many new pending = go (at s.receiving.halves.live f.id) refl used kept
   where

@@ -1,13 +1,13 @@
 -- What a frame leaves of all streams that comes first on its receiving part.
-use Rattle.std.proofs.Common.{◌≡◌, ℕ, ◌-◌, max, Bool, true, false, List, [], ◌∷◌, drop, Option, Some, None, IfSome, refl, sym, ap, subst, ◌∙◌}
+use Rattle.std.proofs.Common.{◌≡◌, ℕ, ◌-◌, max, Bool, true, false, List, [], ◌∷◌, drop, Option, Some, None, IfSome, refl, sym, ap, subst, ◌∙◌, arith}
 use Rattle.std.specs.Prelude.{nat_lt, ◌&&◌, ◌||◌, not}
 use Rattle.std.specs.Option.{is_some}
+use Rattle.std.proofs.lemmas.Bool.{le-ltb}
 use Rattle.quic_wire.specs.Value.{StreamValue, ResetStreamValue}
 use Rattle.quic_assembler.specs.Arrived.{runs_of, with_part, settled}
-use Rattle.quic_assembler.specs.declared.assembler.TheConstants.{MOST_PIECES}
 use Rattle.quic_retransmits.specs.Retransmits.{Retransmits}
 use Rattle.quic_streams_parts.specs.declared.answers.Breach.{Breach}
-use Rattle.quic_streams_parts.specs.RecvHalf.{RecvHalf, new_recv_half, end_of, after_frame, after_reset_stream, has_too_many}
+use Rattle.quic_streams_parts.specs.RecvHalf.{RecvHalf, new_recv_half, end_of, after_frame, after_reset_stream, most_pieces, has_too_many}
 use Rattle.quic_streams_parts.specs.Table.{at}
 use Rattle.quic_streams_state.specs.State.{StreamsState}
 use Rattle.quic_streams_state.specs.Limits.{decided}
@@ -24,12 +24,12 @@ refused_on s id end fin o lawful part =
     ∙ sym (ap (λ (p : Option RecvHalf). breach_at p s.receiving end fin) part)
 
 -- bytes where none wait are one piece at most
-one_piece : (offset : ℕ) (bytes : List ℕ) → nat_lt MOST_PIECES (runs_of (settled (with_part offset bytes []))) ≡ false
-one_piece offset [] = refl
-one_piece offset (b ∷ bytes) = refl
+one_piece : (window offset : ℕ) (bytes : List ℕ) → nat_lt (most_pieces window) (runs_of (settled (with_part offset bytes []))) ≡ false
+one_piece window offset [] = le-ltb (most_pieces window) 0 (omega arith)
+one_piece window offset (b ∷ bytes) = le-ltb (most_pieces window) 1 (omega arith)
 
-pub first_few : (window : ℕ) (f : StreamValue) → has_too_many (after_frame (new_recv_half window) f) ≡ false
-first_few window f = one_piece (max 0 f.offset) (drop (0 - f.offset) f.bytes)
+pub first_few : (window limit : ℕ) (f : StreamValue) → has_too_many window (after_frame (new_recv_half limit) f) ≡ false
+first_few window limit f = one_piece window (max 0 f.offset) (drop (0 - f.offset) f.bytes)
 
 -- the part that took its value
 at_noted : (s t : StreamsState) (id : ℕ) (old new : RecvHalf) (tells : Bool) → t ≡ noted_on s id old new tells → at t.receiving.halves.live id ≡ Some new
@@ -48,10 +48,10 @@ pub is_taken_first : (s : StreamsState) (p : Retransmits) (f : StreamValue) (t u
     → IsTaken s p f u q false
 is_taken_first s p f t u q h window fresh allowed part kept new pending =
     let here = at_noted s t f.id h (after_frame h f) true kept in
-    let few : has_too_many (after_frame h f) ≡ false = ap (λ (x : RecvHalf). has_too_many (after_frame x f)) fresh ∙ first_few window f in
+    let few : has_too_many t.receiving.stream_window (after_frame h f) ≡ false = ap (λ (x : RecvHalf). has_too_many t.receiving.stream_window (after_frame x f)) fresh ∙ first_few t.receiving.stream_window window f in
     let going : (after_frame h f).stopped ≡ false = ap (λ (x : RecvHalf). (after_frame x f).stopped) fresh in
     is_taken s p f t u q false h allowed part kept
-    (subst (λ (o : Option RecvHalf). IfSome o (λ x. false ≡ has_too_many x)) (sym here) (sym few))
+    (subst (λ (o : Option RecvHalf). IfSome o (λ x. false ≡ has_too_many t.receiving.stream_window x)) (sym here) (sym few))
     (new ∙ not_over t f.id (after_frame h f) here going) pending
 
 -- the first reset on a part likewise

@@ -1,3 +1,4 @@
+mod OwnLimit
 mod Buffers
 mod Counts
 mod ReadOn

@@ -20,7 +20,7 @@ use Rattle.quic_streams_halves.specs.Halves.{changed}
 use Rattle.quic_retransmits.specs.Retransmits.{Retransmits, with_id, first_of, others_of, control_kinds}
 use Rattle.quic_retransmits.specs.declared.retransmits.ControlKind.{ControlKind}
 use Rattle.quic_retransmits.specs.declared.retransmits.ControlKind.TheVariants.{ResetStream, StopSending, MaxData, MaxStreamData, MaxStreams, DataBlocked, StreamDataBlocked, NewConnectionId, RetireConnectionId}
-use Rattle.quic_streams_state.specs.State.{StreamsState, Receiving, sending_half}
+use Rattle.quic_streams_state.specs.State.{StreamsState, Sending, Receiving, sending_half}
 use Rattle.quic_streams_state.specs.Opening.{announced_count}
 use Rattle.quic_streams_state.specs.Limits.{raised_data, raised_count, can_send_data_blocked, can_send_flow_control}
 
@@ -148,11 +148,21 @@ abbrev pub dir_named : Bool → Dir
 dir_named true = Uni
 dir_named false = Bi
 
+-- the peer is told that this limit on all streams is used up
+abbrev pub blocked_told : Sending → ℕ → Sending
+blocked_told s limit = record s { said = Some limit }
+
+-- the peer is told that this limit on a stream is used up
+abbrev pub blocked_told_on : Sending → ℕ → ℕ → Sending
+blocked_told_on s id limit = record s { halves = changed (λ h. record h { said = Some limit }) s.halves id }
+
 -- the streams once a frame went: the peer is told what the frame says, as it is then
 abbrev pub frame_told : FrameValue → StreamsState → StreamsState
 frame_told (max_data limit) s = record s { receiving = data_told s.receiving }
 frame_told (max_stream_data f) s = record s { receiving = limit_told s.receiving f.id }
 frame_told (max_streams f) s = record s { opening = announced_count (dir_named f.one_way) s.opening }
+frame_told (data_blocked limit) s = record s { sending = blocked_told s.sending limit }
+frame_told (stream_data_blocked f) s = record s { sending = blocked_told_on s.sending f.id f.limit }
 frame_told f s = s
 
 -- the id that NEW_CONNECTION_ID gives

@@ -1,6 +1,6 @@
 -- What is kept of all streams of one end: how many there are, what is sent on them, and what has
 -- come (RFC 9000, section 4).
-use Rattle.std.specs.Prelude.{ℕ, ◌+◌, ◌-◌, ◌^◌, min, Bool, nat_lt, if◌then◌else◌, List, length}
+use Rattle.std.specs.Prelude.{ℕ, ◌+◌, ◌-◌, ◌^◌, min, Bool, nat_lt, if◌then◌else◌, List, length, Option}
 use Rattle.std.specs.List.{sum_by}
 use Rattle.std.specs.Map.{values_of}
 use Rattle.quic_wire_core.specs.declared.stream_id.Side.{Side}
@@ -29,7 +29,8 @@ pub record Opening : Type 0 where
 
 -- the sending parts; how many bytes were accepted on all streams, and how far these may come; how
 -- many bytes may be buffered; how far each kind of stream may come at first; the streams with
--- something to send; and those whose write the connection blocked, the latest first (section 4.1)
+-- something to send; those whose write the connection blocked, the latest first; and the limit that
+-- DATA_BLOCKED said last, if one went (section 4.1)
 pub record Sending : Type 0 where
   pub halves : Halves SendHalf
   pub accepted : ℕ
@@ -39,6 +40,7 @@ pub record Sending : Type 0 where
   pub first_remote : ℕ
   pub queue : Queue
   pub blocked : List ℕ
+  pub said : Option ℕ
 
 -- the receiving halves, and the final sizes of those that are done, summed; how many bytes more
 -- than were consumed may come, and how far the peer was told that they may come; and how many bytes

@@ -1,11 +1,11 @@
 -- Where calls on what this end sends may lack memory.
-use Rattle.std.specs.Prelude.{◌≡◌, ◌⊎◌, ℕ, ◌<◌, Bool, false, nat_lt, ◌==◌, ◌&&◌, ◌||◌, Option, Some, None, Result, Ok, Err}
+use Rattle.std.specs.Prelude.{◌≡◌, ◌⊎◌, ℕ, ◌<◌, Bool, false, nat_lt, ◌==◌, ◌&&◌, ◌||◌, if◌then◌else◌, Option, Some, None, Result, Ok, Err}
 use Rattle.std.specs.Option.{is_none}
 use Rattle.quic_send_buffer.specs.declared.stream_meta.StreamMeta.{StreamMeta}
 use Rattle.quic_streams_parts.specs.declared.answers.WriteError.{WriteError}
 use Rattle.quic_streams_parts.specs.declared.answers.WriteError.TheVariants as write_errors
 use Rattle.quic_streams_parts.specs.Table.{at}
-use Rattle.quic_streams_parts.specs.SendHalf.{SendHalf, HasSent}
+use Rattle.quic_streams_parts.specs.SendHalf.{SendHalf, HasSent, was_said}
 use Rattle.quic_streams_state.specs.State.{StreamsState}
 use Rattle.quic_streams_state.specs.Taking.{is_used_up}
 
@@ -13,10 +13,10 @@ use Rattle.quic_streams_state.specs.Taking.{is_used_up}
 abbrev pub is_idle : StreamsState → ℕ → Bool
 is_idle s id = is_none (at s.sending.halves.live id)
 
--- a part whose write is blocked is noted: as one that the connection blocks, unless it is already;
--- or as one that its own limit blocks
+-- whether that the write of a part is blocked is noted already: it is one that the connection
+-- blocks, or STREAM_DATA_BLOCKED said its own limit
 abbrev pub is_noted : ℕ → SendHalf → Bool
-is_noted room h = (room == 0) && h.blocked
+is_noted room h = if room == 0 then h.blocked else was_said h.said h.limit
 
 -- a write that is answered so on a part takes bytes, or notes that it is blocked
 abbrev pub WriteMayLack : Result ℕ WriteError → Option SendHalf → ℕ → Type 0

@@ -33,7 +33,7 @@ abbrev pub new_streams : Side → ℕ → ℕ → ℕ → ℕ → ℕ → Stream
 new_streams side max_remote_uni max_remote_bi send_window receive_window stream_receive_window = record {
   side = side;
   opening = no_opening max_remote_bi max_remote_uni;
-  sending = record { halves = no_halves; accepted = 0; limit = 0; window = send_window; first_own = no_count; first_remote = 0; queue = no_queue; blocked = [] };
+  sending = record { halves = no_halves; accepted = 0; limit = 0; window = send_window; first_own = no_count; first_remote = 0; queue = no_queue; blocked = []; said = None };
   receiving = record { halves = no_halves; gone = 0; window = receive_window; announced = receive_window; stream_window = stream_receive_window };
   events = no_events;
 }

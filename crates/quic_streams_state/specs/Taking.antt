@@ -72,10 +72,10 @@ abbrev pub stream_at : Option RecvHalf → StreamsState → Retransmits → Stre
 stream_at None s p f = streams_of s p
 stream_at (Some h) s p f = settled (renewed s f.id h (after_frame h f) true) p
 
--- the bound on pieces, where a frame breaks it on a part
-abbrev pub too_many_at : Option RecvHalf → StreamValue → Option Breach
-too_many_at None f = None
-too_many_at (Some h) f = if has_too_many (after_frame h f) then Some Pieces else None
+-- the bound on pieces, where a frame breaks it on a part of so large a window
+abbrev pub too_many_at : ℕ → Option RecvHalf → StreamValue → Option Breach
+too_many_at window None f = None
+too_many_at window (Some h) f = if has_too_many window (after_frame h f) then Some Pieces else None
 
 -- a frame that is refused leaves all as it was
 abbrev pub stream_unless : Option Breach → StreamsState → Retransmits → StreamValue → Streams
@@ -85,7 +85,7 @@ stream_unless None s p f = stream_at (part_for s f.id) s p f
 -- what a frame breaks: a rule before it is kept, or, once it is kept, the bound on pieces
 abbrev pub breach_kept : Option Breach → StreamsState → StreamValue → Option Breach
 breach_kept (Some b) s f = Some b
-breach_kept None s f = too_many_at (part_for s f.id) f
+breach_kept None s f = too_many_at s.receiving.stream_window (part_for s f.id) f
 
 -- the rule that a STREAM frame breaks, if it breaks one
 abbrev pub stream_breach : StreamsState → StreamValue → Option Breach

@@ -1,6 +1,6 @@
 -- What writes to streams answer and leave, their end, resets and priorities (RFC 9000, sections
 -- 2.2, 2.3, 3.1, 3.5 and 4.1).
-use Rattle.std.specs.Prelude.{ℕ, zero, suc, ℤ, nat_le, ◌+◌, ◌-◌, Bool, true, false, ◌==◌, ◌||◌, if◌then◌else◌, List, [], ◌∷◌, ◌++◌, length, take, Option, Some, None, Result, Ok, Err}
+use Rattle.std.specs.Prelude.{ℕ, zero, suc, ℤ, nat_le, ◌+◌, ◌-◌, Bool, true, false, ◌==◌, ◌&&◌, ◌||◌, not, if◌then◌else◌, List, [], ◌∷◌, ◌++◌, length, take, Option, Some, None, Result, Ok, Err}
 use Rattle.std.specs.Option.{is_some}
 use Rattle.quic_streams_parts.specs.declared.answers.Written.{Written}
 use Rattle.quic_streams_parts.specs.declared.answers.WriteError.{WriteError}
@@ -10,7 +10,7 @@ use Rattle.quic_streams_parts.specs.declared.answers.ClosedStream.{ClosedStream}
 use Rattle.quic_streams_parts.specs.declared.answers.UpdateError.{UpdateError}
 use Rattle.quic_streams_parts.specs.declared.answers.UpdateError.TheVariants as update_errors
 use Rattle.quic_send_buffer.specs.Source.{bytes_of}
-use Rattle.quic_streams_parts.specs.SendHalf.{SendHalf, written_to, finish_of, Queued, requeued}
+use Rattle.quic_streams_parts.specs.SendHalf.{SendHalf, was_said, written_to, finish_of, Queued, requeued}
 use Rattle.quic_retransmits.specs.Retransmits.{Retransmits, with_id}
 use Rattle.quic_streams_state.specs.State.{StreamsState, Streams, streams_of, sending_half, with_send, room}
 use Rattle.quic_streams_state.specs.Sends.{with_queued, grown_half, chunks_grown_half, finished_half, reset_half}
@@ -41,22 +41,29 @@ abbrev pub accepted_at : Option SendHalf → StreamsState → ℕ → List ℕ �
 accepted_at None s id bytes = s
 accepted_at (Some h) s id bytes = if length bytes == 0 then s else grown_by h s id bytes
 
--- DATA_BLOCKED waits where the peer's limit is used up
+-- whether the limit on all streams is used up, and isn't the one that DATA_BLOCKED said last: each
+-- is said once, and again only where that is lost (sections 4.1, 13.3 and 19.12)
+abbrev pub is_newly_used_up : StreamsState → Bool
+is_newly_used_up s = can_send_data_blocked s && not (was_said s.sending.said s.sending.limit)
+
+-- DATA_BLOCKED waits where the peer's limit is newly used up
 abbrev pub with_data_blocked : Bool → Retransmits → Retransmits
 with_data_blocked blocked p = record p { data_blocked = p.data_blocked || blocked }
 
 -- the connection leaves no room: the stream is told once it does
 abbrev pub blocked_by_all : StreamsState → Retransmits → ℕ → SendHalf → Streams
-blocked_by_all s p id h = streams_of (joined s id h) (with_data_blocked (can_send_data_blocked s) p)
+blocked_by_all s p id h = streams_of (joined s id h) (with_data_blocked (is_newly_used_up s) p)
 
--- the stream's own limit leaves no room: STREAM_DATA_BLOCKED waits
-abbrev pub blocked_by_own : StreamsState → Retransmits → ℕ → Streams
-blocked_by_own s p id = streams_of s (record p { stream_data_blocked = with_id id p.stream_data_blocked })
+-- the stream's own limit leaves no room: STREAM_DATA_BLOCKED waits, unless it said that limit last;
+-- the part is in use then, so that it keeps which one that is (section 19.13)
+abbrev pub blocked_by_own : StreamsState → Retransmits → ℕ → SendHalf → Streams
+blocked_by_own s p id h = if was_said h.said h.limit then streams_of s p
+    else streams_of (with_send s id h) (record p { stream_data_blocked = with_id id p.stream_data_blocked })
 
 -- a write on a part is blocked: by the connection, or by the stream's own limit
 abbrev pub blocked_at : Option SendHalf → StreamsState → Retransmits → ℕ → Streams
 blocked_at None s p id = streams_of s p
-blocked_at (Some h) s p id = if room s.sending == 0 then blocked_by_all s p id h else blocked_by_own s p id
+blocked_at (Some h) s p id = if room s.sending == 0 then blocked_by_all s p id h else blocked_by_own s p id h
 
 -- what a write leaves, by its answer
 abbrev pub written_by : Result ℕ WriteError → StreamsState → Retransmits → ℕ → List ℕ → Streams

@@ -103,7 +103,9 @@ fn note(frame: &Frame<'_>, sent: &mut Retransmits) -> Result<(), AllocError>
         }
         Frame::MaxStreams { dir, .. } => sent.set_max_stream_id(*dir, true),
         Frame::DataBlocked { .. } => sent.set_data_blocked(true),
-        Frame::StreamDataBlocked { id, .. } => sent.insert_stream_data_blocked(*id)?,
+        Frame::StreamDataBlocked { id, .. } => {
+            sent.insert_stream_data_blocked(*id)?;
+        }
         Frame::NewConnectionId(frame) => sent.push_new_cid(issued(frame))?,
         Frame::RetireConnectionId { sequence } => sent.push_retire_cid(*sequence)?,
         _ => {}
@@ -246,7 +248,7 @@ impl StreamsState {
         }
     }
 
-    // A frame goes: the peer is told a limit, if it says one.
+    // A frame goes: the peer is told a limit, or that one is used up, if it says so.
     fn tell(&mut self, frame: &Frame<'_>)
         ensures { self.new ≡ frame_told (frame_view frame.now) self.old }
     {
@@ -254,6 +256,10 @@ impl StreamsState {
             Frame::MaxData(_) => self.receiving.tell_max_data(),
             Frame::MaxStreamData { id, .. } => self.receiving.tell_max_stream_data(*id),
             Frame::MaxStreams { dir, .. } => self.opening.set_sent_max_remote(*dir),
+            Frame::DataBlocked { offset } => self.sending.tell_data_blocked(*offset),
+            Frame::StreamDataBlocked { id, offset } => {
+                self.sending.tell_stream_data_blocked(*id, *offset);
+            }
             _ => {}
         }
     }

@@ -7,7 +7,7 @@ ghost use Rattle.quic_streams_state.specs.Parts.{first_window, seen};
 ghost use Rattle.quic_streams_state.specs.State.{seen_at};
 ghost use Rattle.quic_streams_state.specs.Limits.{raised_data, data_grew, grew_on};
 ghost use Rattle.quic_streams_state.specs.Taking.{breach_on};
-ghost use Rattle.quic_streams_parts.specs.RecvHalf.{greatest_offset, new_recv_half, end_of, breaks_final, with_frame, after_frame, after_reset_stream, stopped_now, begun, is_illegal, next_of, half_after_next};
+ghost use Rattle.quic_streams_parts.specs.RecvHalf.{greatest_offset, new_recv_half, end_of, breaks_final, has_too_many, with_frame, after_frame, after_reset_stream, stopped_now, begun, is_illegal, next_of, half_after_next};
 ghost use Rattle.quic_streams_parts.specs.Lacking.{FrameMayLack, read_may_lack};
 ghost use Rattle.quic_streams_parts.specs.declared.answers.ReadError.TheVariants as read_errors;
 ghost use Rattle.quic_streams_halves.specs.Halves.{no_halves, has_place, with_half, without_half, changed};
@@ -133,6 +133,16 @@ impl Receiving {
     {
         match self.recv.get(id) {
             Some(half) => half.limit_grew(self.stream_receive_window),
+            None => false,
+        }
+    }
+
+    /// Whether more pieces wait than may on a half that is in use.
+    pub fn has_too_many_pieces(&self, id: StreamId) -> bool
+        ensures { IfSome (at self.now.halves.live id) (λ h. result ≡ has_too_many self.now.stream_window h) }
+    {
+        match self.recv.get(id) {
+            Some(half) => half.has_too_many_pieces(self.stream_receive_window),
             None => false,
         }
     }

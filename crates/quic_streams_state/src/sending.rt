@@ -3,7 +3,7 @@ ghost use Rattle.std.specs.Prelude.{◌≡◌, ◌≢◌, ◌<◌, ◌≤◌, []
 ghost use Rattle.std.specs.Option.{option_copied};
 ghost use Rattle.quic_send_buffer.specs.Source.{bytes_of};
 ghost use Rattle.quic_streams_parts.specs.Table.{at};
-ghost use Rattle.quic_streams_parts.specs.SendHalf.{new_send_half, room_on, written_to};
+ghost use Rattle.quic_streams_parts.specs.SendHalf.{new_send_half, room_on, was_said, written_to};
 ghost use Rattle.quic_streams_parts.specs.declared.answers.WriteError.TheVariants as write_errors;
 ghost use Rattle.quic_streams_state.specs.Blocking.{all_blocked_by};
 ghost use Rattle.quic_streams_state.specs.Parts.{first_limit_in, room};
@@ -15,6 +15,7 @@ ghost use Rattle.quic_streams_halves.specs.Halves.{no_halves, has_place, with_ha
 
 mod frames;
 mod renewed;
+mod telling;
 
 use crate::blocked::BlockedBy;
 use bytes::Bytes;
@@ -39,6 +40,8 @@ pub struct Sending {
     initial_max_remote: VarInt,
     pending: PendingStreams,
     connection_blocked: VecDeque<StreamId>,
+    // The limit that DATA_BLOCKED said last.
+    said_limit: Option<u64>,
     alloc: Global,
 }
 
@@ -47,7 +50,7 @@ impl Model for Sending {
 
     ghost Value = { parts.Sending };
 
-    ghost view = { λ s. record { halves = s.send; accepted = s.data_sent; limit = s.max_data; window = s.send_window; first_own = s.initial_max_own; first_remote = s.initial_max_remote; queue = s.pending; blocked = s.connection_blocked.items } };
+    ghost view = { λ s. record { halves = s.send; accepted = s.data_sent; limit = s.max_data; window = s.send_window; first_own = s.initial_max_own; first_remote = s.initial_max_remote; queue = s.pending; blocked = s.connection_blocked.items; said = s.said_limit } };
 }
 
 // Whether a half takes bytes, as far as its own limit goes.
@@ -61,7 +64,7 @@ impl Sending {
     /// Nothing was sent, nothing may be, and at most `send_window` bytes are buffered on all
     /// streams.
     pub fn new(alloc: Global, send_window: u64) -> Self
-        ensures { result ≡ record { halves = no_halves; accepted = 0; limit = 0; window = send_window; first_own = no_count; first_remote = 0; queue = no_queue; blocked = [] } }
+        ensures { result ≡ record { halves = no_halves; accepted = 0; limit = 0; window = send_window; first_own = no_count; first_remote = 0; queue = no_queue; blocked = []; said = None } }
     {
         Sending {
             send: SendHalves::new(alloc),
@@ -75,6 +78,7 @@ impl Sending {
             initial_max_remote: VarInt::from_u32(0),
             pending: PendingStreams::new(alloc),
             connection_blocked: VecDeque::new(alloc),
+            said_limit: None,
             alloc,
         }
     }
@@ -110,6 +114,16 @@ impl Sending {
         ensures { result ≡ nat_le self.now.limit self.now.accepted }
     {
         self.max_data.into_inner() <= self.data_sent
+    }
+
+    /// Whether how far the peer lets all streams come is the limit that DATA_BLOCKED said last.
+    pub fn was_limit_said(&self) -> bool
+        ensures { result ≡ was_said self.now.said self.now.limit }
+    {
+        match self.said_limit {
+            Some(said) => said == self.max_data.into_inner(),
+            None => false,
+        }
     }
 
     /// Whether a stream has something to send.

@@ -17,7 +17,7 @@ ghost use Rattle.quic_streams_state.specs.Waiting.{can_send_stream_data};
 ghost use Rattle.quic_streams_state.specs.Taking.{after_max_data, after_stop_sending, stop_at, sending_for};
 ghost use Rattle.quic_wire.specs.FrameView.{stop_sending_view};
 ghost use Rattle.quic_send_buffer.specs.Source.{bytes_of};
-ghost use Rattle.quic_streams_state.specs.Writing.{blocked_at, accepted_at, chunks_accepted_at, after_write, after_write_chunks, write_answer, write_chunks_answer, written_by, priority_answer, stopped_answer, finish_answer, after_finish, set_priority_answer, after_set_priority};
+ghost use Rattle.quic_streams_state.specs.Writing.{is_newly_used_up, blocked_at, accepted_at, chunks_accepted_at, after_write, after_write_chunks, write_answer, write_chunks_answer, written_by, priority_answer, stopped_answer, finish_answer, after_finish, set_priority_answer, after_set_priority};
 ghost use Rattle.quic_streams_parts.specs.declared.answers.WriteError.TheVariants as write_errors;
 ghost use Rattle.quic_streams_parts.specs.declared.answers.FinishError.TheVariants as finish_errors;
 ghost use Rattle.quic_streams_parts.specs.declared.answers.UpdateError.TheVariants as update_errors;
@@ -381,6 +381,65 @@ impl StreamsState {
         written_to(half, self.sending.room(), len)
     }
 
+    // Whether the peer's limit on all streams is used up, and isn't the one that DATA_BLOCKED said
+    // last.
+    fn is_newly_used_up(&self) -> bool
+        ensures { result ≡ is_newly_used_up self.now }
+    {
+        self.sending.is_used_up() && !self.sending.was_limit_said()
+    }
+
+    // A stream whose write is blocked by what all streams may send: the application is told once it
+    // takes bytes again, and DATA_BLOCKED waits where the peer's limit is newly used up.
+    fn block_by_all(&mut self, id: StreamId, pending: &mut Retransmits) -> Result<(), AllocError>
+        requires { room self.old.sending ≡ 0 }
+        ensures ok { OnOk result (self.new ≡ (blocked_at (sending_half self.old id) self.old pending.old id).state) }
+        ensures pending { OnOk result (pending.new ≡ (blocked_at (sending_half self.old id) self.old pending.old id).pending) }
+        ensures err { OnErr result (self.new ≡ self.old) }
+        ensures kept { OnErr result (pending.new ≡ pending.old) }
+        ensures lacking { OnErr result (IsSomeAnd (sending_half self.old id) (λ h. is_noted (room self.old.sending) h ≡ false)) }
+    {
+        let used_up = self.is_newly_used_up();
+        if self.sending.get(id).is_some() {
+            self.sending.block(id)?;
+        } else {
+            let Some(half) = self.fresh_send(id) else {
+                return Ok(());
+            };
+            self.sending.block_fresh(self.side, id, half)?;
+        }
+        pending.set_data_blocked(pending.data_blocked() || used_up);
+        Ok(())
+    }
+
+    // A stream whose write is blocked by its own limit: STREAM_DATA_BLOCKED waits unless it said
+    // that limit last. A half that isn't in use comes into use, to keep which limit that is.
+    fn block_by_own(&mut self, id: StreamId, pending: &mut Retransmits) -> Result<(), AllocError>
+        requires { room self.old.sending ≢ 0 }
+        ensures ok { OnOk result (self.new ≡ (blocked_at (sending_half self.old id) self.old pending.old id).state) }
+        ensures pending { OnOk result (pending.new ≡ (blocked_at (sending_half self.old id) self.old pending.old id).pending) }
+        ensures err { OnErr result (self.new ≡ self.old) }
+        ensures kept { OnErr result (pending.new ≡ pending.old) }
+        ensures lacking { OnErr result (IsSomeAnd (sending_half self.old id) (λ h. is_noted (room self.old.sending) h ≡ false)) }
+    {
+        if let Some(half) = self.sending.get(id) {
+            if half.was_limit_said() {
+                return Ok(());
+            }
+            pending.insert_stream_data_blocked(id)?;
+            return Ok(());
+        }
+        let Some(half) = self.fresh_send(id) else {
+            return Ok(());
+        };
+        let is_new = pending.insert_stream_data_blocked(id)?;
+        if self.sending.add(self.side, id, half).is_err() {
+            pending.take_back_stream_data_blocked(id, is_new);
+            return Err(AllocError);
+        }
+        Ok(())
+    }
+
     // A stream whose write is blocked by what all streams may send, or by its own limit: what the
     // peer is told of that waits, and the application is told once it takes bytes again.
     fn block(&mut self, id: StreamId, pending: &mut Retransmits) -> Result<(), AllocError>
@@ -390,23 +449,11 @@ impl StreamsState {
         ensures kept { OnErr result (pending.new ≡ pending.old) }
         ensures lacking { OnErr result (IsSomeAnd (sending_half self.old id) (λ h. is_noted (room self.old.sending) h ≡ false)) }
     {
-        let blocked = self.sending.room() == 0;
-        if self.sending.get(id).is_some() {
-            if !blocked {
-                return pending.insert_stream_data_blocked(id);
-            }
-            self.sending.block(id)?;
+        if self.sending.room() == 0 {
+            self.block_by_all(id, pending)
         } else {
-            let Some(half) = self.fresh_send(id) else {
-                return Ok(());
-            };
-            if !blocked {
-                return pending.insert_stream_data_blocked(id);
-            }
-            self.sending.block_fresh(self.side, id, half)?;
+            self.block_by_own(id, pending)
         }
-        pending.set_data_blocked(pending.data_blocked() || self.sending.is_used_up());
-        Ok(())
     }
 
     // Nothing is written, for this reason: where a limit blocks the write, that is noted. Says why,
@@ -535,12 +582,12 @@ impl StreamsState {
     /// - [`WriteError::ClosedStream`]: there is no such stream, or its sending half is done.
     ///   Nothing changes.
     /// - [`WriteError::Blocked`]: the connection's limit or the send window leaves no room. The
-    ///   stream is noted as blocked, DATA_BLOCKED is pending where that limit is used up, and no
-    ///   byte is taken.
+    ///   stream is noted as blocked, DATA_BLOCKED is queued where that limit is used up and isn't
+    ///   the one that such a frame said last, and no byte is taken.
     /// - [`WriteError::ClosedStream`]: the stream was finished or reset. Nothing changes.
     /// - [`WriteError::Stopped`]: the peer sent STOP_SENDING for the stream. Nothing changes.
     /// - [`WriteError::Blocked`]: the stream's own limit leaves no room. STREAM_DATA_BLOCKED is
-    ///   pending, and no byte is taken.
+    ///   queued unless such a frame of the stream said that limit last, and no byte is taken.
     /// - [`WriteError::Memory`]: an allocation fails, of room to take some bytes, or to note that
     ///   the stream is blocked. Nothing changes.
     pub fn write(
@@ -578,12 +625,12 @@ impl StreamsState {
     /// - [`WriteError::ClosedStream`]: there is no such stream, or its sending half is done.
     ///   Nothing changes.
     /// - [`WriteError::Blocked`]: the connection's limit or the send window leaves no room. The
-    ///   stream is noted as blocked, DATA_BLOCKED is pending where that limit is used up, and no
-    ///   byte is taken.
+    ///   stream is noted as blocked, DATA_BLOCKED is queued where that limit is used up and isn't
+    ///   the one that such a frame said last, and no byte is taken.
     /// - [`WriteError::ClosedStream`]: the stream was finished or reset. Nothing changes.
     /// - [`WriteError::Stopped`]: the peer sent STOP_SENDING for the stream. Nothing changes.
     /// - [`WriteError::Blocked`]: the stream's own limit leaves no room. STREAM_DATA_BLOCKED is
-    ///   pending, and no byte is taken.
+    ///   queued unless such a frame of the stream said that limit last, and no byte is taken.
     /// - [`WriteError::Memory`]: an allocation fails, of room to take some bytes, or to note that
     ///   the stream is blocked. Nothing changes.
     pub fn write_chunks(

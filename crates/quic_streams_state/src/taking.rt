@@ -4,7 +4,7 @@ ghost use Rattle.std.specs.Prelude.{ℕ, ◌≡◌, ◌||◌, not, true, false, 
 ghost use Rattle.std.specs.Option.{is_some};
 ghost use Rattle.quic_wire.specs.FrameView.{frame_view, stream_view, reset_stream_view};
 ghost use Rattle.quic_streams_parts.specs.Table.{at};
-ghost use Rattle.quic_streams_parts.specs.RecvHalf.{new_recv_half, end_of, after_frame, after_reset_stream, has_too_many};
+ghost use Rattle.quic_streams_parts.specs.RecvHalf.{new_recv_half, end_of, after_frame, after_reset_stream};
 ghost use Rattle.quic_streams_parts.specs.Answered.{AnswersBreach, UnlessMemory, OnMemory};
 ghost use Rattle.quic_streams_halves.specs.Halves.{is_done};
 ghost use Rattle.quic_streams_state.specs.State.{StreamsState, first_window, sending_status, recv_done};
@@ -172,16 +172,6 @@ impl StreamsState {
         }
     }
 
-    // Whether more pieces wait on a half that is in use than may.
-    fn has_too_many(&self, id: StreamId) -> bool
-        ensures { IfSome (at self.now.receiving.halves.live id) (λ h. result ≡ has_too_many h) }
-    {
-        match self.receiving.get(id) {
-            Some(half) => half.has_too_many_pieces(),
-            None => false,
-        }
-    }
-
     // The application is told that it may read, where it is so. An `Err` (want of memory) changes
     // nothing.
     fn tell_readable(&mut self, tells: bool, id: StreamId) -> Result<(), AllocError>
@@ -272,7 +262,7 @@ impl StreamsState {
         if self.keep(frame).is_err() {
             return Err(ReceivedError::Memory);
         }
-        let crowded = self.has_too_many(frame.id);
+        let crowded = self.receiving.has_too_many_pieces(frame.id);
         self.settle(frame.id, pending);
         if crowded {
             return Err(ReceivedError::Breach(Breach::Pieces));

@@ -324,7 +324,7 @@ same_flight read = refl
 
 -- so a control frame that waits behind such a call and didn't before breaks the clause, unless it
 -- is called for
-control_unasked : (s : Seen) (c : Control) (before e : End) → is_poll s.now.call ≡ false → s.before.flight.flying ≡ s.behind.flight.flying
+pub control_unasked : (s : Seen) (c : Control) (before e : End) → is_poll s.now.call ≡ false → s.before.flight.flying ≡ s.behind.flight.flying
     → asks_for s c ≡ false → control_waits before.waiting.frames c ≡ false → control_waits e.waiting.frames c ≡ true → BeginsAt s before e → ⊥
 control_unasked s c before e apart same unasked none waits h = elim (h (Frame c) waits) [
   | still waited stays ↦ both_ways (control_waits before.waiting.frames c) none waited

@@ -191,7 +191,7 @@ blocked_is_none = behind refl opens (stops _ _ _ _ _ client_no)
 abbrev pub small_says : ℕ → Type 0
 small_says window = parameters_at (small_parameters window) ≡ Ok (parameters_of (with_window window))
 
-eight_say : small_says 8
+pub eight_say : small_says 8
 unfolding parameters_at judged values_met met_in met_within met_after whole_at entry_at
 eight_say = refl
 
@@ -212,7 +212,7 @@ small_started window below says = record {
 pub small_room : (window : ℕ) → HaveRoom (small_start window)
 small_room window = record { controlled = record { client = have_room.controlled.client; server = have_room.controlled.server }; client = have_room.client; server = have_room.server }
 
-abbrev left_started : AreStarted (small_start 8)
+abbrev pub left_started : AreStarted (small_start 8)
 left_started = small_started 8 (lit< tt) eight_say
 
 left_own : (side : Side) → AreOwn side [] left_run.events left_run.answers left_run.views

@@ -6,7 +6,6 @@ use Rattle.quic_wire.specs.Value.{FrameValue, StreamValue, stream}
 use Rattle.quic_wire.specs.Items.{items}
 use Rattle.quic_wire.specs.Reading.{connection_close_at}
 use Rattle.quic_packet.specs.Datagram.{Opening}
-use Rattle.quic_assembler.specs.declared.assembler.TheConstants.{MOST_PIECES}
 use Rattle.quic_wire_core.specs.declared.stream_id.Side.TheVariants.{Client, Server}
 use Rattle.quic_machine.specs.declared.answers.State.TheVariants as states
 use Rattle.quic_machine.specs.declared.answers.LostReason.TheVariants as reasons
@@ -18,7 +17,7 @@ use Rattle.quic_machine.specs.declared.run.ReadCall.{ReadCall}
 use Rattle.quic_machine.specs.Receive.{plain_error}
 use Rattle.quic_headline.specs.Observer.{next_number}
 use Rattle.quic_headline.specs.Runs.{Told, Packet, Intake, In, until, handed, opens_by_key, came_open, frames_of, HasArrived}
-use Rattle.quic_headline.specs.Causes.{Shows, NoBlame, ordinary, AreUsedUp, NumberLimit, came_by, PacketCame, IsCrowded, IsTakenOrCrowded, BeginsRun, HasMoreRuns, IsUnread, TooManyPieces, TakenOrTooMany}
+use Rattle.quic_headline.specs.Causes.{Shows, NoBlame, ordinary, AreUsedUp, NumberLimit, came_by, PacketCame, IsCrowded, IsTakenOrCrowded, BeginsRun, HasMoreRuns, IsUnread, most_runs, stream_window_at, TooManyPieces, TakenOrTooMany}
 use Rattle.quic_worked.specs.Worked.{worked_policies, worked_run, once_ended, once_sent, once_taken, delivery, delivers, asks_datagram, sent_view, hello_datagram, hello_opening, hello_frame, gives_bytes, server_open, id_frames, behind_ids, hello_whole}
 use Rattle.quic_worked.specs.Broken.{IsNoRun}
 use Rattle.quic_worked.specs.Closed.{closed_view, below_limits, early_pieces, early_limit, closed_server}
@@ -80,7 +79,7 @@ pub below_takes : TakenOrTooMany below_limits → ⊥
 unfolding code_in refused_came
 below_takes h = go (h Server 5 refl refused_came)
   where
-    go : IsTakenOrCrowded worked_policies.server (hello_datagram ∷ []) (until below_limits Server 5) refused_came → ⊥
+    go : IsTakenOrCrowded worked_policies.server (stream_window_at below_limits Server) (hello_datagram ∷ []) (until below_limits Server 5) refused_came → ⊥
     go (inl taken) = let codes : ◌≡◌ {A = ℕ} 3 0 = ap code_in taken in omega arith
     go (inr crowded) = let codes : ◌≡◌ {A = ℕ} 3 1 = ap code_in crowded.0 in omega arith
 
@@ -158,11 +157,11 @@ first_run packet frames (suc o) b = absurd (b.alone o (omega arith) (earlier b.h
         below = let more = a.below in omega arith
 
 -- so there is one run, and no more
-one_run : (packet : Packet) → packet.frames ≡ hello_frames → HasMoreRuns (IsUnread (packet ∷ []) [] 0) MOST_PIECES → ⊥
+one_run : (count : ℕ) → 0 < count → (packet : Packet) → packet.frames ≡ hello_frames → HasMoreRuns (IsUnread (packet ∷ []) [] 0) count → ⊥
 unfolding IsDistinct
-one_run packet frames h = go h.starts h.distinct h.begins h.more
+one_run count some packet frames h = go h.starts h.distinct h.begins h.more
   where
-    go : (starts : List ℕ) → IsDistinct eqb starts → ((o : ℕ) → In o starts → BeginsRun (IsUnread (packet ∷ []) [] 0) o) → MOST_PIECES < length starts → ⊥
+    go : (starts : List ℕ) → IsDistinct eqb starts → ((o : ℕ) → In o starts → BeginsRun (IsUnread (packet ∷ []) [] 0) o) → count < length starts → ⊥
     go [] distinct begins more = omega arith
     go (a ∷ []) distinct begins more = omega arith
     go (a ∷ b ∷ starts) distinct begins more =
@@ -216,8 +215,8 @@ unfolding once_taken
 hello_frames_are = refl
 
 -- no packet that came to it is crowded
-none_crowded : (c : HasComeEarly) → IsCrowded worked_policies.server (hello_datagram ∷ []) (until early_pieces Server 5) c MOST_PIECES → ⊥
-none_crowded c k =
+none_crowded : (count : ℕ) → 0 < count → (c : HasComeEarly) → IsCrowded worked_policies.server (hello_datagram ∷ []) (until early_pieces Server 5) c count → ⊥
+none_crowded count some c k =
     let told = one_told c.before c.behind closing_call c.call c.split in
     let datagrams : Some c.datagram ≡ Some hello_datagram = sym c.handed_in ∙ ap (λ (t : Told). handed (hello_datagram ∷ []) t.call t.answer) told.1 in
     let datagram : c.datagram ≡ hello_datagram = cc in
@@ -229,15 +228,15 @@ none_crowded c k =
     let split = one_frame k.front k.rest k.frame (sym hello_frames_are ∙ ap (λ (o : Opening). frames_of (items o.payload)) (sym opening) ∙ k.frames) in
     let packet : Packet = record { number = c.opening.number; frames = k.front ++ stream k.frame ∷ [] } in
     let frames : packet.frames ≡ hello_frames = ap (λ (fs : List FrameValue). fs ++ stream k.frame ∷ []) split.0 ∙ ap (λ (f : StreamValue). id_frames ++ stream f ∷ []) split.1 in
-    let many : HasMoreRuns (IsUnread (packet ∷ []) [] k.frame.id) MOST_PIECES =
-    subst (λ (ts : List Told). HasMoreRuns (IsUnread (packet ∷ (came ts).took) ts k.frame.id) MOST_PIECES) told.0 k.many in
-    one_run packet frames (subst (λ (f : StreamValue). HasMoreRuns (IsUnread (packet ∷ []) [] f.id) MOST_PIECES) split.1 many)
+    let many : HasMoreRuns (IsUnread (packet ∷ []) [] k.frame.id) count =
+    subst (λ (ts : List Told). HasMoreRuns (IsUnread (packet ∷ (came ts).took) ts k.frame.id) count) told.0 k.many in
+    one_run count some packet frames (subst (λ (f : StreamValue). HasMoreRuns (IsUnread (packet ∷ []) [] f.id) count) split.1 many)
 
 pieces_show : Shows early_pieces Server 4 (Some reasons.Pieces)
 pieces_show = record { served = refl; view = record { client = sent_view; server = closed_server reasons.Pieces }; there = refl; is = refl }
 
 pub early_crowd : TooManyPieces early_pieces → ⊥
-early_crowd h = let c = h Server 4 pieces_show in none_crowded c.packet c.crowded
+early_crowd h = let c = h Server 4 pieces_show in none_crowded (most_runs (stream_window_at early_pieces Server)) (omega arith) c.packet c.crowded
 
 -- the machine takes it
 pieces_no : IsRefused once_sent delivers (answers.Deliver (receives.Closed (plain_error 1)))

@@ -26,7 +26,7 @@ use Rattle.quic_machine.specs.Machine.{IsStep, Follows, view_of}
 use Rattle.quic_headline.specs.Runs.{Packet, Told, In, until, accepts, WasNamed}
 use Rattle.quic_headline.specs.Observer.{took}
 use Rattle.quic_headline.specs.Amounts.{taken_of, left_for, WritesTakeWhatLimitsAllow}
-use Rattle.quic_headline.specs.Causes.{Shows, NoBlame, PacketCame, IsTakenOrCrowded, TakenOrTooMany}
+use Rattle.quic_headline.specs.Causes.{Shows, NoBlame, PacketCame, stream_window_at, IsTakenOrCrowded, TakenOrTooMany}
 use Rattle.quic_headline.specs.Headline.{AcceptsAll, IsHonest, IsRun}
 use Rattle.quic_worked.specs.Exchange.{with_uni}
 use Rattle.quic_worked.specs.Worked.{steady, worked_policies, worked_parameters, client_id, server_id, ReadsBy, two_chunks, started, once_opened, once_written, once_ended, once_sent, once_taken, once_accepted, once_read, at_server, hello, hello_datagram, hello_opening, writes_hello, asks_datagram, delivery, delivers, accepts_stream, gives_bytes, sent_view, run_with, once_again, behind_ids, server_waiting, told_ids}
@@ -271,9 +271,9 @@ abbrev CameTo : List (List ℕ) → List Told → Type 0
 CameTo given told = PacketCame worked_policies.server given told
 
 -- a packet that is dropped was neither taken nor crowded
-not_dropped : (given : List (List ℕ)) (told : List Told) (c : CameTo given told) → is_drop c.call.answer ≡ 1 → IsTakenOrCrowded worked_policies.server given told c → ⊥
-not_dropped given told c drop (inl taken) = let clash : ◌≡◌ {A = ℕ} 1 0 = sym drop ∙ ap is_drop taken in omega (arith, clash)
-not_dropped given told c drop (inr crowded) = let clash : ◌≡◌ {A = ℕ} 1 0 = sym drop ∙ ap is_drop crowded.0 in omega (arith, clash)
+not_dropped : (window : ℕ) (given : List (List ℕ)) (told : List Told) (c : CameTo given told) → is_drop c.call.answer ≡ 1 → IsTakenOrCrowded worked_policies.server window given told c → ⊥
+not_dropped window given told c drop (inl taken) = let clash : ◌≡◌ {A = ℕ} 1 0 = sym drop ∙ ap is_drop taken in omega (arith, clash)
+not_dropped window given told c drop (inr crowded) = let clash : ◌≡◌ {A = ℕ} 1 0 = sym drop ∙ ap is_drop crowded.0 in omega (arith, clash)
 
 -- the first delivery of the worked run, which none of these packets opens to
 abbrev hello_dropped : Told
@@ -294,7 +294,7 @@ never_opened read = record {
 }
 
 pub never_opened_takes : (read : ReadCall) → TakenOrTooMany (run_with read all_dropped) → ⊥
-never_opened_takes read h = not_dropped (hello_datagram ∷ []) (until (run_with read all_dropped) Server 5) (never_opened read) refl (h Server 5 refl (never_opened read))
+never_opened_takes read h = not_dropped (stream_window_at (run_with read all_dropped) Server) (hello_datagram ∷ []) (until (run_with read all_dropped) Server 5) (never_opened read) refl (h Server 5 refl (never_opened read))
 
 -- the second datagram, which comes first, and what the first one opens to behind it
 abbrev second_taken : Told
@@ -321,7 +321,7 @@ below_came = record {
 }
 
 pub below_takes : TakenOrTooMany below_dropped → ⊥
-below_takes h = not_dropped (abc_datagram ∷ def_datagram ∷ []) (until below_dropped Server 7) below_came refl (h Server 7 refl below_came)
+below_takes h = not_dropped (stream_window_at below_dropped Server) (abc_datagram ∷ def_datagram ∷ []) (until below_dropped Server 7) below_came refl (h Server 7 refl below_came)
 
 below_no : IsRefused second_world (delivers_at 0) (answers.Deliver duplicate)
 unfolding second_world
@@ -356,7 +356,7 @@ noted_came = record {
 }
 
 pub noted_takes : TakenOrTooMany noted_early → ⊥
-noted_takes h = not_dropped (hello_datagram ∷ []) (until noted_early Server 6) noted_came refl (h Server 6 refl noted_came)
+noted_takes h = not_dropped (stream_window_at noted_early Server) (hello_datagram ∷ []) (until noted_early Server 6) noted_came refl (h Server 6 refl noted_came)
 
 spoilt_drops : IsStep worked_policies once_sent (injects Server spoilt_datagram) (answers.Inject (receives.Dropped drops.NotOpened)) once_spoilt
 unfolding once_sent

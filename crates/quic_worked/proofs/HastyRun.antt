@@ -142,7 +142,7 @@ pub marked_0 : IsStep worked_policies started asks_ping answers.Ping (once_marke
 unfolding once_marked
 marked_0 = record { answer = refl; end = refl; control = refl; heard = counts_so worked_policies started asks_ping answers.Ping; openings = tt; others = refl; lacking = tt }
 
-marked_seen_0 : seen_with None None ≡ view_of (once_marked 1)
+pub marked_seen_0 : seen_with None None ≡ view_of (once_marked 1)
 unfolding once_marked
 marked_seen_0 = refl
 
@@ -150,7 +150,7 @@ pub marked_1 : IsStep worked_policies (once_marked 1) asks_datagram (gives_bytes
 unfolding once_marked
 marked_1 = record { answer = inl refl; end = refl; control = refl; heard = counts_so worked_policies (once_marked 1) asks_datagram (gives_bytes 223); openings = tt; others = refl; lacking = tt }
 
-marked_seen_1 : seen_with (Some 1024000000) None ≡ view_of (once_marked 2)
+pub marked_seen_1 : seen_with (Some 1024000000) None ≡ view_of (once_marked 2)
 unfolding once_marked
 marked_seen_1 = refl
 
@@ -158,15 +158,15 @@ pub marked_2 : IsStep worked_policies (once_marked 2) comes_marked (answers.Deli
 unfolding once_marked
 marked_2 = record { answer = inl refl; end = refl; control = refl; heard = counts_so worked_policies (once_marked 2) comes_marked (answers.Deliver receives.Taken); openings = tt; others = refl; lacking = tt }
 
-marked_seen_2 : seen_with (Some 1024000000) None ≡ view_of (once_marked 3)
+pub marked_seen_2 : seen_with (Some 1024000000) None ≡ view_of (once_marked 3)
 unfolding once_marked
 marked_seen_2 = refl
 
-marked_3 : IsStep worked_policies (once_marked 3) asks_server (gives_bytes 34) (once_marked 4)
+pub marked_3 : IsStep worked_policies (once_marked 3) asks_server (gives_bytes 34) (once_marked 4)
 unfolding once_marked
 marked_3 = record { answer = inl refl; end = refl; control = refl; heard = counts_so worked_policies (once_marked 3) asks_server (gives_bytes 34); openings = tt; others = refl; lacking = tt }
 
-marked_seen_3 : seen_with (Some 1024000000) None ≡ view_of (once_marked 4)
+pub marked_seen_3 : seen_with (Some 1024000000) None ≡ view_of (once_marked 4)
 unfolding once_marked
 marked_seen_3 = refl
 

@@ -45,6 +45,7 @@ mod AskedTimers
 mod MessageRuns
 mod RestedRun
 mod HastyRun
+mod MarkedRun
 mod CountedRuns
 mod IsolatedRuns
 mod BlockedRun
@@ -73,3 +74,4 @@ pub mod ObeyingRuns
 mod HastenedRuns
 mod EarlyAcks
 mod ShortenedRun
+mod SaidRun

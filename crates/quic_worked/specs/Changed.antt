@@ -1,11 +1,11 @@
 -- Small ends, frames and drafts on which single definitions of the machine are computed, each of
 -- which an engineer might get wrong unseen: what is worked out by hand by a rule is false over the
 -- definition that was changed so.
-use Rattle.std.specs.Prelude.{ℕ, zero, suc, Bool, true, false, List, [], ◌∷◌, ◌++◌, map, replicate, Option, Some, None, Ok}
+use Rattle.std.specs.Prelude.{ℕ, zero, suc, Bool, true, false, if◌then◌else◌, List, [], ◌∷◌, ◌++◌, map, replicate, Option, Some, None, Ok}
 use Rattle.quic_wire_core.specs.declared.shared.EcnCodepoint.{EcnCodepoint}
 use Rattle.quic_wire_core.specs.declared.stream_id.Side.TheVariants.{Client, Server}
 use Rattle.quic_wire_core.specs.declared.stream_id.Dir.TheVariants.{Bi}
-use Rattle.quic_wire.specs.Value.{FrameValue, AckValue, ApplicationCloseValue, stream, datagram, asks}
+use Rattle.quic_wire.specs.Value.{FrameValue, AckValue, ApplicationCloseValue, ping, padding, stream, datagram, asks}
 use Rattle.quic_wire.specs.Writing.{stream_spelling}
 use Rattle.quic_sets.specs.Offsets.{with_offsets, without_offsets, parts_from}
 use Rattle.quic_sets.specs.Pieces.{pieces, with_range, joining, joined}
@@ -25,7 +25,7 @@ use Rattle.quic_machine.specs.Idle.{agreed_timeout}
 use Rattle.quic_machine.specs.Machine.{end_on_streams}
 use Rattle.quic_machine.specs.Parts as parts
 use Rattle.quic_machine.specs.Poll.{Draft, no_frames, with_stream_frames}
-use Rattle.quic_machine.specs.Receive.{Outcome, take_items, judged, number_noted, opened_to}
+use Rattle.quic_machine.specs.Receive.{Outcome, take_items, judged, is_urged, number_noted, opened_to}
 use Rattle.quic_machine.specs.Sizes.{search_asked}
 use Rattle.quic_machine.specs.Tracking.{TrackedPacket, streams_in}
 use Rattle.quic_machine.specs.Validation.{path_asked}
@@ -44,7 +44,7 @@ at_moment now e = with_closing e (ticked e.closing now)
 
 -- what an end makes of a frame that stands alone in packet 0
 abbrev pub took : FrameValue → End → Outcome
-took f e = judged (take_items (Ok f ∷ []) e) (asks f) 0 None
+took f e = judged (take_items (Ok f ∷ []) e) (asks f) false 0 None
 
 -- a random source whose words count up from 0, and how one below 256 is written
 abbrev pub counting : ℕ → ℕ
@@ -56,18 +56,18 @@ word_bytes n = replicate 7 0x00 ++ n ∷ []
 
 -- ---- what comes, and what is acknowledged
 
--- packet 0 came to a client with a mark or with none, and asks or doesn't
+-- packet 0 came to a client with a mark or with none, and asks, or has PADDING alone
 abbrev pub came_with : Option EcnCodepoint → Bool → End
-came_with mark asking = number_noted 0 asking mark client_made
+came_with mark asking = number_noted 0 asking (is_urged mark (Ok (if asking then ping else padding) ∷ []) client_made) mark client_made
 
 -- to a client with which PING waits or doesn't the first so many packets came, of which none asks
 abbrev pub silent_came : Bool → ℕ → End
 silent_came pings zero = quiet pings
-silent_came pings (suc n) = number_noted n false None (silent_came pings n)
+silent_came pings (suc n) = number_noted n false false None (silent_came pings n)
 
 -- packets 0, 1 and 4 came
 abbrev pub gap_came : End
-gap_came = number_noted 4 false None (silent_came false 2)
+gap_came = number_noted 4 false false None (silent_came false 2)
 
 -- an ACK frame that names numbers from one up to another at once, and tells no counts
 abbrev pub acks_from : ℕ → ℕ → AckValue

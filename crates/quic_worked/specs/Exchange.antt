@@ -86,9 +86,9 @@ pub record Done : Type 0 where
   pub said : Said
   pub ends : Ends
 
--- an end takes the frames of a packet of a number, at a moment
+-- an end takes the frames of a packet of a number, at a moment: it bears no mark
 abbrev pub taken : ℕ → ℕ → List FrameValue → End → Outcome
-taken now n frames e = judged (passed frames (begun e now n)) (list_any asks frames) n None
+taken now n frames e = judged (passed frames (begun e now n)) (list_any asks frames) false n None
 
 -- what is given at an end
 abbrev pub frames_given : End → ℕ → List FrameValue

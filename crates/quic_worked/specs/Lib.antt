@@ -28,6 +28,7 @@ pub mod Paced
 pub mod Faults
 pub mod Settings
 pub mod Blocked
+pub mod Said
 pub mod Undone
 pub mod Told
 pub mod Bounded
@@ -48,3 +49,4 @@ pub mod Asking
 pub mod Obeying
 pub mod Hastened
 pub mod Shortened
+pub mod Marked

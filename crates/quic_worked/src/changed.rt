@@ -33,12 +33,14 @@ ghost use Rattle.quic_machine.specs.Validation.{path_expired};
 ghost use Rattle.quic_worked.specs.Worked.{worked_policies, client_made, server_made, client_id, hello};
 ghost use Rattle.quic_worked.specs.Changed.{at_moment, took, counting, word_bytes, came_with, silent_came, gap_came, acks_from, acks_marked, went_at, probing_client, opened_client, stream_turn, streams_of_draft, two_came, much_happened, counting_client, asking_server, challenged_in, padding_client, alive_client, idle_client, agreed, hello_close, closing_client, close_went, ping_opened};
 
-/// Of the marks CE alone makes an ACK frame due at once (RFC 9000, section 13.2.1).
+/// Of the marks CE alone makes an ACK frame due at once, where the packet asks (RFC 9000, section
+/// 13.2.1).
 pub fn congestion_is_acknowledged_at_once()
     ensures none { (came_with None true).acknowledging.due ≡ false }
     ensures ect0 { (came_with (Some Ect0) true).acknowledging.due ≡ false }
     ensures ect1 { (came_with (Some Ect1) true).acknowledging.due ≡ false }
     ensures ce { (came_with (Some Ce) true).acknowledging.due ≡ true }
+    ensures bare { (came_with (Some Ce) false).acknowledging.due ≡ false }
 {}
 
 /// Each packet that comes with a mark counts, whether it asks or doesn't (section 13.4.1).

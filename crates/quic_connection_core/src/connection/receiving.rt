@@ -1,5 +1,5 @@
 //! Taking a datagram (RFC 9000, sections 5.2, 12 and 13.1).
-ghost use Rattle.std.specs.Prelude.{◌≡◌, ◌≢◌, ◌+◌, ◌-◌, ◌≤◌, ◌<◌, ◌^◌, length, slice_range, true, false, Some, None, Ok, IfSome, IfNone, IfOk, IfErr, OnOk, MatchResult};
+ghost use Rattle.std.specs.Prelude.{◌≡◌, ◌≢◌, ◌+◌, ◌-◌, ◌≤◌, ◌<◌, ◌^◌, ◌&&◌, ◌||◌, length, slice_range, true, false, Some, None, Ok, IfSome, IfNone, IfOk, IfErr, OnOk, MatchResult};
 ghost use Rattle.quic_wire.specs.Items.{items};
 ghost use Rattle.quic_packet.specs.Destination.{decoded, fixed_length_id};
 ghost use Rattle.quic_machine.specs.Ids.{known};
@@ -9,7 +9,8 @@ ghost use Rattle.quic_machine.specs.End.{with_end, hearing, policy_of, HasFailed
 ghost use Rattle.quic_machine.specs.Heard.{is_last, heard_datagram, heard_answer};
 ghost use Rattle.quic_machine.specs.Opens.{own_id_length, would_open};
 ghost use Rattle.quic_machine.specs.Arrival.{arriving};
-ghost use Rattle.quic_machine.specs.Receive.{names_ungiven, received, opened_to, processed, take_ack, take_frame, take_item, take_items, take_payload, told_received, told_opened, told_processed, told_payload, told_items, told_item, told_ack, asks_in, opening, ends_as, violation};
+ghost use Rattle.quic_machine.specs.Receive.{names_ungiven, received, opened_to, processed, take_ack, take_frame, take_item, take_items, take_payload, told_received, told_opened, told_processed, told_payload, told_items, told_item, told_ack, item_asks, acks_asking, item_answers, asks_in, is_urged, opening, ends_as, violation};
+ghost use Rattle.quic_spaces.specs.Marks.{is_congested};
 ghost use Rattle.quic_connection_parts.specs.Drawn.{words_of, after_words};
 ghost use Rattle.quic_connection_parts.specs.Telling.{telling, KeepsRest};
 ghost use Rattle.quic_connection_parts.specs.Faults.{fault_view, TellsAs, TakesAs, TakesAllAs, TakesPacketAs, HasForm, ItemHasForm};
@@ -20,7 +21,7 @@ use quic_congestion::Controller;
 use quic_connection_parts::closes::{take_application_close, take_connection_close};
 use quic_connection_parts::ids::OWN_ID_LENGTH;
 use quic_connection_parts::receiving::{
-    Trouble, drop_reason, is_above, is_read, item_asks, violation,
+    AckDemand, Trouble, drop_reason, is_above, is_congested, is_read, item_asks, violation,
 };
 use quic_connection_parts::stream_frames::take_other;
 use quic_machine::{DropReason, Instant, Received, State};
@@ -51,10 +52,11 @@ impl<H: HeaderKey + Drop, K: PacketKey + Drop, R: Rng + Drop, C: Controller> Con
     /// once, and the frames behind aren't taken (section 10.2.2). If out of memory, the endpoint
     /// fails for good.
     ///
-    /// Its number is to be acknowledged once all its frames were taken, at once if it came with CE,
-    /// and its codepoint is counted (sections 13.2.1 and 13.4.1). Each connection ID that is issued
-    /// for it draws three random values after its frames (section 5.1.1). The datagram's bytes may
-    /// be changed; to what isn't said.
+    /// Its number is to be acknowledged once all its frames were taken, and its codepoint is
+    /// counted (section 13.4.1). An ACK becomes due at once if it came with CE, and is
+    /// ack-eliciting or newly acknowledges an ack-eliciting packet (section 13.2.1). Each
+    /// connection ID that is issued for it draws three random values after its frames (section
+    /// 5.1.1). The datagram's bytes may be changed; to what isn't said.
     ///
     /// [`LostReason::KeyLimit`]: quic_machine::LostReason::KeyLimit
     pub fn receive(
@@ -225,18 +227,24 @@ impl<H: HeaderKey + Drop, K: PacketKey + Drop, R: Rng + Drop, C: Controller> Con
         payload: &[u8],
     ) -> Result<(), Trouble>
         requires { opened.now.number < 2 ^ 62 }
-        ensures takes { TakesPacketAs result (take_payload opened.now.first (items payload.now) self.old.end) (asks_in (items payload.now)) opened.now.number ecn self.new.end }
+        ensures takes { TakesPacketAs result (take_payload opened.now.first (items payload.now) self.old.end) (asks_in (items payload.now)) (is_urged ecn (items payload.now) self.old.end) opened.now.number ecn self.new.end }
         ensures told { TellsAs result C.steps self.old (told_payload opened.now.first (items payload.now) self.old.end) self.new }
         ensures others { KeepsRest self.old self.new }
     {
-        let asks = self.take_payload(opened, payload)?;
-        self.take_number(opened.number, asks, ecn)?;
+        let demand = self.take_payload(ecn, opened, payload)?;
+        self.take_number(opened.number, demand, ecn)?;
         Ok(())
     }
 
-    /// Takes the frames of a packet, one after another: whether one is ack-eliciting.
-    fn take_payload(&mut self, opened: &Opened, payload: &[u8]) -> Result<bool, Trouble>
-        ensures takes { TakesAllAs result (take_payload opened.now.first (items payload.now) self.old.end) (asks_in (items payload.now)) self.new.end }
+    /// Takes the frames of a packet that came with this ECN codepoint, one after another: what they
+    /// ask for.
+    fn take_payload(
+        &mut self,
+        ecn: Option<EcnCodepoint>,
+        opened: &Opened,
+        payload: &[u8],
+    ) -> Result<AckDemand, Trouble>
+        ensures takes { TakesAllAs result (take_payload opened.now.first (items payload.now) self.old.end) (asks_in (items payload.now)) (is_urged ecn (items payload.now) self.old.end) self.new.end }
         ensures told { TellsAs result C.steps self.old (told_payload opened.now.first (items payload.now) self.old.end) self.new }
         ensures others { KeepsRest self.old self.new }
     {
@@ -246,21 +254,64 @@ impl<H: HeaderKey + Drop, K: PacketKey + Drop, R: Rng + Drop, C: Controller> Con
         if payload.is_empty() {
             return Err(violation(Reason::NoFrame));
         }
-        self.take_frames(payload)
+        self.take_frames(ecn, payload)
     }
 
-    /// Takes frames up to the first that is at fault: whether one is ack-eliciting.
-    fn take_frames(&mut self, payload: &[u8]) -> Result<bool, Trouble>
-        ensures takes { TakesAllAs result (take_items (items payload.now) self.old.end) (asks_in (items payload.now)) self.new.end }
+    /// Takes frames up to the first that is at fault: what they ask for.
+    fn take_frames(
+        &mut self,
+        ecn: Option<EcnCodepoint>,
+        payload: &[u8],
+    ) -> Result<AckDemand, Trouble>
+        ensures takes { TakesAllAs result (take_items (items payload.now) self.old.end) (asks_in (items payload.now)) (is_urged ecn (items payload.now) self.old.end) self.new.end }
         ensures told { TellsAs result C.steps self.old (told_items (items payload.now) self.old.end) self.new }
         ensures others { KeepsRest self.old self.new }
     {
-        let mut asks = false;
+        let mut demand = AckDemand {
+            asks: false,
+            urged: false,
+        };
         for item in Unpadded::new(payload) {
+            demand = self.demand_with(&item, ecn, demand);
             self.take_item(&item)?;
-            asks = asks || item_asks(&item);
         }
-        Ok(asks)
+        Ok(demand)
+    }
+
+    /// What the frames of a packet ask for, with one more of them, which isn't taken yet.
+    fn demand_with(
+        &self,
+        item: &Result<Frame<'_>, InvalidFrame>,
+        ecn: Option<EcnCodepoint>,
+        demand: AckDemand,
+    ) -> AckDemand
+        ensures asks { result.asks ≡ (demand.asks || item_asks (item_view item.now)) }
+        ensures urged { result.urged ≡ (demand.urged || (is_congested ecn && (item_asks (item_view item.now) || item_answers (item_view item.now) self.now.end))) }
+    {
+        let asks = item_asks(item);
+        AckDemand {
+            asks: demand.asks || asks,
+            urged: demand.urged || (is_congested(ecn) && (asks || self.answers(item))),
+        }
+    }
+
+    /// Whether an item of a payload is an ACK frame that newly acknowledges an ack-eliciting
+    /// packet.
+    fn answers(&self, item: &Result<Frame<'_>, InvalidFrame>) -> bool
+        ensures { result ≡ item_answers (item_view item.now) self.now.end }
+    {
+        match item {
+            Ok(Frame::Ack(frame)) => self.acks_asking(frame),
+            _ => false,
+        }
+    }
+
+    /// Whether an ACK frame newly acknowledges an ack-eliciting packet. One that names a number
+    /// that was never sent acknowledges none.
+    fn acks_asking(&self, frame: &Ack<'_>) -> bool
+        ensures { result ≡ acks_asking frame.now self.now.end }
+    {
+        self.check_ack(frame).is_ok() && self.space.tracking.names_asking(frame)
     }
 
     /// Takes a frame, or what can't be read as one.
@@ -355,8 +406,8 @@ impl<H: HeaderKey + Drop, K: PacketKey + Drop, R: Rng + Drop, C: Controller> Con
     /// Closes for what was wrong with the packet of a number, or fails; or the peer closed in it.
     fn close_for(&mut self, trouble: Trouble, number: u64) -> Received
         requires { number < 2 ^ 62 }
-        ensures answer { IfSome (fault_view trouble) (λ fault. result ≡ (ends_as (Some fault) false number None self.old.end).answer) }
-        ensures end { IfSome (fault_view trouble) (λ fault. self.new ≡ with_end self.old (ends_as (Some fault) false number None self.old.end).end) }
+        ensures answer { IfSome (fault_view trouble) (λ fault. result ≡ (ends_as (Some fault) false false number None self.old.end).answer) }
+        ensures end { IfSome (fault_view trouble) (λ fault. self.new ≡ with_end self.old (ends_as (Some fault) false false number None self.old.end).end) }
         ensures memory { IfNone (fault_view trouble) (result ≡ Received.Failed) }
         ensures failed { IfNone (fault_view trouble) (HasFailed self.old self.new) }
         ensures stopped { IfNone (fault_view trouble) (self.new.end.timers ≡ no_timers) }

@@ -20,6 +20,7 @@ use Rattle.quic_headline.specs.Observer.{Sent, Watch, is_close, lens_of, watch_f
 use Rattle.quic_headline.specs.Headline.{IsHonest, IsRun}
 use Rattle.quic_headline.specs.Polls.{GaveOne}
 use Rattle.quic_headline.specs.AckFrames.{ends_above, IsKnown, WasCrowded, AcksNameAll}
+use Rattle.quic_headline.proofs.Packets.Acked.{acks}
 use Rattle.quic_headline.proofs.Packets.Watching.{watched_intake}
 use Rattle.quic_headline.proofs.Packets.Naming.{kept_named}
 use Rattle.quic_headline.proofs.Places.Moments.{told_none}
@@ -33,7 +34,6 @@ use Rattle.quic_headline.proofs.Timers.Watched.{Observed}
 use Rattle.quic_headline.proofs.Steps.Made.{MadeAt, made_at, PollHolds, poll_holds, polling}
 use Rattle.quic_headline.proofs.Steps.Probing.{IsGiving, closing_alone}
 use Rattle.quic_headline.proofs.Steps.Probing as probing
-use Rattle.quic_headline.proofs.Settled.Group.{acks}
 use Rattle.quic_headline.proofs.AckFrames.Frames.{KnownBy}
 use Rattle.quic_headline.proofs.AckFrames.Group.{WasBelow, Below, KeepsAll, keeps_group}
 

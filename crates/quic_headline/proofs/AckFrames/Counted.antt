@@ -29,7 +29,7 @@ use Rattle.quic_machine.specs.Ids.{known}
 use Rattle.quic_machine.specs.Closing.{ticked}
 use Rattle.quic_machine.specs.End.{End, with_closing, with_numbers, closed_by}
 use Rattle.quic_machine.specs.Opens.{own_id_length}
-use Rattle.quic_machine.specs.Receive.{Fault, Progress, Outcome, is_empty, violation, take_items, take_payload, take_frame, asks_in, ends_as, by_state, dropped, opened_to, opened_as, opening, headed, received_in, received, broke, too_many_pieces, closed_by_peer, unopened_in, is_read, drawn_if, with_ids_drawn}
+use Rattle.quic_machine.specs.Receive.{Fault, Progress, Outcome, is_empty, violation, take_items, take_payload, take_frame, asks_in, is_urged, ends_as, by_state, dropped, opened_to, opened_as, opening, headed, received_in, received, broke, too_many_pieces, closed_by_peer, unopened_in, is_read, drawn_if, with_ids_drawn}
 use Rattle.quic_machine.specs.Poll.{Polled, Draft, Leaving, polled, draft_as}
 use Rattle.quic_machine.specs.Timeouts.{Expiry, loss_judged}
 use Rattle.quic_machine.specs.FrameCases.{Settling, named, acked_keeps, losses_keep, frame_keeps, frame_leaves, apart_leaves, items_keep}
@@ -133,17 +133,17 @@ module _ (p : Policy) (arrival : Arrival) where
   CountsBy e o = o.end.closing.state ≡ states.Open → o.end.marks.came ≡ after_mark (taken_mark o.answer arrival.mark) e.marks.came
 
   -- all frames were taken, or one was at fault
-  ends_counts : (fault : Option Fault) (asking : Bool) (n : ℕ) (e f : End) → f.marks.came ≡ e.marks.came → CountsBy e (ends_as fault asking n arrival.mark f)
-  ends_counts None asking n e f same opened = ap (after_mark arrival.mark) same
-  ends_counts (Some (closed_by_peer close)) asking n e f same opened = cc
-  ends_counts (Some (broke error)) asking n e f same opened = cc
-  ends_counts (Some too_many_pieces) asking n e f same opened = cc
+  ends_counts : (fault : Option Fault) (asking urged : Bool) (n : ℕ) (e f : End) → f.marks.came ≡ e.marks.came → CountsBy e (ends_as fault asking urged n arrival.mark f)
+  ends_counts None asking urged n e f same opened = ap (after_mark arrival.mark) same
+  ends_counts (Some (closed_by_peer close)) asking urged n e f same opened = cc
+  ends_counts (Some (broke error)) asking urged n e f same opened = cc
+  ends_counts (Some too_many_pieces) asking urged n e f same opened = cc
 
   state_counts : (s : State) (o : Opening) (e : End) → CountsBy e (by_state s o arrival e)
   state_counts states.Open o e opened = (
       let begins : End = with_closing e (ticked e.closing arrival.now) in
       let left : Progress = take_payload o.first (items o.payload) begins in
-      ends_counts left.fault (asks_in (items o.payload)) o.number e left.end (payload_counts e.marks.came o.first (items o.payload) begins refl) opened)
+      ends_counts left.fault (asks_in (items o.payload)) (is_urged arrival.mark (items o.payload) begins) o.number e left.end (payload_counts e.marks.came o.first (items o.payload) begins refl) opened)
   state_counts states.Closing o e opened = refl
   state_counts states.Drained o e opened = refl
   state_counts states.Failed o e opened = refl

@@ -1,6 +1,6 @@
 -- An open end has to acknowledge each packet that it took, but for those of which the peer is known
 -- to know, and those below too many runs: each call keeps that.
-use Rattle.std.proofs.Common.{◌≡◌, ℕ, ◌≤◌, ◌⊎◌, max, List, [], ◌∷◌, ◌++◌, map, length, Option, None, Ok, refl, sym, ap, ◌∙◌, subst, inl, inr, arith}
+use Rattle.std.proofs.Common.{◌≡◌, ℕ, ◌≤◌, ◌⊎◌, Bool, max, List, [], ◌∷◌, ◌++◌, map, length, Option, None, Ok, refl, sym, ap, ◌∙◌, subst, inl, inr, arith}
 use Rattle.std.proofs.lemmas.List.{append_assoc, append-nil}
 use Rattle.quic_wire_core.specs.declared.shared.EcnCodepoint.{EcnCodepoint}
 use Rattle.quic_sets.specs.Runs.{Run, Has, AreRuns}
@@ -9,7 +9,6 @@ use Rattle.quic_recovery_core.specs.PendingAcks.{with_one, at_most, after_insert
 use Rattle.quic_recovery_core.specs.declared.spaces.pending_acks.TheConstants.{MAX_ACK_RUNS}
 use Rattle.quic_recovery_core.proofs.AckRunSteps.{with_one_runs, with_one_in, in_with_one}
 use Rattle.quic_spaces.specs.Numbers.{Numbers, number_opened}
-use Rattle.quic_spaces.specs.Marks.{is_congested}
 use Rattle.quic_spaces.specs.Acknowledging.{with_due}
 use Rattle.quic_machine.specs.declared.answers.State.TheVariants as states
 use Rattle.quic_machine.specs.declared.run.Call.{Call}
@@ -24,6 +23,7 @@ use Rattle.quic_machine.specs.FrameCases.{begun}
 use Rattle.quic_headline.specs.Runs.{Told, Packet, Intake, In, IsTaken, nothing_came, and_told, folded}
 use Rattle.quic_headline.specs.Observer.{Sent, Watch}
 use Rattle.quic_headline.specs.AckFrames.{ends_above}
+use Rattle.quic_headline.proofs.Packets.Acked.{acked_with, acks, acks_behind, acked_here, acked_then}
 use Rattle.quic_headline.proofs.Packets.Invariant.{AreTaken}
 use Rattle.quic_headline.proofs.Packets.Delivered.{Arrivals, arrived, with_taken}
 use Rattle.quic_headline.proofs.Packets.Stays.{Keeps, keeps_frames}
@@ -35,7 +35,6 @@ use Rattle.quic_headline.proofs.Places.Groups.{Calls, Group}
 use Rattle.quic_headline.proofs.Places.Coming.{by_coming}
 use Rattle.quic_headline.proofs.Timers.Still.{was_open}
 use Rattle.quic_headline.proofs.Timers.Watched.{Observed}
-use Rattle.quic_headline.proofs.Settled.Group.{acked_with, acks, acks_behind, acked_here, acked_then}
 use Rattle.quic_headline.proofs.AckFrames.Crowded.{ends_fewer, most_kept}
 use Rattle.quic_headline.proofs.AckFrames.Frames.{KnownBy, known_less, Stays, stays_flies}
 
@@ -161,15 +160,15 @@ module _ (x y : Party) (call : Call) (a : Answer) (c : Calls Observed x y call a
         go (inl old) = (let t = c.takes.0.acking k (frames_keep.fewer k old) in record { packet = t.packet; was_taken = inr t.was_taken; is = t.is })
         go (inr same) = record { packet = packet; was_taken = inl refl; is = sym same }
 
-    abbrev after : (ℕ → ℕ) → Option EcnCodepoint → End
-    after words mark = drawn words (after_taken n (asks_in (map Ok frames)) mark left)
+    abbrev after : (ℕ → ℕ) → Bool → Option EcnCodepoint → End
+    after words urged mark = drawn words (after_taken n (asks_in (map Ok frames)) urged mark left)
 
-    after_runs : (words : ℕ → ℕ) (mark : Option EcnCodepoint) → (after words mark).acknowledging.runs ≡ at_most (with_one left.acknowledging.runs n)
-    after_runs words mark = packet_runs (with_due (is_congested mark) (after_insert left.acknowledging n left.closing.clock)) left.closing.clock n (asks_in (map Ok frames)) left.numbers.opened
+    after_runs : (words : ℕ → ℕ) (urged : Bool) (mark : Option EcnCodepoint) → (after words urged mark).acknowledging.runs ≡ at_most (with_one left.acknowledging.runs n)
+    after_runs words urged mark = packet_runs (with_due urged (after_insert left.acknowledging n left.closing.clock)) left.closing.clock n (asks_in (map Ok frames)) left.numbers.opened
 
-    packet_kept : (words : ℕ → ℕ) (mark : Option EcnCodepoint) → Keeps_of (after words mark) acked (with_taken (came_to x y) n frames)
-    packet_kept words mark p i =
-        subst (λ (rs : List Run). Kept rs p.number) (sym (after_runs words mark))
+    packet_kept : (words : ℕ → ℕ) (urged : Bool) (mark : Option EcnCodepoint) → Keeps_of (after words urged mark) acked (with_taken (came_to x y) n frames)
+    packet_kept words urged mark p i =
+        subst (λ (rs : List Run). Kept rs p.number) (sym (after_runs words urged mark))
         (most_kept taken (Out x y acked taken) (out_less x y acked taken) (λ k many. inr (inr many)) (with_one left.acknowledging.runs n) (with_one_runs 0 n left.acknowledging.runs (omega arith) runs) were_taken each p i)
 
   -- each case of a delivery
@@ -177,7 +176,7 @@ module _ (x y : Party) (call : Call) (a : Answer) (c : Calls Observed x y call a
   arrivals_keep delivery is n frames = record {
     ignored = λ reason opened. none_came opened;
     noted = λ state reason opened. absurd (let clash : states.Closing ≡ states.Open = sym state ∙ opened in cc);
-    takes = λ words state new none mark opened. packet_kept delivery is n frames state none words mark;
+    takes = λ words state new none urged mark opened. packet_kept delivery is n frames state none words urged mark;
     drains = λ words state new close at opened. absurd cc;
     refuses = λ words state new f at opened. absurd cc;
     exhausts = λ state opened. absurd cc;

@@ -1,34 +1,32 @@
 -- What a delivery makes due at an end: an acknowledgement that was due for packets that ask stays
 -- so, and one becomes due where the observer of the end finds a packet that hastens it; or where
--- the packet bears the mark of congestion, and nowhere else.
+-- the packet is urged by its mark, and nowhere else.
 use Rattle.std.proofs.Common.{◌≡◌, ℕ, ◌+◌, ◌-◌, ◌^◌, ◌<◌, ◌⊎◌, Bool, true, false, ◌||◌, cond, max, min, List, [], ◌∷◌, ◌++◌, length, map, Option, Some, None, Ok, refl, sym, ap, ◌∙◌, subst, inl, inr, arith}
 use Rattle.std.specs.Prelude.{nat_lt, unwrap_or}
 use Rattle.std.specs.List.{list_any}
 use Rattle.std.proofs.Math.Bool.{or-false, or_assoc}
 use Rattle.std.proofs.lemmas.Bool.{or_cases, or_left, or_right, and_parts, and_from, lt-ltb, ltb-true}
-use Rattle.quic_wire_core.specs.declared.shared.EcnCodepoint.{EcnCodepoint}
-use Rattle.quic_wire_core.specs.declared.shared.EcnCodepoint.TheVariants.{Ect0, Ect1, Ce}
 use Rattle.quic_wire.specs.Value.{FrameValue, AckValue, ack, stream, reset_stream, stop_sending, max_data, max_stream_data, max_streams, datagram, immediate_ack, asks}
 use Rattle.quic_recovery_core.specs.Duplicates.{Seen, after_insert as with_seen}
 use Rattle.quic_recovery_core.specs.DuplicateRuns.{seen_after}
 use Rattle.quic_recovery_core.specs.PendingAcks.{Pending, after_insert, count_up, greatest_before, asking_counted, starts_wait, after_packet}
 use Rattle.quic_recovery_core.specs.PendingAcks as pending
-use Rattle.quic_spaces.specs.Marks.{is_congested}
 use Rattle.quic_spaces.specs.Acknowledging.{with_due}
 use Rattle.quic_spaces.specs.Numbers.{Numbers}
 use Rattle.quic_machine.specs.declared.answers.State.TheVariants as states
 use Rattle.quic_machine.specs.End.{End}
-use Rattle.quic_machine.specs.declared.run.Call.TheVariants as calls
+use Rattle.quic_machine.specs.declared.answers.Received.TheVariants as receives
 use Rattle.quic_machine.specs.declared.run.Delivery.{Delivery}
+use Rattle.quic_machine.specs.declared.run.Answer.{Answer}
 use Rattle.quic_machine.specs.declared.run.Answer.TheVariants as answers
-use Rattle.quic_machine.specs.Receive.{is_above, names_ungiven, take_frame, asks_in, after_taken, Outcome}
+use Rattle.quic_machine.specs.Receive.{is_above, names_ungiven, take_frame, asks_in, is_urged, Outcome}
 use Rattle.quic_machine.specs.FrameCases.{Settling, named, ack_taken, acked_keeps, message_leaves, begun, passed, frames_taken}
 use Rattle.quic_machine.specs.Steps as steps
 use Rattle.quic_headline.specs.Runs.{Packet, Intake}
 use Rattle.quic_headline.specs.Requested.{Requested, requested_by, requested}
 use Rattle.quic_headline.specs.Observer.{news}
 use Rattle.quic_headline.specs.Rest.{asking_among}
-use Rattle.quic_headline.specs.AcksDue.{is_too_late, is_immediate_ack, hastens, one_hastens, is_marked, takes_marked}
+use Rattle.quic_headline.specs.AcksDue.{is_too_late, is_immediate_ack, hastens, one_hastens}
 use Rattle.quic_headline.proofs.Packets.Apart.{apart_asks}
 use Rattle.quic_headline.proofs.Packets.Delivered.{Arrivals, ArrivalsWith, arrived, with_taken}
 use Rattle.quic_headline.proofs.Packets.Watching.{none_new, one_new}
@@ -162,11 +160,11 @@ module _ (e : End) (now n : ℕ) (frames : List FrameValue) (i : Intake) (ps : L
   waiting = asking_among (packet ∷ []) ++ ps
 
   -- what is to be acknowledged, with the packet
-  abbrev noted : Option EcnCodepoint → Pending
-  noted mark = with_due (is_congested mark) (after_insert left.acknowledging n left.closing.clock)
+  abbrev noted : Bool → Pending
+  noted urged = with_due urged (after_insert left.acknowledging n left.closing.clock)
 
-  abbrev after : Option EcnCodepoint → Pending
-  after mark = (after_taken n (asks_in (map Ok frames)) mark left).acknowledging
+  abbrev after : Bool → Pending
+  after urged = after_packet (noted urged) left.closing.clock n (asks_in (map Ok frames)) left.numbers.opened
 
   -- frames leave what is due, and the counts
   left_acks : CountsOn e left
@@ -177,10 +175,10 @@ module _ (e : End) (now n : ℕ) (frames : List FrameValue) (i : Intake) (ps : L
   left_asked = frames_asked frames (begun e now n) none ∙ ap (λ (r : Rule). requested_by frames r.asked) known.rules
 
   -- what was due stays so
-  stays : (mark : Option EcnCodepoint) → IsPressed e.acknowledging → IsPressed (after mark)
-  stays mark was = (
-    packet_due (asks_in (map Ok frames)) (noted mark) left.closing.clock n left.numbers.opened (or_left left.acknowledging.due (is_congested mark) (left_acks.due was.0)),
-    (taken_counts (asks_in (map Ok frames)) (noted mark) left.closing.clock n left.numbers.opened).1 (subst (λ (k : ℕ). 0 < k) (sym left_acks.asking) was.1),
+  stays : (urged : Bool) → IsPressed e.acknowledging → IsPressed (after urged)
+  stays urged was = (
+    packet_due (asks_in (map Ok frames)) (noted urged) left.closing.clock n left.numbers.opened (or_left left.acknowledging.due urged (left_acks.due was.0)),
+    (taken_counts (asks_in (map Ok frames)) (noted urged) left.closing.clock n left.numbers.opened).1 (subst (λ (k : ℕ). 0 < k) (sym left_acks.asking) was.1),
   )
 
   -- the end tells apart the numbers that came
@@ -192,12 +190,12 @@ module _ (e : End) (now n : ℕ) (frames : List FrameValue) (i : Intake) (ps : L
   left_due = frames_due frames (begun e now n) none
 
   -- IMMEDIATE_ACK came
-  hurry_there : (mark : Option EcnCodepoint) → list_any is_immediate_ack frames ≡ true → (noted mark).due ≡ true
-  hurry_there mark some = or_left left.acknowledging.due (is_congested mark) (left_due ∙ or_right e.acknowledging.due (list_any is_immediate_ack frames) some)
+  hurry_there : (urged : Bool) → list_any is_immediate_ack frames ≡ true → (noted urged).due ≡ true
+  hurry_there urged some = or_left left.acknowledging.due urged (left_due ∙ or_right e.acknowledging.due (list_any is_immediate_ack frames) some)
 
   -- more wait than may
-  many_there : (mark : Option EcnCodepoint) → asked.threshold < 2 ^ 62 → list_any asks frames ≡ true → nat_lt asked.threshold (length waiting) ≡ true → nat_lt (noted mark).threshold (count_up (noted mark).asking) ≡ true
-  many_there mark small asking many =
+  many_there : (urged : Bool) → asked.threshold < 2 ^ 62 → list_any asks frames ≡ true → nat_lt asked.threshold (length waiting) ≡ true → nat_lt (noted urged).threshold (count_up (noted urged).asking) ≡ true
+  many_there urged small asking many =
       let more : asked.threshold < length ps + 1 = by_one (list_any asks frames) asking (ltb-true asked.threshold (length waiting) many) in
       let threshold : left.acknowledging.threshold ≡ asked.threshold = ap (λ (r : Requested). r.threshold) left_asked in
       let same = left_acks.asking in
@@ -209,66 +207,66 @@ module _ (e : End) (now n : ℕ) (frames : List FrameValue) (i : Intake) (ps : L
       by_one false is more = cc
 
   -- it comes too late
-  late_here : (mark : Option EcnCodepoint) → is_too_late asked.reordering acked i.took (n ∷ i.opened) packet ≡ true → pending.is_out_of_order (noted mark) (greatest_before (noted mark)) (max (greatest_before (noted mark)) n) n left.numbers.opened ≡ true
-  late_here mark late = late_there (noted mark) acked i.took i.opened n frames left.numbers.opened (left_acks.acked ∙ known.last)
+  late_here : (urged : Bool) → is_too_late asked.reordering acked i.took (n ∷ i.opened) packet ≡ true → pending.is_out_of_order (noted urged) (greatest_before (noted urged)) (max (greatest_before (noted urged)) n) n left.numbers.opened ≡ true
+  late_here urged late = late_there (noted urged) acked i.took i.opened n frames left.numbers.opened (left_acks.acked ∙ known.last)
       (ap (λ (o : Option ℕ). unwrap_or o 0) (left_acks.greatest ∙ ap (λ (r : Rule). r.greatest) known.rules) ∙ latest_is i.took) seen_left known.came
       (ap (λ (r : Requested). is_too_late r.reordering acked i.took (n ∷ i.opened) packet) left_asked ∙ late)
 
   -- a packet that asks presses
-  asks_presses : (mark : Option EcnCodepoint) (b : Bool) → b ≡ true
-      → ((noted mark).due ≡ true) ⊎ ((nat_lt (noted mark).threshold (count_up (noted mark).asking) ≡ true) ⊎ (pending.is_out_of_order (noted mark) (greatest_before (noted mark)) (max (greatest_before (noted mark)) n) n left.numbers.opened ≡ true))
-      → IsPressed (after_packet (noted mark) left.closing.clock n b left.numbers.opened)
-  asks_presses mark true is (inl due) = (packet_due true (noted mark) left.closing.clock n left.numbers.opened due, (taken_counts true (noted mark) left.closing.clock n left.numbers.opened).0 refl)
-  asks_presses mark true is (inr cause) = (packet_hastens (noted mark) left.closing.clock n left.numbers.opened cause, (taken_counts true (noted mark) left.closing.clock n left.numbers.opened).0 refl)
-  asks_presses mark false is cause = cc
+  asks_presses : (urged : Bool) (b : Bool) → b ≡ true
+      → ((noted urged).due ≡ true) ⊎ ((nat_lt (noted urged).threshold (count_up (noted urged).asking) ≡ true) ⊎ (pending.is_out_of_order (noted urged) (greatest_before (noted urged)) (max (greatest_before (noted urged)) n) n left.numbers.opened ≡ true))
+      → IsPressed (after_packet (noted urged) left.closing.clock n b left.numbers.opened)
+  asks_presses urged true is (inl due) = (packet_due true (noted urged) left.closing.clock n left.numbers.opened due, (taken_counts true (noted urged) left.closing.clock n left.numbers.opened).0 refl)
+  asks_presses urged true is (inr cause) = (packet_hastens (noted urged) left.closing.clock n left.numbers.opened cause, (taken_counts true (noted urged) left.closing.clock n left.numbers.opened).0 refl)
+  asks_presses urged false is cause = cc
 
   -- so it does where the observer finds that it does
-  pressed : (mark : Option EcnCodepoint) → asked.threshold < 2 ^ 62 → hastens asked acked i.took (n ∷ i.opened) waiting packet ≡ true → IsPressed (after mark)
-  pressed mark small is =
+  pressed : (urged : Bool) → asked.threshold < 2 ^ 62 → hastens asked acked i.took (n ∷ i.opened) waiting packet ≡ true → IsPressed (after urged)
+  pressed urged small is =
       let hurries = list_any is_immediate_ack frames in
       let many = nat_lt asked.threshold (length waiting) in
       let late = is_too_late asked.reordering acked i.took (n ∷ i.opened) packet in
       let parts = and_parts (list_any asks frames) (hurries || (many || late)) is in
-      asks_presses mark (asks_in (map Ok frames)) (asks_same frames ∙ parts.0) (elim (or_cases hurries (many || late) parts.1) [
-        | inl hurry ↦ inl (hurry_there mark hurry)
-        | inr others ↦ inr (elim (or_cases many late others) [ inl more ↦ inl (many_there mark small parts.0 more) | inr order ↦ inr (late_here mark order) ])
+      asks_presses urged (asks_in (map Ok frames)) (asks_same frames ∙ parts.0) (elim (or_cases hurries (many || late) parts.1) [
+        | inl hurry ↦ inl (hurry_there urged hurry)
+        | inr others ↦ inr (elim (or_cases many late others) [ inl more ↦ inl (many_there urged small parts.0 more) | inr order ↦ inr (late_here urged order) ])
       ])
 
   -- the packets that wait are counted
-  counts_there : (mark : Option EcnCodepoint) → Counts (after mark).asking waiting
-  counts_there mark =
+  counts_there : (urged : Bool) → Counts (after urged).asking waiting
+  counts_there urged =
       let before : Counts left.acknowledging.asking ps = subst (λ (k : ℕ). Counts k ps) (sym left_acks.asking) known.counted in
-      subst (λ (k : ℕ). Counts k waiting) (sym (packet_count (asks_in (map Ok frames)) (noted mark) left.closing.clock n left.numbers.opened ∙ ap (λ (b : Bool). cond b (count_up left.acknowledging.asking) left.acknowledging.asking) (asks_same frames)))
+      subst (λ (k : ℕ). Counts k waiting) (sym (packet_count (asks_in (map Ok frames)) (noted urged) left.closing.clock n left.numbers.opened ∙ ap (λ (b : Bool). cond b (count_up left.acknowledging.asking) left.acknowledging.asking) (asks_same frames)))
       (counts_on (list_any asks frames) packet ps left.acknowledging.asking before)
 
   -- where one packet came
-  one_presses : (mark : Option EcnCodepoint) → asked.threshold < 2 ^ 62 → Presses e.acknowledging acked i ps (after mark) (with_taken i n frames)
-  one_presses mark small = record {
-    on = stays mark;
+  one_presses : (urged : Bool) → asked.threshold < 2 ^ 62 → Presses e.acknowledging acked i ps (after urged) (with_taken i n frames)
+  one_presses urged small = record {
+    on = stays urged;
     hastens = λ is.
         let alone : list_any (hastens asked acked i.took (n ∷ i.opened) waiting) (packet ∷ []) ≡ true =
         subst (λ (qs : List Packet). list_any (hastens asked acked i.took (n ∷ i.opened) (asking_among qs ++ ps)) qs ≡ true) (one_new i n frames) is in
-        pressed mark small (sym (or-false (hastens asked acked i.took (n ∷ i.opened) waiting packet)) ∙ alone);
-    counted = subst (λ (qs : List Packet). Counts (after mark).asking (asking_among qs ++ ps)) (sym (one_new i n frames)) (counts_there mark);
-    last = (packet_asked (asks_in (map Ok frames)) (noted mark) left.closing.clock n left.numbers.opened).2 ∙ left_acks.acked;
+        pressed urged small (sym (or-false (hastens asked acked i.took (n ∷ i.opened) waiting packet)) ∙ alone);
+    counted = subst (λ (qs : List Packet). Counts (after urged).asking (asking_among qs ++ ps)) (sym (one_new i n frames)) (counts_there urged);
+    last = (packet_asked (asks_in (map Ok frames)) (noted urged) left.closing.clock n left.numbers.opened).2 ∙ left_acks.acked;
   }
 
   -- ---- what made one due
 
   -- it was due, or this did
-  abbrev DueBy : Option EcnCodepoint → Bool → Type 0
-  DueBy mark hastened = (e.acknowledging.due ≡ true) ⊎ ((hastened ≡ true) ⊎ (is_congested mark ≡ true))
+  abbrev DueBy : Bool → Bool → Type 0
+  DueBy urged hastened = (e.acknowledging.due ≡ true) ⊎ ((hastened ≡ true) ⊎ (urged ≡ true))
 
   -- behind the frames and the mark
-  noted_back : (mark : Option EcnCodepoint) → (noted mark).due ≡ true → DueBy mark (list_any is_immediate_ack frames)
-  noted_back mark due = elim (or_cases left.acknowledging.due (is_congested mark) due) [
+  noted_back : (urged : Bool) → (noted urged).due ≡ true → DueBy urged (list_any is_immediate_ack frames)
+  noted_back urged due = elim (or_cases left.acknowledging.due urged due) [
     | inl made ↦ elim (or_cases e.acknowledging.due (list_any is_immediate_ack frames) (sym left_due ∙ made)) [ inl was ↦ inl was | inr hurry ↦ inr (inl hurry) ]
     | inr marked ↦ inr (inr marked)
   ]
 
   -- more wait than may
-  many_back : (mark : Option EcnCodepoint) → list_any asks frames ≡ true → nat_lt (noted mark).threshold (count_up (noted mark).asking) ≡ true → nat_lt asked.threshold (length waiting) ≡ true
-  many_back mark asking many =
+  many_back : (urged : Bool) → list_any asks frames ≡ true → nat_lt (noted urged).threshold (count_up (noted urged).asking) ≡ true → nat_lt asked.threshold (length waiting) ≡ true
+  many_back urged asking many =
       let less = ltb-true left.acknowledging.threshold (count_up left.acknowledging.asking) many in
       let threshold : left.acknowledging.threshold ≡ asked.threshold = ap (λ (r : Requested). r.threshold) left_asked in
       let same = left_acks.asking in
@@ -280,15 +278,15 @@ module _ (e : End) (now n : ℕ) (frames : List FrameValue) (i : Intake) (ps : L
       by_one false is more = cc
 
   -- it comes too late
-  order_back : (mark : Option EcnCodepoint) → pending.is_out_of_order (noted mark) (greatest_before (noted mark)) (max (greatest_before (noted mark)) n) n left.numbers.opened ≡ true → is_too_late asked.reordering acked i.took (n ∷ i.opened) packet ≡ true
-  order_back mark order =
+  order_back : (urged : Bool) → pending.is_out_of_order (noted urged) (greatest_before (noted urged)) (max (greatest_before (noted urged)) n) n left.numbers.opened ≡ true → is_too_late asked.reordering acked i.took (n ∷ i.opened) packet ≡ true
+  order_back urged order =
       sym (ap (λ (r : Requested). is_too_late r.reordering acked i.took (n ∷ i.opened) packet) left_asked)
-      ∙ late_back (noted mark) acked i.took i.opened n frames left.numbers.opened (left_acks.acked ∙ known.last)
+      ∙ late_back (noted urged) acked i.took i.opened n frames left.numbers.opened (left_acks.acked ∙ known.last)
       (ap (λ (o : Option ℕ). unwrap_or o 0) (left_acks.greatest ∙ ap (λ (r : Rule). r.greatest) known.rules) ∙ latest_is i.took) seen_left order
 
-  -- so the observer finds that the packet did, or it bears the mark
-  pressed_back : (mark : Option EcnCodepoint) → (after mark).due ≡ true → DueBy mark (hastens asked acked i.took (n ∷ i.opened) waiting packet)
-  pressed_back mark due = go (asks_in (map Ok frames)) refl due
+  -- so the observer finds that the packet did, or it is urged by its mark
+  pressed_back : (urged : Bool) → (after urged).due ≡ true → DueBy urged (hastens asked acked i.took (n ∷ i.opened) waiting packet)
+  pressed_back urged due = go (asks_in (map Ok frames)) refl due
     where
       hurries : Bool
       hurries = list_any is_immediate_ack frames
@@ -299,28 +297,28 @@ module _ (e : End) (now n : ℕ) (frames : List FrameValue) (i : Intake) (ps : L
       late : Bool
       late = is_too_late asked.reordering acked i.took (n ∷ i.opened) packet
 
-      by_asking : list_any asks frames ≡ true → (hurries || (many || late)) ≡ true → DueBy mark (hastens asked acked i.took (n ∷ i.opened) waiting packet)
+      by_asking : list_any asks frames ≡ true → (hurries || (many || late)) ≡ true → DueBy urged (hastens asked acked i.took (n ∷ i.opened) waiting packet)
       by_asking asking cause = inr (inl (and_from (list_any asks frames) (hurries || (many || late)) asking cause))
 
-      by_note : DueBy mark hurries → DueBy mark (hastens asked acked i.took (n ∷ i.opened) waiting packet)
+      by_note : DueBy urged hurries → DueBy urged (hastens asked acked i.took (n ∷ i.opened) waiting packet)
       by_note (inl was) = inl was
       by_note (inr (inl hurry)) = by_asking (hurry_asks frames hurry) (or_left hurries (many || late) hurry)
       by_note (inr (inr marked)) = inr (inr marked)
 
-      go : (b : Bool) → asks_in (map Ok frames) ≡ b → (after_packet (noted mark) left.closing.clock n b left.numbers.opened).due ≡ true → DueBy mark (hastens asked acked i.took (n ∷ i.opened) waiting packet)
-      go false is due = by_note (noted_back mark due)
+      go : (b : Bool) → asks_in (map Ok frames) ≡ b → (after_packet (noted urged) left.closing.clock n b left.numbers.opened).due ≡ true → DueBy urged (hastens asked acked i.took (n ∷ i.opened) waiting packet)
+      go false is due = by_note (noted_back urged due)
       go true is due =
           let asking : list_any asks frames ≡ true = sym (asks_same frames) ∙ is in
-          let more = nat_lt (noted mark).threshold (count_up (noted mark).asking) in
-          let order = pending.is_out_of_order (noted mark) (greatest_before (noted mark)) (max (greatest_before (noted mark)) n) n left.numbers.opened in
-          elim (or_cases (noted mark).due (more || order) (sym (waited (starts_wait (asking_counted (noted mark) n left.numbers.opened)) (asking_counted (noted mark) n left.numbers.opened) left.closing.clock) ∙ due)) [
-            | inl made ↦ by_note (noted_back mark made)
-            | inr others ↦ by_asking asking (or_right hurries (many || late) (elim (or_cases more order others) [ inl wait ↦ or_left many late (many_back mark asking wait) | inr out ↦ or_right many late (order_back mark out) ]))
+          let more = nat_lt (noted urged).threshold (count_up (noted urged).asking) in
+          let order = pending.is_out_of_order (noted urged) (greatest_before (noted urged)) (max (greatest_before (noted urged)) n) n left.numbers.opened in
+          elim (or_cases (noted urged).due (more || order) (sym (waited (starts_wait (asking_counted (noted urged) n left.numbers.opened)) (asking_counted (noted urged) n left.numbers.opened) left.closing.clock) ∙ due)) [
+            | inl made ↦ by_note (noted_back urged made)
+            | inr others ↦ by_asking asking (or_right hurries (many || late) (elim (or_cases more order others) [ inl wait ↦ or_left many late (many_back urged asking wait) | inr out ↦ or_right many late (order_back urged out) ]))
           ]
 
   -- where one packet came
-  one_back : (mark : Option EcnCodepoint) → (after mark).due ≡ true → DueBy mark (one_hastens acked i (with_taken i n frames) (asking_among (news i (with_taken i n frames)) ++ ps))
-  one_back mark due = elim (pressed_back mark due) [
+  one_back : (urged : Bool) → (after urged).due ≡ true → DueBy urged (one_hastens acked i (with_taken i n frames) (asking_among (news i (with_taken i n frames)) ++ ps))
+  one_back urged due = elim (pressed_back urged due) [
     | inl was ↦ inl was
     | inr other ↦ inr (elim other [
       | inl is ↦ inl (ap (λ (qs : List Packet). list_any (hastens asked acked i.took (n ∷ i.opened) (asking_among qs ++ ps)) qs) (one_new i n frames) ∙ or_left (hastens asked acked i.took (n ∷ i.opened) waiting packet) false is)
@@ -347,7 +345,7 @@ pub arrivals_press : (e : End) (now n : ℕ) (frames : List FrameValue) (i : Int
 arrivals_press e now n frames i ps acked known = record {
   ignored = λ reason small opened. none_presses e.acknowledging e.acknowledging acked i ps (λ was. was) (known opened).counted refl;
   noted = λ state reason small opened. absurd (let clash : states.Closing ≡ states.Open = sym state ∙ opened in cc);
-  takes = λ words state new none mark small opened. one_presses e now n frames i ps acked (known state) none mark small;
+  takes = λ words state new none urged mark small opened. one_presses e now n frames i ps acked (known state) none urged small;
   drains = λ words state new close is small opened. absurd cc;
   refuses = λ words state new f is small opened. absurd cc;
   exhausts = λ state small opened. absurd cc;
@@ -355,24 +353,19 @@ arrivals_press e now n frames i ps acked known = record {
 
 -- what makes one due by a delivery
 abbrev pub DueOf : Pending → Option ℕ → Intake → List Packet → Bool → Pending → Intake → Type 0
-DueOf p acked i ps marked q j = q.due ≡ true → (p.due ≡ true) ⊎ ((one_hastens acked i j (asking_among (news i j) ++ ps) ≡ true) ⊎ (marked ≡ true))
+DueOf p acked i ps urged q j = q.due ≡ true → (p.due ≡ true) ⊎ ((one_hastens acked i j (asking_among (news i j) ++ ps) ≡ true) ⊎ (urged ≡ true))
 
--- the mark of congestion is CE
-marked_back : (mark : Option EcnCodepoint) → is_congested mark ≡ true → is_marked mark ≡ true
-marked_back None is = cc
-marked_back (Some Ect0) is = cc
-marked_back (Some Ect1) is = cc
-marked_back (Some Ce) is = refl
-
--- at an end that is open behind it, a packet that hastens it, or that bears the mark
-pub arrivals_due : (e : End) (delivery : Delivery) (n : ℕ) (frames : List FrameValue) (i : Intake) (ps : List Packet) (acked : Option ℕ) → (e.closing.state ≡ states.Open → Pressing e acked i ps)
-    → ArrivalsWith delivery.ecn e delivery.now n frames i (λ (o : Outcome) (j : Intake). o.end.closing.state ≡ states.Open → DueOf e.acknowledging acked i ps (takes_marked (calls.Deliver delivery) (answers.Deliver o.answer)) o.end.acknowledging j)
-arrivals_due e delivery n frames i ps acked known = record {
+-- at an end that is open behind it, a packet that hastens it, or that is urged by its mark, as an
+-- observer finds it where the end does
+pub arrivals_due : (e : End) (delivery : Delivery) (n : ℕ) (frames : List FrameValue) (i : Intake) (ps : List Packet) (acked : Option ℕ) → (e.closing.state ≡ states.Open → Pressing e acked i ps) → (urges : Answer → Intake → Bool)
+    → (e.closing.state ≡ states.Open → (arrived e delivery.now n frames).fault ≡ None → urges (answers.Deliver receives.Taken) (with_taken i n frames) ≡ is_urged delivery.ecn (map Ok frames) (begun e delivery.now n))
+    → ArrivalsWith delivery.ecn e delivery.now n frames i (λ (o : Outcome) (j : Intake). o.end.closing.state ≡ states.Open → DueOf e.acknowledging acked i ps (urges (answers.Deliver o.answer) j) o.end.acknowledging j)
+arrivals_due e delivery n frames i ps acked known urges same = record {
   ignored = λ reason opened due. inl due;
   noted = λ state reason opened. absurd (let clash : states.Closing ≡ states.Open = sym state ∙ opened in cc);
-  takes = λ words state new none opened due. elim (one_back e delivery.now n frames i ps acked (known state) none delivery.ecn due) [
+  takes = λ words state new none opened due. elim (one_back e delivery.now n frames i ps acked (known state) none (is_urged delivery.ecn (map Ok frames) (begun e delivery.now n)) due) [
     | inl was ↦ inl was
-    | inr other ↦ inr (elim other [ inl is ↦ inl is | inr marked ↦ inr (marked_back delivery.ecn marked) ])
+    | inr other ↦ inr (elim other [ inl is ↦ inl is | inr urged ↦ inr (same state none ∙ urged) ])
   ];
   drains = λ words state new close is opened. absurd cc;
   refuses = λ words state new f is opened. absurd cc;

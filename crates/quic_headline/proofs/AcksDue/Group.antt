@@ -20,9 +20,9 @@ use Rattle.quic_machine.specs.CallCases.{is_delivery}
 use Rattle.quic_headline.specs.Runs.{Told, Packet, Intake, In, folded}
 use Rattle.quic_headline.specs.Requested.{Requested, is_newer, requested_after, requested_by, requested}
 use Rattle.quic_headline.specs.Observer.{Sent, Watch, first_watch, news, is_past, is_timely, Lens}
-use Rattle.quic_headline.specs.Moments.{acknowledges, Debt, debt_told, first_debt, first_deadline}
+use Rattle.quic_headline.specs.Moments.{acknowledges, went, Debt, debt_told, first_debt, first_deadline}
 use Rattle.quic_headline.specs.Rest.{Unanswered, asking_among, unanswered_told, none_unanswered}
-use Rattle.quic_headline.specs.AcksDue.{latest_asking, one_hastens, takes_marked, are_some, waits_out, Haste, haste_told, no_haste}
+use Rattle.quic_headline.specs.AcksDue.{latest_asking, one_hastens, are_some, waits_out, Haste, haste_told, no_haste}
 use Rattle.quic_headline.proofs.Packets.Invariant.{KnowsIn, IsSent}
 use Rattle.quic_headline.proofs.Packets.Growth.{step_of}
 use Rattle.quic_headline.proofs.Packets.Intakes.{folded_more}
@@ -39,7 +39,8 @@ use Rattle.quic_headline.proofs.Rest.Unanswered.{unanswered_of, watch_within, pa
 use Rattle.quic_headline.proofs.AcksDue.Rules.{Rule}
 use Rattle.quic_headline.proofs.AcksDue.Gaps.{took_came}
 use Rattle.quic_headline.proofs.AcksDue.Arrivals.{IsPressed, Counts, Presses, PressesOpen, Pressing, none_presses, arrivals_press}
-use Rattle.quic_headline.proofs.AcksDue.Marked.{marked_due}
+use Rattle.quic_headline.proofs.AcksDue.Urging.{urged_by, urged_told}
+use Rattle.quic_headline.proofs.AcksDue.Marked.{urged_due}
 use Rattle.quic_headline.proofs.AcksDue.Waits.{Punctual, timeout_later}
 
 -- what observers know, what isn't answered, and how long it waits
@@ -63,10 +64,11 @@ same_debt l [] h = refl
 same_debt l (t ∷ told) h = same_debt l told (haste_told l t h)
 
 -- whether an ACK frame is due behind a call, where one goes at it or doesn't, where it was due
--- before, between these intakes, and where this was the greatest number of those that ask as the
--- last one went, and these wait behind it, until then, at this clock
-abbrev pub due_if : Told → Bool → Bool → Option ℕ → Intake → Intake → List Packet → List ℕ → ℕ → Bool
-due_if t goes was acked i j waiting deadlines clock = if goes then false else was || (one_hastens acked i j waiting || ((takes_marked t.call t.answer && are_some waiting) || waits_out t deadlines clock))
+-- before, where a packet is urged by its mark or none is, between these intakes, and where this was
+-- the greatest number of those that ask as the last one went, and these wait behind it, until then,
+-- at this clock
+abbrev pub due_if : Told → Bool → Bool → Bool → Option ℕ → Intake → Intake → List Packet → List ℕ → ℕ → Bool
+due_if t goes was urged acked i j waiting deadlines clock = if goes then false else was || (one_hastens acked i j waiting || ((urged && are_some waiting) || waits_out t deadlines clock))
 
 module _ (x y : Party) (call : Call) (a : Answer) (c : Calls Waiting x y call a) where
   -- what is known of the packets before the call, and behind it
@@ -116,9 +118,13 @@ module _ (x y : Party) (call : Call) (a : Answer) (c : Calls Waiting x y call a)
       ∙ ap (λ (u : Unanswered). haste_told (lens x y) told (record { known = u; debt = (haste_of x y).debt; due = due; acked = acked })) known_before
       ∙ ap (λ (d : Debt). haste_told (lens x y) told (record { known = before; debt = d; due = due; acked = acked })) debt_before
 
+  -- whether the observer finds a packet urged by its mark
+  abbrev pub urged : Bool
+  urged = urged_by x y call a (came_to (called x y.given call a) y)
+
   -- what is due behind the call
   pub due_told : (haste_of (called x y.given call a) y).due
-      ≡ due_if told (acknowledges (sents_by x.policy x.end call a)) (haste_of x y).due (haste_of x y).acked (came_to x y) (came_to (called x y.given call a) y) behind.packets (debt_of (called x y.given call a) y).deadlines after.clock
+      ≡ due_if told (acknowledges (sents_by x.policy x.end call a)) (haste_of x y).due urged (haste_of x y).acked (came_to x y) (came_to (called x y.given call a) y) behind.packets (debt_of (called x y.given call a) y).deadlines after.clock
   due_told =
       let first : Watch = first_watch x.final x.began x.initial_rtt x.initial_delay in
       let due : Bool = (haste_of x y).due in
@@ -128,11 +134,12 @@ module _ (x y : Party) (call : Call) (a : Answer) (c : Calls Waiting x y call a)
       let same : behind ≡ unanswered = folded_more (unanswered_told (lens x y)) x.told told (none_unanswered first) in
       let same_moments : debt_of (called x y.given call a) y ≡ debt = folded_more (debt_told (lens x y)) x.told told (first_debt first) in
       ap (λ (h : Haste). h.due) haste_told_is
-      ∙ ap (λ (ss : List Sent). due_if told (acknowledges ss) due acked before.watch.intake after.intake unanswered.packets debt.deadlines after.clock) (went_behind x y call a observed before.watch watched)
-      ∙ ap (λ (i : Intake). due_if told (acknowledges (sents_by x.policy x.end call a)) due acked i after.intake unanswered.packets debt.deadlines after.clock) (came_before x y call a observed before.watch watched)
-      ∙ ap (λ (j : Intake). due_if told (acknowledges (sents_by x.policy x.end call a)) due acked (came_to x y) j unanswered.packets debt.deadlines after.clock) (came_behind x y call a observed before.watch watched)
-      ∙ ap (λ (u : Unanswered). due_if told (acknowledges (sents_by x.policy x.end call a)) due acked (came_to x y) (came_to (called x y.given call a) y) u.packets debt.deadlines after.clock) (sym same)
-      ∙ ap (λ (d : Debt). due_if told (acknowledges (sents_by x.policy x.end call a)) due acked (came_to x y) (came_to (called x y.given call a) y) behind.packets d.deadlines after.clock) (sym same_moments)
+      ∙ ap (λ (b : Bool). due_if told (acknowledges (went before.watch after)) due b acked before.watch.intake after.intake unanswered.packets debt.deadlines after.clock) (urged_told x y call a observed before.watch watched)
+      ∙ ap (λ (ss : List Sent). due_if told (acknowledges ss) due urged acked before.watch.intake after.intake unanswered.packets debt.deadlines after.clock) (went_behind x y call a observed before.watch watched)
+      ∙ ap (λ (i : Intake). due_if told (acknowledges (sents_by x.policy x.end call a)) due urged acked i after.intake unanswered.packets debt.deadlines after.clock) (came_before x y call a observed before.watch watched)
+      ∙ ap (λ (j : Intake). due_if told (acknowledges (sents_by x.policy x.end call a)) due urged acked (came_to x y) j unanswered.packets debt.deadlines after.clock) (came_behind x y call a observed before.watch watched)
+      ∙ ap (λ (u : Unanswered). due_if told (acknowledges (sents_by x.policy x.end call a)) due urged acked (came_to x y) (came_to (called x y.given call a) y) u.packets debt.deadlines after.clock) (sym same)
+      ∙ ap (λ (d : Debt). due_if told (acknowledges (sents_by x.policy x.end call a)) due urged acked (came_to x y) (came_to (called x y.given call a) y) behind.packets d.deadlines after.clock) (sym same_moments)
 
   -- and the greatest number of those that ask, as the last ACK frame went
   acked_told : (haste_of (called x y.given call a) y).acked ≡ (if acknowledges (sents_by x.policy x.end call a) then latest_asking (came_to (called x y.given call a) y).took else (haste_of x y).acked)
@@ -359,12 +366,12 @@ hastes_step x y call a c h = record {
     by_packet : acknowledges (sents_by x.policy x.end call a) ≡ false → next.end.closing.state ≡ states.Open → one_hastens acked i j waiting ≡ true → IsPressed next.end.acknowledging
     by_packet none opened hastens = (presses none opened).hastens (ap (λ (qs : List Packet). one_hastens acked i j qs) (sym (waiting_by false none)) ∙ hastens)
 
-    -- it bears the mark
-    by_mark : next.end.closing.state ≡ states.Open → (takes_marked call a && are_some waiting) ≡ true → IsPressed next.end.acknowledging
+    -- it is urged by its mark
+    by_mark : next.end.closing.state ≡ states.Open → (urged x y call a c && are_some waiting) ≡ true → IsPressed next.end.acknowledging
     by_mark opened marked =
-        let parts = and_parts (takes_marked call a) (are_some waiting) marked in
+        let parts = and_parts (urged x y call a c) (are_some waiting) marked in
         let first = first_some waiting parts.1 in
-        (marked_due x.policy x.end y.given call a c.answer parts.0 opened, (c.gives_behind.1.0.owes opened first.0 first.1).counted)
+        (urged_due x y call a (observed x y call a c) parts.0 opened, (c.gives_behind.1.0.owes opened first.0 first.1).counted)
 
     -- one has waited
     by_wait : next.end.closing.state ≡ states.Open → waits_out t deadlines clock ≡ true → IsPressed next.end.acknowledging
@@ -374,16 +381,16 @@ hastes_step x y call a c h = record {
         out_due x y call a c.gives_behind.1.1 opened found.0 found.1.0 found.1.1 late
 
     by_cause : acknowledges (sents_by x.policy x.end call a) ≡ false → next.end.closing.state ≡ states.Open
-        → ((haste_of x y).due ≡ true) ⊎ ((one_hastens acked i j waiting || ((takes_marked call a && are_some waiting) || waits_out t deadlines clock)) ≡ true) → IsPressed next.end.acknowledging
+        → ((haste_of x y).due ≡ true) ⊎ ((one_hastens acked i j waiting || ((urged x y call a c && are_some waiting) || waits_out t deadlines clock)) ≡ true) → IsPressed next.end.acknowledging
     by_cause none opened (inl was) = (presses none opened).on (h.due (was_open x.policy x.end y.given call a opened) was)
-    by_cause none opened (inr more) = elim (or_cases (one_hastens acked i j waiting) ((takes_marked call a && are_some waiting) || waits_out t deadlines clock) more) [
+    by_cause none opened (inr more) = elim (or_cases (one_hastens acked i j waiting) ((urged x y call a c && are_some waiting) || waits_out t deadlines clock) more) [
       | inl hastens ↦ by_packet none opened hastens
-      | inr others ↦ elim (or_cases (takes_marked call a && are_some waiting) (waits_out t deadlines clock) others) [ inl marked ↦ by_mark opened marked | inr out ↦ by_wait opened out ]
+      | inr others ↦ elim (or_cases (urged x y call a c && are_some waiting) (waits_out t deadlines clock) others) [ inl marked ↦ by_mark opened marked | inr out ↦ by_wait opened out ]
     ]
 
-    by_acks : (b : Bool) → acknowledges (sents_by x.policy x.end call a) ≡ b → next.end.closing.state ≡ states.Open → due_if t b (haste_of x y).due acked i j waiting deadlines clock ≡ true → IsPressed next.end.acknowledging
+    by_acks : (b : Bool) → acknowledges (sents_by x.policy x.end call a) ≡ b → next.end.closing.state ≡ states.Open → due_if t b (haste_of x y).due (urged x y call a c) acked i j waiting deadlines clock ≡ true → IsPressed next.end.acknowledging
     by_acks true some opened is = cc
-    by_acks false none opened is = by_cause none opened (or_cases (haste_of x y).due (one_hastens acked i j waiting || ((takes_marked call a && are_some waiting) || waits_out t deadlines clock)) is)
+    by_acks false none opened is = by_cause none opened (or_cases (haste_of x y).due (one_hastens acked i j waiting || ((urged x y call a c && are_some waiting) || waits_out t deadlines clock)) is)
 
 -- over what observers know, what isn't answered, and how long it waits
 pub hastes_group : Group Waiting Hastes

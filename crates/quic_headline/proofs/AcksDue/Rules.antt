@@ -19,7 +19,6 @@ use Rattle.quic_recovery_core.specs.declared.ack_frequency.Request.{Request}
 use Rattle.quic_recovery_core.specs.AckFrequency.{is_stale, after_acked}
 use Rattle.quic_recovery_core.specs.Duplicates.{Seen}
 use Rattle.quic_recovery_core.specs.PendingAcks.{Pending, after_insert, asking_counted, starts_wait, after_packet}
-use Rattle.quic_spaces.specs.Marks.{is_congested}
 use Rattle.quic_spaces.specs.Acknowledging.{with_due}
 use Rattle.quic_machine.specs.declared.answers.State.TheVariants as states
 use Rattle.quic_machine.specs.declared.run.Call.{Call}
@@ -303,7 +302,7 @@ arrivals_ruled : (e : End) (now n : ℕ) (frames : List FrameValue) (i : Intake)
 arrivals_ruled e now n frames i ruled = record {
   ignored = λ reason. ruled;
   noted = λ state reason opened. absurd (let clash : states.Closing ≡ states.Open = sym state ∙ opened in cc);
-  takes = λ words state new none mark opened. taken none mark (ruled state);
+  takes = λ words state new none urged mark opened. taken none urged mark (ruled state);
   drains = λ words state new close is opened. absurd cc;
   refuses = λ words state new f is opened. absurd cc;
   exhausts = λ state opened. absurd cc;
@@ -315,9 +314,9 @@ arrivals_ruled e now n frames i ruled = record {
     all : List Packet
     all = record { number = n; frames = frames } ∷ i.took
 
-    taken : (arrived e now n frames).fault ≡ None → (mark : Option EcnCodepoint) → rule_of e ≡ rule_by i.took → rule_of (after_taken n (asks_in (map Ok frames)) mark left) ≡ rule_by all
-    taken none mark was =
-        let noted : Pending = with_due (is_congested mark) (after_insert left.acknowledging n left.closing.clock) in
+    taken : (arrived e now n frames).fault ≡ None → (urged : Bool) (mark : Option EcnCodepoint) → rule_of e ≡ rule_by i.took → rule_of (after_taken n (asks_in (map Ok frames)) urged mark left) ≡ rule_by all
+    taken none urged mark was =
+        let noted : Pending = with_due urged (after_insert left.acknowledging n left.closing.clock) in
         let q : Pending = after_packet noted left.closing.clock n (asks_in (map Ok frames)) left.numbers.opened in
         let kept = packet_asked (asks_in (map Ok frames)) noted left.closing.clock n left.numbers.opened in
         let greatest : q.greatest ≡ latest_asking all = packet_greatest i.took frames (asks_in (map Ok frames)) noted left.closing.clock n left.numbers.opened (sym (asks_same frames)) ((frames_acks frames (begun e now n)).greatest ∙ ap (λ (r : Rule). r.greatest) was) in

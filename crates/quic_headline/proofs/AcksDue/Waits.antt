@@ -7,7 +7,6 @@ use Rattle.std.proofs.lemmas.Bool.{leb-false}
 use Rattle.quic_wire_core.specs.declared.shared.EcnCodepoint.{EcnCodepoint}
 use Rattle.quic_wire.specs.Value.{FrameValue, asks}
 use Rattle.quic_recovery_core.specs.PendingAcks.{after_insert}
-use Rattle.quic_spaces.specs.Marks.{is_congested}
 use Rattle.quic_spaces.specs.Acknowledging.{ack_due, with_due}
 use Rattle.quic_time.specs.Timers.{has_come}
 use Rattle.quic_machine.specs.declared.answers.State.{State}
@@ -137,7 +136,7 @@ arrivals_count : (e : End) (now n : ℕ) (frames : List FrameValue) (i : Intake)
 arrivals_count e now n frames i = record {
   ignored = λ reason. none_counts i e e (λ some. some);
   noted = λ state reason opened. absurd (let clash : states.Closing ≡ states.Open = sym state ∙ opened in cc);
-  takes = λ words state new none mark opened. (λ some. (counts mark).1 (subst (λ (k : ℕ). 0 < k) (sym (frames_acks frames (begun e now n)).asking) some), λ some. (counts mark).0 (asks_same frames ∙ or_back (ap (λ (ps : List Packet). one_asks ps) (sym (one_new i n frames)) ∙ some)));
+  takes = λ words state new none urged mark opened. (λ some. (counts urged mark).1 (subst (λ (k : ℕ). 0 < k) (sym (frames_acks frames (begun e now n)).asking) some), λ some. (counts urged mark).0 (asks_same frames ∙ or_back (ap (λ (ps : List Packet). one_asks ps) (sym (one_new i n frames)) ∙ some)));
   drains = λ words state new close is opened. absurd cc;
   refuses = λ words state new f is opened. absurd cc;
   exhausts = λ state opened. absurd cc;
@@ -149,8 +148,8 @@ arrivals_count e now n frames i = record {
     or_back : (list_any asks frames || false) ≡ true → list_any asks frames ≡ true
     or_back some = sym (or_false (list_any asks frames)) ∙ some
 
-    counts : (mark : Option EcnCodepoint) → (asks_in (map Ok frames) ≡ true → 0 < (after_taken n (asks_in (map Ok frames)) mark left).acknowledging.asking) × (0 < left.acknowledging.asking → 0 < (after_taken n (asks_in (map Ok frames)) mark left).acknowledging.asking)
-    counts mark = taken_counts (asks_in (map Ok frames)) (with_due (is_congested mark) (after_insert left.acknowledging n left.closing.clock)) left.closing.clock n left.numbers.opened
+    counts : (urged : Bool) (mark : Option EcnCodepoint) → (asks_in (map Ok frames) ≡ true → 0 < (after_taken n (asks_in (map Ok frames)) urged mark left).acknowledging.asking) × (0 < left.acknowledging.asking → 0 < (after_taken n (asks_in (map Ok frames)) urged mark left).acknowledging.asking)
+    counts urged mark = taken_counts (asks_in (map Ok frames)) (with_due urged (after_insert left.acknowledging n left.closing.clock)) left.closing.clock n left.numbers.opened
 
 -- behind any call that gives no ACK frame
 call_counts : (x y : Party) (call : Call) (a : Answer) → Calls Observed x y call a → acknowledges (sents_by x.policy x.end call a) ≡ false → Counts x.end (came_to x y) (called x y.given call a).end (came_to (called x y.given call a) y)

@@ -197,7 +197,7 @@ module _ (stop over : ℕ → Type 0) where
 
   fine : AreFine Shut (λ f. Unit {0})
   fine = record {
-    told = λ f s i. (by_told IsShaped shape_any f s i.0, by_tells (Of K) s i.1 (record { each = i.1.each }) (λ id. limit_fits s id i) (λ dir. record { each = i.1.each }) f);
+    told = λ f s i. (by_told IsShaped shape_any f s i.0, by_tells (Of K) s i.1 (record { each = i.1.each }) (λ id. limit_fits s id i) (λ dir. record { each = i.1.each }) (λ limit. i.1) (λ id limit. i.1) f);
     sent = λ fair s id room h found i. (by_frame IsShaped shape_any fair s id room h found tt i.0, record { each = i.1.each });
     limits = λ p s f i goes. tt;
     pads = tt;

@@ -174,7 +174,7 @@ module _ (B : Way) (w : IsWriting B) (x y : Party) (call : Call) (a : Answer) (c
       comes = λ delivery is s among. (
           let all : Shut (Stops (behind call a)) (IsReadOff (behind call a)) (passed s.frames (begun x.end delivery.now s.number)).end.streams =
           frames_keep (λ (e : End). Shut (Stops (behind call a)) (IsReadOff (behind call a)) e.streams) (λ f e j. (shape_lasts.frame f e j.0, frame_fits (Stops (behind call a)) (IsReadOff (behind call a)) (stop_ends (behind call a)) f e j)) s.frames (begun x.end delivery.now s.number) (there call a) in
-          record { ignored = λ reason. (there call a).1; noted = λ state reason. (there call a).1; takes = λ words state new none mark. all.1; drains = λ words state new close fault. all.1; refuses = λ words state new f fault. all.1; exhausts = λ state. (there call a).1 });
+          record { ignored = λ reason. (there call a).1; noted = λ state reason. (there call a).1; takes = λ words state new none urged mark. all.1; drains = λ words state new close fault. all.1; refuses = λ words state new f fault. all.1; exhausts = λ state. (there call a).1 });
     });
   }
 

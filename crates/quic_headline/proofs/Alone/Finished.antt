@@ -115,7 +115,7 @@ module _ (id : ℕ) where
     AtMost s = EachSends (λ j limit. Unit {0}) Before (λ j h. Before j) Behind s
 
     of_halves : AreOfHalves (λ j limit. Unit {0}) Before (λ j h. Before j) Behind
-    of_halves = record { fresh = λ j limit f i. i; over = λ j h i ended same. (let none = i same in omega arith); blocked = λ j h b i. i; placed = λ j h p i. i }
+    of_halves = record { fresh = λ j limit f i. i; over = λ j h i ended same. (let none = i same in omega arith); blocked = λ j h b i. i; noted = λ j h said i. i; placed = λ j h p i. i }
 
     at_most_kept : KeepsBy (λ r j old new. Unit {0}) (λ s j old new. Unit {0}) (λ s j m old new. Unit {0}) AtMost
     at_most_kept = keeps_fewer (λ r j old new x. x) (λ s j old new x i. i) (λ s j m old new x i. i) (each_kept (λ j limit. Unit {0}) Before (λ j h. Before j) Behind of_halves)

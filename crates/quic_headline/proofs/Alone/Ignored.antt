@@ -21,7 +21,7 @@ use Rattle.quic_machine.specs.Ids.{known}
 use Rattle.quic_machine.specs.Policy.{Policy}
 use Rattle.quic_machine.specs.End.{End, with_closing, with_numbers}
 use Rattle.quic_machine.specs.Opens.{own_id_length}
-use Rattle.quic_machine.specs.Receive.{Fault, broke, too_many_pieces, closed_by_peer, Outcome, asks_in, take_payload, ends_as, by_state, opened_to, opened_as, opening, dropped, headed, unopened_in, received_in, is_read, drawn_if, received}
+use Rattle.quic_machine.specs.Receive.{Fault, broke, too_many_pieces, closed_by_peer, Outcome, asks_in, is_urged, take_payload, ends_as, by_state, opened_to, opened_as, opening, dropped, headed, unopened_in, received_in, is_read, drawn_if, received}
 use Rattle.quic_machine.specs.FrameCases.{begun}
 
 -- What each step keeps that a datagram which is dropped makes of an end.
@@ -35,16 +35,17 @@ KeepsDropped P o = (reason : DropReason) → o.answer ≡ receives.Dropped reaso
 
 module _ (P : End → Type 0) (c : Ignores P) where
   -- what was read isn't dropped
-  ends_kept : (fault : Option Fault) (asks : Bool) (n : ℕ) (mark : Option EcnCodepoint) (e : End) → KeepsDropped P (ends_as fault asks n mark e)
-  ends_kept None asks n mark e reason is = cc
-  ends_kept (Some (closed_by_peer close)) asks n mark e reason is = cc
-  ends_kept (Some (broke error)) asks n mark e reason is = cc
-  ends_kept (Some too_many_pieces) asks n mark e reason is = cc
+  ends_kept : (fault : Option Fault) (asks urged : Bool) (n : ℕ) (mark : Option EcnCodepoint) (e : End) → KeepsDropped P (ends_as fault asks urged n mark e)
+  ends_kept None asks urged n mark e reason is = cc
+  ends_kept (Some (closed_by_peer close)) asks urged n mark e reason is = cc
+  ends_kept (Some (broke error)) asks urged n mark e reason is = cc
+  ends_kept (Some too_many_pieces) asks urged n mark e reason is = cc
 
   state_kept : (state : State) (o : Opening) (arrival : Arrival) (e : End) → P e → KeepsDropped P (by_state state o arrival (with_numbers e (number_opened e.numbers o.number)))
   state_kept states.Open o arrival e i reason is =
-      let taken = take_payload o.first (items o.payload) (begun e arrival.now o.number) in
-      ends_kept taken.fault (asks_in (items o.payload)) o.number arrival.mark taken.end reason is
+      let begins = begun e arrival.now o.number in
+      let taken = take_payload o.first (items o.payload) begins in
+      ends_kept taken.fault (asks_in (items o.payload)) (is_urged arrival.mark (items o.payload) begins) o.number arrival.mark taken.end reason is
   state_kept states.Closing o arrival e i reason is = c.asks_close (with_numbers e (number_opened e.numbers o.number)) (c.notes o.number e i)
   state_kept states.Drained o arrival e i reason is = c.notes o.number e i
   state_kept states.Failed o arrival e i reason is = c.notes o.number e i

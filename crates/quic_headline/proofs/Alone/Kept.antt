@@ -16,7 +16,6 @@ use Rattle.quic_sets.specs.Runs.{Run, AreRuns}
 use Rattle.quic_recovery_core.specs.PendingAcks.{Pending, most_ack_runs, with_one, but_least, at_most, above, after_insert}
 use Rattle.quic_recovery_core.proofs.AckRunSteps.{with_one_runs, with_one_len, but_least_runs, but_least_len, above_runs, above_len}
 use Rattle.quic_spaces.specs.Acknowledging.{with_due}
-use Rattle.quic_spaces.specs.Marks.{is_congested}
 use Rattle.quic_messages.specs.declared.errors.ReceivedError.{ReceivedError}
 use Rattle.quic_messages.specs.Messages.{Messages, weight, bytes_of, with_message, received_answer, after_received}
 use Rattle.quic_messages.specs.Sending.{send_answer}
@@ -193,9 +192,9 @@ module _ (settings : TransportSettings) where
   frame_kept f e asks i = i
 
   -- a packet whose frames were taken
-  taken_kept : (n : ℕ) (asks : Bool) (mark : Option EcnCodepoint) (e : End) → KeptAt e → KeptAt (after_taken n asks mark e)
-  taken_kept n asks mark e i =
-      let noted : Pending = with_due (is_congested mark) (after_insert e.acknowledging n e.closing.clock) in
+  taken_kept : (n : ℕ) (asks urged : Bool) (mark : Option EcnCodepoint) (e : End) → KeptAt e → KeptAt (after_taken n asks urged mark e)
+  taken_kept n asks urged mark e i =
+      let noted : Pending = with_due urged (after_insert e.acknowledging n e.closing.clock) in
       subst (λ (rs : List Run). Kept e.transport e.messages.queues.incoming rs e.ids.peer) (sym (packet_runs noted e.closing.clock n asks e.numbers.opened))
       (record { same = i.same; messages = i.messages; numbers = few_with e.acknowledging.runs n i.numbers; ids = i.ids })
 

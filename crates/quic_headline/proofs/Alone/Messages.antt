@@ -110,7 +110,7 @@ module _ (came : List ℕ → Type 0) where
       frame = λ f stands x j. frame_messages P shorter_came f x j (λ m same. received_came x.transport.datagram_receive_buffer_size m x.messages.queues (brings m (subst (Stands p e d) same stands)) j);
       notes = λ n x j. j;
       begins = λ now n x j. j;
-      takes = λ n asks mark x j. j;
+      takes = λ n asks urged mark x j. j;
       closes = λ reason x j. j;
       drains = λ close x j. j;
       asks_close = λ x j. j;

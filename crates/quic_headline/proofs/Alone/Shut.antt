@@ -36,7 +36,7 @@ use Rattle.quic_machine.specs.Ids.{known}
 use Rattle.quic_machine.specs.Opens.{own_id_length, in_phase, opens_behind, opens, would_open}
 use Rattle.quic_machine.specs.Calls.{closed_in}
 use Rattle.quic_machine.specs.End.{End, with_closing, with_numbers}
-use Rattle.quic_machine.specs.Receive.{Fault, broke, too_many_pieces, closed_by_peer, violation, is_empty, asks_in, take_frame, unless_fault, take_items, take_payload, Outcome, dropped, ends_as, by_state, opened_to, opened_as, opening, unopened_in, headed, received_in, received, is_read, drawn_if, with_ids_drawn}
+use Rattle.quic_machine.specs.Receive.{Fault, broke, too_many_pieces, closed_by_peer, violation, is_empty, asks_in, is_urged, take_frame, unless_fault, take_items, take_payload, Outcome, dropped, ends_as, by_state, opened_to, opened_as, opening, unopened_in, headed, received_in, received, is_read, drawn_if, with_ids_drawn}
 use Rattle.quic_machine.specs.Poll.{Polled, gives_datagram, datagram_of, bounds, may_seal, polled}
 use Rattle.quic_machine.specs.Timeouts.{TimedOut, Expiry, expiry_at, loss_judged, loss_expired, after_busy, unless_idle, close_expired, timed_out_in, timed_out}
 use Rattle.quic_machine.specs.Machine.{IsAnswer, IsDelivered, says_last, injected_if, after_injected_if, after_delivered, after_call, fails}
@@ -259,18 +259,18 @@ module _ (p : Policy) (theirs : List (List ℕ)) (e : End) (delivery : Delivery)
     told_as = tells.2;
   }
 
-  ends_shuts : (o : Opening) → opens p (known e.ids) (expected e.numbers) d ≡ Some o → (fault : Option Fault) → ((close : CloseValue) → fault ≡ Some (closed_by_peer close) → Tells (items o.payload) close) → (asking : Bool) (n now : ℕ) (mark : Option EcnCodepoint) (x : End) → e.closing.state ≡ states.Open → x.closing ≡ ticked e.closing now
-      → Comes (ends_as fault asking n mark x)
-  ends_shuts o is None tells asking n now mark x here same = stays (ap (λ (c : Closing). c.state) same) (ap (λ (c : Closing). c.reason) same)
-  ends_shuts o is (Some (closed_by_peer close)) tells asking n now mark x here same = drains here refl (reasons.Peer close) refl tt (closed o is close (tells close refl))
-  ends_shuts o is (Some (broke error)) tells asking n now mark x here same = closes here refl (reasons.Transport error) refl refl
-  ends_shuts o is (Some too_many_pieces) tells asking n now mark x here same = closes here refl reasons.Pieces refl refl
+  ends_shuts : (o : Opening) → opens p (known e.ids) (expected e.numbers) d ≡ Some o → (fault : Option Fault) → ((close : CloseValue) → fault ≡ Some (closed_by_peer close) → Tells (items o.payload) close) → (asking urged : Bool) (n now : ℕ) (mark : Option EcnCodepoint) (x : End) → e.closing.state ≡ states.Open → x.closing ≡ ticked e.closing now
+      → Comes (ends_as fault asking urged n mark x)
+  ends_shuts o is None tells asking urged n now mark x here same = stays (ap (λ (c : Closing). c.state) same) (ap (λ (c : Closing). c.reason) same)
+  ends_shuts o is (Some (closed_by_peer close)) tells asking urged n now mark x here same = drains here refl (reasons.Peer close) refl tt (closed o is close (tells close refl))
+  ends_shuts o is (Some (broke error)) tells asking urged n now mark x here same = closes here refl (reasons.Transport error) refl refl
+  ends_shuts o is (Some too_many_pieces) tells asking urged n now mark x here same = closes here refl reasons.Pieces refl refl
 
   state_shuts : (s : State) → e.closing.state ≡ s → (o : Opening) → opens p (known e.ids) (expected e.numbers) d ≡ Some o → (arrival : Arrival) → Comes (by_state s o arrival (with_numbers e (number_opened e.numbers o.number)))
   state_shuts states.Open here o is arrival =
       let at : End = begun e arrival.now o.number in
       let taken = take_payload o.first (items o.payload) at in
-      ends_shuts o is taken.fault (payload_tells o.first (items o.payload) at) (asks_in (items o.payload)) o.number arrival.now arrival.mark taken.end here (payload_has (ticked e.closing arrival.now) o.first (items o.payload) at refl)
+      ends_shuts o is taken.fault (payload_tells o.first (items o.payload) at) (asks_in (items o.payload)) (is_urged arrival.mark (items o.payload) at) o.number arrival.now arrival.mark taken.end here (payload_has (ticked e.closing arrival.now) o.first (items o.payload) at refl)
   state_shuts states.Closing here o is arrival = stays refl refl
   state_shuts states.Drained here o is arrival = stays refl refl
   state_shuts states.Failed here o is arrival = stays refl refl

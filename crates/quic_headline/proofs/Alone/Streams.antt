@@ -178,7 +178,7 @@ module _ (Fits : StreamValue → Type 0) (P : StreamsState → Type 0) (c : IsKe
       frame = λ f stands x j. frame_quiet P c.kept.quiet f x (λ g same. c.stream x.streams x.waiting.frames g (fits g (subst (Stands p e d) same stands)) j) (λ g same. c.reset x.streams x.waiting.frames g j) j;
       notes = λ n x j. j;
       begins = λ now n x j. j;
-      takes = λ n asks mark x j. j;
+      takes = λ n asks urged mark x j. j;
       closes = λ reason x j. j;
       drains = λ close x j. j;
       asks_close = λ x j. j;

@@ -24,7 +24,7 @@ use Rattle.quic_machine.specs.Policy.{Policy}
 use Rattle.quic_machine.specs.End.{End, with_closing, closed_by, with_numbers}
 use Rattle.quic_machine.specs.Opens.{own_id_length, in_phase, opens_behind, opens}
 use Rattle.quic_machine.specs.IdFrames.{drawn}
-use Rattle.quic_machine.specs.Receive.{Fault, broke, too_many_pieces, closed_by_peer, drained_at, exhausted, unopened_in, violation, reason_of, Progress, take_frame, unless_fault, take_items, is_empty, take_payload, asks_in, after_taken, dropped, ends_as, by_state, opened_to, opened_as, opening, headed, received_in, is_read, drawn_if, received}
+use Rattle.quic_machine.specs.Receive.{Fault, broke, too_many_pieces, closed_by_peer, drained_at, exhausted, unopened_in, violation, reason_of, Progress, take_frame, unless_fault, take_items, is_empty, take_payload, asks_in, is_urged, after_taken, dropped, ends_as, by_state, opened_to, opened_as, opening, headed, received_in, is_read, drawn_if, received}
 use Rattle.quic_machine.specs.FrameCases.{begun}
 use Rattle.quic_headline.specs.Runs.{In, frames_of, destination, opens_by_key}
 use Rattle.quic_headline.specs.Alone.{CameOpen}
@@ -58,7 +58,7 @@ pub record TakesEach (stands : FrameValue → Type 0) (P : Items → End → Typ
   pub stops : (is : Items) (e : End) → P is e → P [] e
   pub notes : (n : ℕ) (e : End) → P [] e → P [] (with_numbers e (number_opened e.numbers n))
   pub begins : (now n : ℕ) (is : Items) (e : End) → P is e → P is (begun e now n)
-  pub takes : (n : ℕ) (asks : Bool) (mark : Option EcnCodepoint) (e : End) → P [] e → P [] (after_taken n asks mark e)
+  pub takes : (n : ℕ) (asks urged : Bool) (mark : Option EcnCodepoint) (e : End) → P [] e → P [] (after_taken n asks urged mark e)
   pub closes : (reason : LostReason) (e : End) → P [] e → P [] (closed_by reason e)
   pub drains : (close : ℕ × CloseValue) (e : End) → P [] e → P [] (drained_at close.0 close.1 e)
   pub asks_close : (e : End) → P [] e → P [] (with_closing e (close_asked e.closing))
@@ -84,17 +84,18 @@ module _ (stands : FrameValue → Type 0) (P : Items → End → Type 0) (c : Ta
       go false = items_came is all e i
 
   -- all frames were taken, or one was at fault
-  ends_came : (fault : Option Fault) (asks : Bool) (n : ℕ) (mark : Option EcnCodepoint) (e : End) → P [] e → P [] (ends_as fault asks n mark e).end
-  ends_came None asks n mark e i = c.takes n asks mark e i
-  ends_came (Some (closed_by_peer close)) asks n mark e i = c.drains (n, close) e i
-  ends_came (Some (broke error)) asks n mark e i = c.closes (reason_of (broke error)) e i
-  ends_came (Some too_many_pieces) asks n mark e i = c.closes (reason_of too_many_pieces) e i
+  ends_came : (fault : Option Fault) (asks urged : Bool) (n : ℕ) (mark : Option EcnCodepoint) (e : End) → P [] e → P [] (ends_as fault asks urged n mark e).end
+  ends_came None asks urged n mark e i = c.takes n asks urged mark e i
+  ends_came (Some (closed_by_peer close)) asks urged n mark e i = c.drains (n, close) e i
+  ends_came (Some (broke error)) asks urged n mark e i = c.closes (reason_of (broke error)) e i
+  ends_came (Some too_many_pieces) asks urged n mark e i = c.closes (reason_of too_many_pieces) e i
 
   -- a packet whose number is new
   state_came : (state : State) (o : Opening) (arrival : Arrival) (e : End) → ((f : FrameValue) → In f (frames_of (items o.payload)) → stands f) → P (items o.payload) e → P [] e → P [] (by_state state o arrival (with_numbers e (number_opened e.numbers o.number))).end
   state_came states.Open o arrival e all i j =
-      let taken = take_payload o.first (items o.payload) (begun e arrival.now o.number) in
-      ends_came taken.fault (asks_in (items o.payload)) o.number arrival.mark taken.end (payload_came o.first (items o.payload) all (begun e arrival.now o.number) (c.begins arrival.now o.number (items o.payload) e i))
+      let begins = begun e arrival.now o.number in
+      let taken = take_payload o.first (items o.payload) begins in
+      ends_came taken.fault (asks_in (items o.payload)) (is_urged arrival.mark (items o.payload) begins) o.number arrival.mark taken.end (payload_came o.first (items o.payload) all begins (c.begins arrival.now o.number (items o.payload) e i))
   state_came states.Closing o arrival e all i j = c.asks_close (with_numbers e (number_opened e.numbers o.number)) (c.notes o.number e j)
   state_came states.Drained o arrival e all i j = c.notes o.number e j
   state_came states.Failed o arrival e all i j = c.notes o.number e j
@@ -151,7 +152,7 @@ pub record Takes (stands : FrameValue → Type 0) (P : End → Type 0) : Type 0 
   pub frame : (f : FrameValue) → stands f → (e : End) → P e → P (take_frame f e).end
   pub notes : (n : ℕ) (e : End) → P e → P (with_numbers e (number_opened e.numbers n))
   pub begins : (now n : ℕ) (e : End) → P e → P (begun e now n)
-  pub takes : (n : ℕ) (asks : Bool) (mark : Option EcnCodepoint) (e : End) → P e → P (after_taken n asks mark e)
+  pub takes : (n : ℕ) (asks urged : Bool) (mark : Option EcnCodepoint) (e : End) → P e → P (after_taken n asks urged mark e)
   pub closes : (reason : LostReason) (e : End) → P e → P (closed_by reason e)
   pub drains : (close : ℕ × CloseValue) (e : End) → P e → P (drained_at close.0 close.1 e)
   pub asks_close : (e : End) → P e → P (with_closing e (close_asked e.closing))

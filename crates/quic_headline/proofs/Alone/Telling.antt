@@ -8,7 +8,7 @@ use Rattle.quic_wire_core.specs.declared.stream_id.Dir.TheVariants.{Bi, Uni}
 use Rattle.quic_wire_core.specs.StreamId.{dir_of}
 use Rattle.quic_wire.specs.Value.{StreamValue, ResetStreamValue, StopSendingValue}
 use Rattle.quic_send_buffer.specs.declared.stream_meta.StreamMeta.{StreamMeta}
-use Rattle.quic_retransmits.specs.Retransmits.{Retransmits}
+use Rattle.quic_retransmits.specs.Retransmits.{Retransmits, with_id}
 use Rattle.quic_streams_parts.specs.declared.answers.Breach.{Breach}
 use Rattle.quic_streams_parts.specs.declared.answers.StreamEvent.{StreamEvent}
 use Rattle.quic_streams_parts.specs.declared.answers.StreamEvent.TheVariants.{Opened, Readable, Writable, Finished, Stopped, Available}
@@ -19,7 +19,7 @@ use Rattle.quic_streams_parts.specs.declared.answers.FinishError.{FinishError}
 use Rattle.quic_streams_parts.specs.Table.{Table, at}
 use Rattle.quic_streams_parts.specs.Dirs.{of, is_own, is_two_way}
 use Rattle.quic_streams_parts.specs.Events.{Events, with_opened, with_event, first_of, others_of}
-use Rattle.quic_streams_parts.specs.SendHalf.{SendHalf, Queued, is_acked, half_acked, half_lost}
+use Rattle.quic_streams_parts.specs.SendHalf.{SendHalf, was_said, Queued, is_acked, half_acked, half_lost}
 use Rattle.quic_streams_parts.specs.RecvHalf.{RecvHalf, end_of, after_frame, after_reset_stream, stopped_now}
 use Rattle.quic_streams_halves.specs.Halves.{without_half, is_done}
 use Rattle.quic_streams_state.specs.declared.state.StreamsState.{StreamsState}
@@ -285,9 +285,13 @@ reset_acked_owes k n s p id i = go (sent_half s id)
 blocked_owes : (k n : ℕ) (s : StreamsState) (p : Retransmits) (id : ℕ) → Owes (1 + k) n s → Owes k n (blocked_at (sending_half s id) s p id).state
 blocked_owes k n s p id i = go (sending_half s id)
   where
-    on : (h : SendHalf) (b : Bool) → Owes k n (if b then blocked_by_all s p id h else blocked_by_own s p id).state
+    own : (h : SendHalf) (b : Bool) → Owes k n (if b then streams_of s p else streams_of (with_send s id h) (record p { stream_data_blocked = with_id id p.stream_data_blocked })).state
+    own h true = lighter 1 k n s i
+    own h false = lighter 1 k n s i
+
+    on : (h : SendHalf) (b : Bool) → Owes k n (if b then blocked_by_all s p id h else blocked_by_own s p id h).state
     on h true = joins k n s id h i
-    on h false = lighter 1 k n s i
+    on h false = own h (was_said h.said h.limit)
 
     go : (o : Option SendHalf) → Owes k n (blocked_at o s p id).state
     go None = lighter 1 k n s i

@@ -108,7 +108,7 @@ delivery_tells p e arrival d keeps opens = in_all n (received p e arrival d).end
   stops = λ is x i. less (brings_in is) x i;
   notes = λ m x i. i;
   begins = λ now m is x i. i;
-  takes = λ m asks mark x i. i;
+  takes = λ m asks urged mark x i. i;
   closes = λ reason x i. i;
   drains = λ close x i. i;
   asks_close = λ x i. i;
@@ -138,7 +138,7 @@ poll_owes k n p e now i = by_poll p e now (λ (q : Polled). OwesAt k n q.end) (r
 })
   where
     put_owes : Writing (λ (d : Draft). OwesAt k n d.end)
-    put_owes (puts.control kind f) d may j = by_tells (Owes (d.end.messages.to_tell + k) n) d.end.streams j j (λ id. j) (λ dir. j) f
+    put_owes (puts.control kind f) d may j = by_tells (Owes (d.end.messages.to_tell + k) n) d.end.streams j j (λ id. j) (λ dir. j) (λ limit. j) (λ id limit. j) f
     put_owes put d may j = j
 
 -- ---- calls

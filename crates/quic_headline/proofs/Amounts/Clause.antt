@@ -52,7 +52,8 @@ use Rattle.quic_headline.proofs.Settled.Half.{UnusedSettles, HalfSettles, DoneSe
 use Rattle.quic_headline.proofs.Settled.Acked.{telling}
 use Rattle.quic_headline.proofs.Settled.Words.{is_reset}
 use Rattle.quic_headline.proofs.Settled.Carried.{known_of}
-use Rattle.quic_headline.proofs.Settled.Group.{Open, acks, told_so as told_finished}
+use Rattle.quic_headline.proofs.Packets.Acked.{acks}
+use Rattle.quic_headline.proofs.Settled.Group.{Open, told_so as told_finished}
 use Rattle.quic_headline.proofs.Settled.Clause.{Held, held}
 use Rattle.quic_headline.proofs.Amounts.Pieces.{sizes, sizes_sum, on_stream, filled, pieces_laid, laid_both}
 use Rattle.quic_headline.proofs.Amounts.Tally.{Tally, HasPieces, IsFresh, IsTallied, Tallies, half_tallied}

@@ -98,7 +98,7 @@ module _ (B : Way) (packets : (x y : Party) → B x y → PacketsHold x y) (x y 
   comes_tallies quiet now s = record {
     ignored = λ reason still. more (came_to x y).took x.end.streams (i.still still);
     noted = λ state reason still. (let clash : states.Closing ≡ states.Open = sym state ∙ still in cc);
-    takes = λ words state new none mark still. more (record { number = s.number; frames = s.frames } ∷ (came_to x y).took) (arrived x.end now s.number s.frames).end.streams
+    takes = λ words state new none urged mark still. more (record { number = s.number; frames = s.frames } ∷ (came_to x y).took) (arrived x.end now s.number s.frames).end.streams
         (packet_more x.made.streams (came_to x y).took x.told (record { number = s.number; frames = s.frames }) (arrived x.end now s.number s.frames).end.streams (frames_tally (tally_of x.made.streams (came_to x y).took x.told) s.frames (begun x.end now s.number) none (i.still state)));
     drains = λ words state new close is still. cc;
     refuses = λ words state new f is still. cc;

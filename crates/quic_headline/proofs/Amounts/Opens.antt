@@ -116,7 +116,7 @@ module _ (B : Way) (w : IsWriting B) (x y : Party) (call : Call) (a : Answer) (c
     none = λ delivery is. here;
     comes = λ delivery is s among. (
         let all : P (passed s.frames (begun x.end delivery.now s.number)).end.streams = frames_keep (λ (e : End). P e.streams) frame s.frames (begun x.end delivery.now s.number) here in
-        record { ignored = λ reason. here; noted = λ state reason. here; takes = λ words state new none mark. all; drains = λ words state new close fault. all; refuses = λ words state new f fault. all; exhausts = λ state. here });
+        record { ignored = λ reason. here; noted = λ state reason. here; takes = λ words state new none urged mark. all; drains = λ words state new close fault. all; refuses = λ words state new f fault. all; exhausts = λ state. here });
   })
     where
       frame : (f : FrameValue) (e : End) → P e.streams → P (take_frame f e).end.streams

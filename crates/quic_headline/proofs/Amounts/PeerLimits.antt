@@ -146,7 +146,7 @@ module _ (B : Way) (packets : (x y : Party) → B x y → PacketsHold x y) (x y 
   comes_counts now s = record {
     ignored = λ reason. k.counts;
     noted = λ state reason opened. (let clash : states.Closing ≡ states.Open = sym state ∙ opened in cc);
-    takes = λ words state new none mark opened dir.
+    takes = λ words state new none urged mark opened dir.
         packet_tells (λ d. max (of d x.made.streams.opening.own_limit) (max (greatest_in (count_in d) s.frames) (greatest (count_in d) (came_to x y).took))) s.frames (begun x.end now s.number) none
         (λ d. (let was = k.counts state d in omega arith)) dir;
     drains = λ words state new close is opened. cc;

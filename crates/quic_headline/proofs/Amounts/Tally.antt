@@ -121,6 +121,7 @@ module _ (t : Tally) where
     fresh = λ id limit first n. record { limit = first ∙ sym n.limit; stopped = sym n.stopped; pieces = λ none. record { front = []; parts = n.pieces; base = refl } };
     over = λ id h i ended. tt;
     blocked = λ id h b i. record { limit = i.limit; stopped = i.stopped; pieces = i.pieces };
+    noted = λ id h said i. record { limit = i.limit; stopped = i.stopped; pieces = i.pieces };
     placed = λ id h p i. record { limit = i.limit; stopped = i.stopped; pieces = i.pieces };
   }
 

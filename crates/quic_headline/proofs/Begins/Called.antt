@@ -1,9 +1,9 @@
 -- Which control frames wait behind a call on streams, a frame that comes, and what is acknowledged,
 -- that didn't before: those that are called for.
 use Rattle.std.proofs.Common.{◌≡◌, ℕ, Bool, true, false, ◌||◌, List, [], ◌∷◌, ◌++◌, Option, Some, None, Result, Ok, Err, refl, sym, ap, ◌∙◌, subst, ◌⊎◌, inl, inr}
-use Rattle.std.specs.Prelude.{◌==◌, if◌then◌else◌}
+use Rattle.std.specs.Prelude.{◌==◌, not, if◌then◌else◌}
 use Rattle.std.specs.Option.{is_some}
-use Rattle.std.proofs.lemmas.Bool.{or_cases, eqb-true, eq-eqb}
+use Rattle.std.proofs.lemmas.Bool.{or_cases, and_parts, not-true, eqb-true, eq-eqb}
 use Rattle.quic_wire_core.specs.declared.stream_id.Dir.TheVariants.{Bi, Uni}
 use Rattle.quic_wire.specs.Value.{FrameValue, StreamValue, ResetStreamValue, stream, reset_stream, stop_sending, max_data, max_stream_data, max_streams}
 use Rattle.quic_send_buffer.specs.declared.stream_meta.StreamMeta.{StreamMeta}
@@ -12,18 +12,21 @@ use Rattle.quic_streams_parts.specs.declared.answers.ClosedStream.{ClosedStream}
 use Rattle.quic_streams_parts.specs.declared.answers.WriteError.{WriteError}
 use Rattle.quic_streams_parts.specs.declared.answers.WriteError.TheVariants as write_errors
 use Rattle.quic_streams_parts.specs.declared.answers.Written.{Written}
-use Rattle.quic_streams_parts.specs.SendHalf.{SendHalf, is_acked, half_acked}
+use Rattle.quic_streams_parts.specs.SendHalf.{SendHalf, was_said, is_acked, half_acked}
+use Rattle.quic_streams_parts.specs.Table.{at}
 use Rattle.quic_streams_parts.specs.RecvHalf.{RecvHalf, after_frame, after_reset_stream}
 use Rattle.quic_wire.specs.Value as values
-use Rattle.quic_retransmits.specs.Retransmits.{Retransmits}
+use Rattle.quic_retransmits.specs.Retransmits.{Retransmits, with_id}
 use Rattle.quic_streams_state.specs.declared.state.StreamsState.{StreamsState}
-use Rattle.quic_streams_state.specs.State.{Streams, streams_of, sending_half, receiving_half, room, done_if, recv_done, send_done}
+use Rattle.quic_streams_state.specs.State.{Streams, streams_of, sending_half, receiving_half, with_send, room, done_if, recv_done, send_done}
 use Rattle.quic_streams_state.specs.Limits.{data_grew, count_grew, stream_grew, decided, settled, with_stream_if, read_decided, can_send_data_blocked}
-use Rattle.quic_streams_state.specs.Writing.{blocked_by_all, blocked_by_own, blocked_at, written_by, after_write, after_write_chunks, reset_at, replaced}
+use Rattle.quic_streams_state.specs.Taking.{joined}
+use Rattle.quic_streams_state.specs.Writing.{is_newly_used_up, blocked_by_all, blocked_by_own, blocked_at, written_by, after_write, after_write_chunks, reset_at, replaced}
 use Rattle.quic_streams_state.specs.Reading.{with_stop, stopped_if, stopped_at, received_reset_answer, reset_told, told_bytes, after_read_begun}
 use Rattle.quic_streams_state.specs.Taking.{refusal, part_for, stream_at, stream_unless, after_stream, renewed, reset_breach, reset_unless, after_reset_frame}
 use Rattle.quic_streams_state.specs.Taking as taking
 use Rattle.quic_streams_state.specs.Acked.{sent_half, finished, acked_on, acked_at, after_stream_acked, reset_acked_at, after_reset_acked}
+use Rattle.quic_streams_laws.specs.KeepingLaws.{at-half}
 use Rattle.quic_machine.specs.declared.run.Call.{Call}
 use Rattle.quic_machine.specs.declared.run.Call.TheVariants as calls
 use Rattle.quic_machine.specs.declared.run.Answer.{Answer}
@@ -75,9 +78,32 @@ grew_asked (LimitOf AllData) s call a uses grew = uses
 grew_asked (LimitOf (StreamCount dir)) s call a uses grew = uses
 grew_asked c s call a uses grew = absurd grew
 
+-- A write is blocked by a half's own limit, which isn't the one that was said last: behind it the
+-- half is in use.
+pub record AsksOn (id : ℕ) (s t : StreamsState) : Type 0 where
+  pub half : SendHalf
+  pub there : sending_half s id ≡ Some half
+  pub unsaid : was_said half.said half.limit ≡ false
+  pub used : at t.sending.halves.live id ≡ Some half
+
+-- a limit that is found used up by a call that leaves these streams isn't the one that was said last
+abbrev pub IsUnsaid : StreamsState → StreamsState → Control → Type 0
+IsUnsaid s t Blocked = was_said s.sending.said s.sending.limit ≡ false
+IsUnsaid s t (BlockedOn id) = AsksOn id s t
+IsUnsaid s t c = Unit {0}
+
+-- where another control frame is asked for, nothing is to be shown
+unsaid_as : (s t : StreamsState) (c d : Control) → c ≡ d → IsUnsaid s t d → IsUnsaid s t c
+unsaid_as s t c d same i = subst (IsUnsaid s t) (sym same) i
+
+grew_unsaid : (c : Control) (s t v : StreamsState) → Grew v c → IsUnsaid s t c
+grew_unsaid (LimitOf AllData) s t v grew = tt
+grew_unsaid (LimitOf (StreamCount dir)) s t v grew = tt
+grew_unsaid c s t v grew = absurd grew
+
 -- it waited, or is asked for
-abbrev By : Retransmits → Call → Answer → Control → Type 0
-By p call a c = (control_waits p c ≡ true) ⊎ (call_asks call a c ≡ true)
+abbrev pub By : Streams → StreamsState → Call → Answer → Control → Type 0
+By t v call a c = (control_waits t.pending c ≡ true) ⊎ ((call_asks call a c ≡ true) × IsUnsaid t.state v c)
 
 -- either of two
 either : (b : Bool) (x y : Streams) (c : Control) (P : Type 0) → (control_waits x.pending c ≡ true → P) → (control_waits y.pending c ≡ true → P) → control_waits (if b then x else y).pending c ≡ true → P
@@ -85,28 +111,46 @@ either true x y c P one other is = one is
 either false x y c P one other is = other is
 
 -- a write that is blocked
-blocked_all : (c : Control) (b : Bool) (p : Retransmits) → control_waits (record p { data_blocked = p.data_blocked || b }) c ≡ true → (control_waits p c ≡ true) ⊎ (c ≡ Blocked)
-blocked_all Blocked b p is = elim (or_cases p.data_blocked b is) [ inl was ↦ inl was | inr now ↦ inr refl ]
+blocked_all : (c : Control) (b : Bool) (p : Retransmits) → control_waits (record p { data_blocked = p.data_blocked || b }) c ≡ true → (control_waits p c ≡ true) ⊎ ((c ≡ Blocked) × (b ≡ true))
+blocked_all Blocked b p is = elim (or_cases p.data_blocked b is) [ inl was ↦ inl was | inr now ↦ inr (refl, now) ]
 blocked_all c b p is = inl is
 
-blocked_own : (c : Control) (id : ℕ) (s : StreamsState) (p : Retransmits) → control_waits (blocked_by_own s p id).pending c ≡ true → (control_waits p c ≡ true) ⊎ (c ≡ BlockedOn id)
-blocked_own (BlockedOn q) id s p is = elim (has_either id q p.stream_data_blocked is) [ inl was ↦ inl was | inr same ↦ inr (ap BlockedOn same) ]
-blocked_own c id s p is = inl is
+blocked_own : (c : Control) (id : ℕ) (p : Retransmits) → control_waits (record p { stream_data_blocked = with_id id p.stream_data_blocked }) c ≡ true → (control_waits p c ≡ true) ⊎ (c ≡ BlockedOn id)
+blocked_own (BlockedOn q) id p is = elim (has_either id q p.stream_data_blocked is) [ inl was ↦ inl was | inr same ↦ inr (ap BlockedOn same) ]
+blocked_own c id p is = inl is
 
-blocked_one : (c : Control) (o : Option SendHalf) (s : StreamsState) (p : Retransmits) (id : ℕ) → control_waits (blocked_at o s p id).pending c ≡ true → (control_waits p c ≡ true) ⊎ ((c ≡ Blocked) ⊎ (c ≡ BlockedOn id))
-blocked_one c None s p id is = inl is
-blocked_one c (Some h) s p id is = either (room s.sending == 0) (blocked_by_all s p id h) (blocked_by_own s p id) c ((control_waits p c ≡ true) ⊎ ((c ≡ Blocked) ⊎ (c ≡ BlockedOn id)))
-    (λ all. elim (blocked_all c (can_send_data_blocked s) p all) [ inl was ↦ inl was | inr same ↦ inr (inl same) ])
-    (λ own. elim (blocked_own c id s p own) [ inl was ↦ inl was | inr same ↦ inr (inr same) ]) is
+-- what waits behind it waited, or is asked for
+abbrev BlockedBy : Control → ℕ → StreamsState → Retransmits → StreamsState → Type 0
+BlockedBy c id s p t = (control_waits p c ≡ true) ⊎ (((c ≡ Blocked) ⊎ (c ≡ BlockedOn id)) × IsUnsaid s t c)
+
+blocked_one : (c : Control) (o : Option SendHalf) (s : StreamsState) (p : Retransmits) (id : ℕ) → sending_half s id ≡ o → control_waits (blocked_at o s p id).pending c ≡ true → BlockedBy c id s p (blocked_at o s p id).state
+blocked_one c None s p id there is = inl is
+blocked_one c (Some h) s p id there is = go (room s.sending == 0) is
+  where
+    own : (b : Bool) → was_said h.said h.limit ≡ b → control_waits (if b then streams_of s p else streams_of (with_send s id h) (record p { stream_data_blocked = with_id id p.stream_data_blocked })).pending c ≡ true
+        → BlockedBy c id s p (if b then streams_of s p else streams_of (with_send s id h) (record p { stream_data_blocked = with_id id p.stream_data_blocked })).state
+    own true said is = inl is
+    own false said is = elim (blocked_own c id p is) [
+      | inl was ↦ inl was
+      | inr same ↦ inr (inr same, unsaid_as s (with_send s id h) c (BlockedOn id) same (record { half = h; there = there; unsaid = said; used = at-half s.side s.sending.halves id h }))
+    ]
+
+    go : (b : Bool) → control_waits (if b then blocked_by_all s p id h else blocked_by_own s p id h).pending c ≡ true → BlockedBy c id s p (if b then blocked_by_all s p id h else blocked_by_own s p id h).state
+    go true is = elim (blocked_all c (is_newly_used_up s) p is) [
+      | inl was ↦ inl was
+      | inr new ↦ inr (inl new.0, unsaid_as s (joined s id h) c Blocked new.0 (not-true (was_said s.sending.said s.sending.limit) (and_parts (can_send_data_blocked s) (not (was_said s.sending.said s.sending.limit)) new.1).1))
+    ]
+    go false is = own (was_said h.said h.limit) refl is
 
 -- both are asked for by such a write
 blocked_asked : (c : Control) (id : ℕ) (call : Call) (a : Answer) → finds_blocked (λ j. true) call a ≡ true → finds_blocked (λ j. j == id) call a ≡ true → (c ≡ Blocked) ⊎ (c ≡ BlockedOn id) → call_asks call a c ≡ true
 blocked_asked c id call a all own (inl same) = ap (call_asks call a) same ∙ all
 blocked_asked c id call a all own (inr same) = ap (call_asks call a) same ∙ own
 
-written_one : (c : Control) (r : Result ℕ WriteError) (s : StreamsState) (p : Retransmits) (id : ℕ) (bytes : List ℕ) → control_waits (written_by r s p id bytes).pending c ≡ true → (control_waits p c ≡ true) ⊎ ((r ≡ Err write_errors.Blocked) × ((c ≡ Blocked) ⊎ (c ≡ BlockedOn id)))
+written_one : (c : Control) (r : Result ℕ WriteError) (s : StreamsState) (p : Retransmits) (id : ℕ) (bytes : List ℕ) → control_waits (written_by r s p id bytes).pending c ≡ true
+    → (control_waits p c ≡ true) ⊎ ((r ≡ Err write_errors.Blocked) × ((c ≡ Blocked) ⊎ (c ≡ BlockedOn id)) × IsUnsaid s (written_by r s p id bytes).state c)
 written_one c (Ok n) s p id bytes is = inl is
-written_one c (Err write_errors.Blocked) s p id bytes is = elim (blocked_one c (sending_half s id) s p id is) [ inl was ↦ inl was | inr new ↦ inr (refl, new) ]
+written_one c (Err write_errors.Blocked) s p id bytes is = elim (blocked_one c (sending_half s id) s p id refl is) [ inl was ↦ inl was | inr new ↦ inr (refl, new.0, new.1) ]
 written_one c (Err (write_errors.Stopped code)) s p id bytes is = inl is
 written_one c (Err write_errors.ClosedStream) s p id bytes is = inl is
 written_one c (Err write_errors.Memory) s p id bytes is = inl is
@@ -114,22 +158,25 @@ written_one c (Err write_errors.Memory) s p id bytes is = inl is
 itself : (id : ℕ) → (id == id) ≡ true
 itself id = eq-eqb id id refl
 
-write_one : (b : Bool) (c : Control) (r : Result ℕ WriteError) (t : Streams) (id : ℕ) (bytes : List ℕ) → control_waits (after_write b r t.state t.pending id bytes).pending c ≡ true → By t.pending (calls.Write id bytes) (answers.Write r) c
+write_one : (b : Bool) (c : Control) (r : Result ℕ WriteError) (t : Streams) (id : ℕ) (bytes : List ℕ) → control_waits (after_write b r t.state t.pending id bytes).pending c ≡ true → By t (after_write b r t.state t.pending id bytes).state (calls.Write id bytes) (answers.Write r) c
 write_one false c r t id bytes is = inl is
 write_one true c r t id bytes is = elim (written_one c r t.state t.pending id bytes is) [
   | inl was ↦ inl was
-  | inr new ↦ inr (blocked_asked c id (calls.Write id bytes) (answers.Write r)
-      (ap (λ (x : Result ℕ WriteError). finds_blocked (λ j. true) (calls.Write id bytes) (answers.Write x)) new.0)
-      (ap (λ (x : Result ℕ WriteError). finds_blocked (λ j. j == id) (calls.Write id bytes) (answers.Write x)) new.0 ∙ itself id) new.1)
+  | inr new ↦ inr (
+    blocked_asked c id (calls.Write id bytes) (answers.Write r)
+        (ap (λ (x : Result ℕ WriteError). finds_blocked (λ j. true) (calls.Write id bytes) (answers.Write x)) new.0)
+        (ap (λ (x : Result ℕ WriteError). finds_blocked (λ j. j == id) (calls.Write id bytes) (answers.Write x)) new.0 ∙ itself id) new.1,
+    new.2,
+  )
 ]
 
 chunks_one : (b : Bool) (c : Control) (r : Result Written WriteError) (t : Streams) (id : ℕ) (call : Call) → ((e : WriteError) → e ≡ write_errors.Blocked → (finds_blocked (λ j. true) call (answers.WriteChunks (Err e)) ≡ true) × (finds_blocked (λ j. j == id) call (answers.WriteChunks (Err e)) ≡ true))
-    → (cs : List (List ℕ)) → control_waits (after_write_chunks b r t.state t.pending id cs).pending c ≡ true → By t.pending call (answers.WriteChunks r) c
+    → (cs : List (List ℕ)) → control_waits (after_write_chunks b r t.state t.pending id cs).pending c ≡ true → By t (after_write_chunks b r t.state t.pending id cs).state call (answers.WriteChunks r) c
 chunks_one false c r t id call asks cs is = inl is
 chunks_one true c (Ok w) t id call asks cs is = inl is
 chunks_one true c (Err e) t id call asks cs is = elim (written_one c (Err e) t.state t.pending id [] is) [
   | inl was ↦ inl was
-  | inr new ↦ (let same : e ≡ write_errors.Blocked = (let both : ◌≡◌ {A = Result ℕ WriteError} (Err e) (Err write_errors.Blocked) = new.0 in cc) in let found = asks e same in inr (blocked_asked c id call (answers.WriteChunks (Err e)) found.0 found.1 new.1))
+  | inr new ↦ (let same : e ≡ write_errors.Blocked = (let both : ◌≡◌ {A = Result ℕ WriteError} (Err e) (Err write_errors.Blocked) = new.0 in cc) in let found = asks e same in inr (blocked_asked c id call (answers.WriteChunks (Err e)) found.0 found.1 new.1, new.2))
 ]
 
 -- a reset
@@ -163,8 +210,8 @@ stop_one c (Some h) s p id code is = either h.stopped (streams_of s p) (settled 
     ]) is
 
 -- a reset that is told
-told_one : (c : Control) (r : Result (Option ℕ) ClosedStream) (s : StreamsState) (p : Retransmits) (id : ℕ) → control_waits (reset_told r s p id).pending c ≡ true → By p (calls.ReceivedReset id) (answers.ReceivedReset r) c
-told_one c (Ok (Some code)) s p id is = elim (decided_one c (recv_done s id) p is) [ inl was ↦ inl was | inr grew ↦ inr (grew_asked c (recv_done s id) (calls.ReceivedReset id) (answers.ReceivedReset (Ok (Some code))) refl grew) ]
+told_one : (c : Control) (r : Result (Option ℕ) ClosedStream) (s : StreamsState) (p : Retransmits) (id : ℕ) → control_waits (reset_told r s p id).pending c ≡ true → By (streams_of s p) (reset_told r s p id).state (calls.ReceivedReset id) (answers.ReceivedReset r) c
+told_one c (Ok (Some code)) s p id is = elim (decided_one c (recv_done s id) p is) [ inl was ↦ inl was | inr grew ↦ inr (grew_asked c (recv_done s id) (calls.ReceivedReset id) (answers.ReceivedReset (Ok (Some code))) refl grew, grew_unsaid c s (recv_done s id) (recv_done s id) grew) ]
 told_one c (Ok None) s p id is = inl is
 told_one c (Err e) s p id is = inl is
 
@@ -181,7 +228,7 @@ read_one c s p id is = elim (stream_more c (stream_grew s id) id (decided s p) i
 ]
 
 -- what waits behind a call on streams waited, or is asked for
-pub call_one : (b : Bool) (c : Control) (t : Streams) (call : Call) (a : Answer) → ((id : ℕ) → call ≡ calls.ReceivedReset id → a ≡ answers.ReceivedReset (received_reset_answer t.state id)) → control_waits (after_on_streams b t call a).pending c ≡ true → By t.pending call a c
+pub call_one : (b : Bool) (c : Control) (t : Streams) (call : Call) (a : Answer) → ((id : ℕ) → call ≡ calls.ReceivedReset id → a ≡ answers.ReceivedReset (received_reset_answer t.state id)) → control_waits (after_on_streams b t call a).pending c ≡ true → By t (after_on_streams b t call a).state call a c
 call_one b c t (calls.Open dir) a told is = inl is
 call_one b c t (calls.Accept dir) a told is = inl is
 call_one b c t (calls.Write id bytes) (answers.Write r) told is = write_one b c r t id bytes is
@@ -195,7 +242,7 @@ call_one b c t (calls.WriteChunks id chunks) (answers.WriteChunks r) told is = c
 call_one b c t (calls.Finish id) (answers.Finish r) told is = inl is
 call_one b c t (calls.Reset id code) (answers.Reset (Ok done)) told is = elim (reset_one c (sending_half t.state id) t.state t.pending id code is) [
   | inl was ↦ inl was
-  | inr same ↦ inr (ap (call_asks (calls.Reset id code) (answers.Reset (Ok done))) same ∙ chosen (id == id) (itself id))
+  | inr same ↦ inr (ap (call_asks (calls.Reset id code) (answers.Reset (Ok done))) same ∙ chosen (id == id) (itself id), unsaid_as t.state (after_on_streams b t (calls.Reset id code) (answers.Reset (Ok done))).state c (ResetOf id) same tt)
 ]
   where
     chosen : (y : Bool) → y ≡ true → is_some (if y then Some code else None) ≡ true
@@ -209,20 +256,20 @@ call_one b c t (calls.Read read) (answers.Read (Ok said)) told is =
     elim (read_one c s t.pending read.id is) [
       | inl was ↦ inl was
       | inr new ↦ elim new [
-        | inl same ↦ inr (ap (call_asks (calls.Read read) (answers.Read (Ok said))) same ∙ itself read.id)
-        | inr grew ↦ inr (grew_asked c s (calls.Read read) (answers.Read (Ok said)) refl grew)
+        | inl same ↦ inr (ap (call_asks (calls.Read read) (answers.Read (Ok said))) same ∙ itself read.id, unsaid_as t.state s c (LimitOf (StreamData read.id)) same tt)
+        | inr grew ↦ inr (grew_asked c s (calls.Read read) (answers.Read (Ok said)) refl grew, grew_unsaid c t.state s s grew)
       ]
     ]
 call_one b c t (calls.Read read) (answers.Read (Err e)) told is = inl is
 call_one b c t (calls.Stop id code) (answers.Stop (Ok done)) told is = elim (stop_one c (receiving_half t.state id) t.state t.pending id code is) [
   | inl was ↦ inl was
   | inr new ↦ elim new [
-    | inl same ↦ inr (ap (call_asks (calls.Stop id code) (answers.Stop (Ok done))) same ∙ itself id)
-    | inr grew ↦ inr (grew_asked c grew.0 (calls.Stop id code) (answers.Stop (Ok done)) refl grew.1)
+    | inl same ↦ inr (ap (call_asks (calls.Stop id code) (answers.Stop (Ok done))) same ∙ itself id, unsaid_as t.state (after_on_streams b t (calls.Stop id code) (answers.Stop (Ok done))).state c (StopOf id) same tt)
+    | inr grew ↦ inr (grew_asked c grew.0 (calls.Stop id code) (answers.Stop (Ok done)) refl grew.1, grew_unsaid c t.state (after_on_streams b t (calls.Stop id code) (answers.Stop (Ok done))).state grew.0 grew.1)
   ]
 ]
 call_one b c t (calls.Stop id code) (answers.Stop (Err e)) told is = inl is
-call_one b c t (calls.ReceivedReset id) a told is = subst (λ (x : Answer). By t.pending (calls.ReceivedReset id) x c) (sym (told id refl)) (told_one c (received_reset_answer t.state id) t.state t.pending id is)
+call_one b c t (calls.ReceivedReset id) a told is = subst (λ (x : Answer). By t (after_on_streams b t (calls.ReceivedReset id) x).state (calls.ReceivedReset id) x c) (sym (told id refl)) (told_one c (received_reset_answer t.state id) t.state t.pending id is)
 call_one b c t call a told is = inl is
 
 -- ---- frames that come

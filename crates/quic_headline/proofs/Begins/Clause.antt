@@ -1,613 +1,199 @@
 -- So what waits behind a call waited before it, or has a cause, at each place of an honest run.
-use Rattle.std.proofs.Common.{◌≡◌, ℕ, suc, ◌<◌, ◌≤◌, max, Bool, true, false, ◌||◌, ◌&&◌, List, [], ◌∷◌, ◌++◌, length, map, drop, append-nil, Option, Some, None, Ok, refl, sym, ap, ◌∙◌, subst, ◌⊎◌, inl, inr, arith}
-use Rattle.std.specs.Prelude.{nat_lt, not, ltb, leb}
-use Rattle.std.specs.Option.{is_some, is_none, option_map}
+use Rattle.std.proofs.Common.{◌≡◌, ℕ, suc, ◌≤◌, max, Bool, true, false, List, [], ◌∷◌, ◌++◌, length, Option, Some, None, refl, sym, ap, ◌∙◌, subst, ◌⊎◌, inl, inr, arith}
+use Rattle.std.specs.Prelude.{◌==◌, not}
 use Rattle.std.specs.List.{list_any}
-use Rattle.std.proofs.lemmas.Bool.{or_left, or_right, or_cases, and_from, and_parts, lt-ltb, ltb-true, both_ways}
+use Rattle.std.proofs.lemmas.Bool.{or_left, or_cases, and_from, and_parts, eqb-true, eq-eqb, both_ways}
 use Rattle.quic_wire_core.specs.declared.stream_id.Side.{Side}
 use Rattle.quic_wire_core.specs.declared.stream_id.Side.TheVariants.{Client, Server}
 use Rattle.quic_wire_core.specs.declared.stream_id.Dir.{Dir}
 use Rattle.quic_wire_core.specs.declared.stream_id.Dir.TheVariants.{Bi, Uni}
 use Rattle.quic_wire_core.specs.StreamId.{other_side}
-use Rattle.quic_wire_core.specs.declared.shared.IssuedCid.{IssuedCid}
+use Rattle.quic_wire.specs.Value.{FrameValue, data_blocked, stream_data_blocked}
 use Rattle.quic_wire.specs.FrameView.{is_one_way}
-use Rattle.quic_ids.specs.CidQueue.{next_after}
 use Rattle.quic_streams_parts.specs.Dirs.{of}
 use Rattle.quic_machine.specs.Tracking.{dir_named}
 use Rattle.quic_machine.specs.Poll.{polled}
-use Rattle.quic_wire.specs.Value.{FrameValue}
 use Rattle.quic_recovery_core.specs.PendingAcks.{Pending}
-use Rattle.quic_send_buffer.specs.Buffered.{IsBuffered, written as buffered, is_lost, is_unsent}
-use Rattle.quic_sets.proofs.Offsets.Edits.{has_is}
-use Rattle.quic_spaces.specs.Numbers.{Numbers, number_opened}
-use Rattle.quic_streams_parts.specs.SendHalf.{SendHalf}
-use Rattle.quic_streams_parts.specs.Table.{at}
-use Rattle.quic_streams_halves.specs.Halves.{status_from, has_place}
-use Rattle.quic_streams_state.specs.declared.state.StreamsState.{StreamsState}
-use Rattle.quic_streams_state.specs.State.{sends_on, is_opened}
-use Rattle.quic_streams_laws.specs.Each.{StatusIs}
-use Rattle.quic_streams_laws.specs.Written.{Wrote, IsOver, nothing_done, IsSendHalf, HoldsWritten}
-use Rattle.quic_streams_laws.specs.WrittenHalves.{bytes_written}
+use Rattle.quic_streams_parts.specs.SendHalf.{SendHalf, was_said}
+use Rattle.quic_streams_state.specs.State.{sending_half}
 use Rattle.quic_streams_laws.specs.WrittenLaws.{half_holds}
 use Rattle.quic_machine.specs.declared.answers.State.{State}
 use Rattle.quic_machine.specs.declared.answers.State.TheVariants as states
 use Rattle.quic_machine.specs.declared.run.Call.{Call}
 use Rattle.quic_machine.specs.declared.run.Call.TheVariants as calls
-use Rattle.quic_machine.specs.declared.run.Delivery.{Delivery}
 use Rattle.quic_machine.specs.declared.run.Answer.{Answer}
-use Rattle.quic_machine.specs.declared.run.Answer.TheVariants as answers
-use Rattle.quic_time.specs.Timers.{has_come}
-use Rattle.quic_machine.specs.Closing.{Closing, ticked}
-use Rattle.quic_machine.specs.End.{End, words_drawn}
+use Rattle.quic_machine.specs.End.{End, streams_at}
+use Rattle.quic_machine.specs.Calls.{is_open}
 use Rattle.quic_machine.specs.Control as window
-use Rattle.quic_machine.specs.Timeouts.{timed_out_in, timed_out}
-use Rattle.quic_machine.specs.Ids.{words_behind}
-use Rattle.quic_machine.specs.IdFrames.{drawn, drawing}
-use Rattle.quic_machine.specs.Receive.{Outcome, asks_in, after_taken}
-use Rattle.quic_machine.specs.StreamCalls.{is_on_streams}
-use Rattle.quic_machine.specs.FrameCases.{begun}
+use Rattle.quic_machine.specs.StreamCalls.{is_on_streams, after_on_streams}
 use Rattle.quic_machine.specs.CallCases.{is_delivery, is_poll, is_timeout}
-use Rattle.quic_machine.specs.Machine.{World, IsAnswer, fails, gave, reads_window, changed, end_at, control_at, heard_at}
+use Rattle.quic_machine.specs.Machine.{World, gave, reads_window, changed, end_at, control_at, heard_at}
 use Rattle.quic_machine.specs.Heard.{Heard}
 use Rattle.quic_machine.specs.RunLaws.{as_many_views}
-use Rattle.quic_headline.specs.Runs.{Run, Told, Packet, Intake, In, and_told, folded, until, state_at, given_of, AreServed, written}
-use Rattle.quic_headline.specs.Observer.{Sent, HoldsOffset, HoldsEnd, Flight, after_frames, Watch, first_watch, watch, news, clock_behind, moment_of, is_past, is_timely, watch_moment, watch_given, watch_told, watch_from, lens_of}
+use Rattle.quic_headline.specs.Runs.{Run, Told, Intake, In, folded, until, state_at, given_of, AreServed, written}
+use Rattle.quic_headline.specs.Observer.{Sent, HoldsOffset, HoldsEnd, Watch, first_watch, watch, watch_told, watch_from, lens_of}
 use Rattle.quic_headline.specs.Headline.{IsHonest, IsRun, IsAt}
 use Rattle.quic_headline.specs.InUse.{in_use}
-use Rattle.quic_headline.specs.Duties.{AllData, StreamCount, on_half, has_new_id}
+use Rattle.quic_headline.specs.Amounts.{greatest, data_limit_in, stream_limit_in, data_limit, stream_limit}
+use Rattle.quic_headline.specs.Duties.{AllData, StreamCount, WasGiven}
 use Rattle.quic_headline.specs.Moments.{went}
-use Rattle.quic_headline.specs.Requests.{Asking, asking_of, asking_at, wants_anew}
+use Rattle.quic_headline.specs.Requests.{asking_at}
 use Rattle.quic_headline.specs.AcksDue.{is_immediate_ack, haste_told, no_haste, is_due}
-use Rattle.quic_headline.specs.Waited.{stands, is_ping, asks_ping, is_path_challenge, wakes, wants, wants_told, no_wants}
-use Rattle.quic_headline.specs.Begins.{Control, LimitOf, Blocked, NewId, Retirement, Thing, Ack, Ping, Immediate, Challenge, Response, Probe, Message, Byte, Fin, Frame, byte_waits, IsPending, Bears, Seen, came, brings, WasLost, may_end, brings_data, is_retirement, retires, uses_next, is_passed, passes_over, asks_for, fails_to_probe, HasCause, HasGone, seen_at, still, BeginsAt, WaitingBegins, Request}
+use Rattle.quic_headline.specs.Waited.{stands, is_ping, wants, wants_told, no_wants}
+use Rattle.quic_headline.specs.Begins.{Control, LimitOf, Blocked, BlockedOn, NewId, Retirement, Thing, Ack, Ping, Immediate, Challenge, Response, Probe, Message, Byte, Fin, Frame, IsPending, Seen, brings, finds_blocked, may_end, brings_data, says_blocked, says_blocked_on, has_said, has_said_on, retires, passes_over, asks_for, HasCause, HasGone, seen_at, still, BeginsAt, WaitingBegins, Request}
 use Rattle.quic_headline.specs.Begins as new
 use Rattle.quic_headline.proofs.Packets.Intakes.{folded_more}
-use Rattle.quic_headline.proofs.Packets.Group.{PacketsHold, meets}
-use Rattle.quic_headline.proofs.Packets.Sight.{Sight}
-use Rattle.quic_headline.proofs.Packets.Delivered.{Arrivals, arrived, with_taken}
-use Rattle.quic_headline.proofs.Packets.Flying.{Waits, held, frames_fly, ticked_waits, numbers_wait}
-use Rattle.quic_headline.proofs.Packets.Watching.{came_with, timed_with, untimely, watched_intake, one_new, none_comes, told_timed, with_delivery, nothing_delivered, packet_delivered, at_time, timeout_flies}
-use Rattle.quic_headline.proofs.Places.Parties.{sent_by, sent_if, sents_by, told_of, Party, called, came_to, lens, watch_of, AreJoined}
-use Rattle.quic_headline.proofs.Places.Groups.{Way, Nothing, And, Calls, Group, both, beside, over, less_calls}
-use Rattle.quic_headline.proofs.Places.Coming.{came_more, by_coming}
-use Rattle.quic_headline.proofs.Places.Steps.{only_polls_give, poll_answer}
+use Rattle.quic_headline.proofs.Packets.Watching.{watched_intake}
+use Rattle.quic_headline.proofs.Places.Parties.{sent_by, sent_if, sents_by, told_of, Party, called, came_to, lens, watch_of}
+use Rattle.quic_headline.proofs.Places.Groups.{Way, Nothing, And, Group, both, beside, over, less_calls}
+use Rattle.quic_headline.proofs.Places.Steps.{poll_answer}
 use Rattle.quic_headline.proofs.Places.Placed.{Placed, placed, party_at, stands_in}
-use Rattle.quic_headline.proofs.Places.Everything as everything
-use Rattle.quic_headline.proofs.Places.Theorems.{ready}
-use Rattle.quic_headline.proofs.Halves.Ready.{Ready}
 use Rattle.quic_headline.proofs.Halves.Ghosts.{wrote}
 use Rattle.quic_headline.proofs.Halves.QuietSteps.{sent_within}
-use Rattle.quic_headline.proofs.Halves.ReadGroup.{ReadsHold}
-use Rattle.quic_headline.proofs.Duties.Listed.{places_same}
-use Rattle.quic_headline.proofs.Grown.Clause.{GrownWait}
-use Rattle.quic_headline.proofs.Timers.Watched.{Observed, drop_all, went_is}
-use Rattle.quic_headline.proofs.Timers.Still.{was_open}
+use Rattle.quic_headline.proofs.Timers.Watched.{Observed}
 use Rattle.quic_headline.proofs.Timers.AckMoments.{call_answered}
-use Rattle.quic_headline.proofs.Requests.Asks.{by_of, is_anew, anew_known}
+use Rattle.quic_headline.proofs.Timers.Quiet.{Unnamed, quiet_group}
+use Rattle.quic_headline.proofs.Amounts.Tally.{Tallies, half_tallied}
+use Rattle.quic_headline.proofs.Amounts.Group.{tally_of, Tallied, tallied_group}
 use Rattle.quic_headline.proofs.Requests.Drafts.{polled_requests, none_waits}
-use Rattle.quic_headline.proofs.Requests.Group.{Counted, counted_group}
-use Rattle.quic_headline.proofs.NextIds.Group.{IdsHold, next_above, using_of, NextKnown, next_group}
+use Rattle.quic_headline.proofs.NextIds.Group.{using_of}
 use Rattle.quic_headline.proofs.Steps.Made.{MadeAt, made_at, made_served, made_end, served_before, told_next, told_here, one_behind, calling, CallHolds, call_holds, whole}
-use Rattle.quic_headline.proofs.Waited.Alive.{timed, wakes_at, past_is}
-use Rattle.quic_headline.proofs.Waited.Pings.{of_ping, of_immediate, call_pinged, call_hastened, polled_pinged}
+use Rattle.quic_headline.proofs.Waited.Pings.{of_ping, of_immediate, polled_pinged}
 use Rattle.quic_headline.proofs.Waited.Flags.{Flag, all, counts, blocked, challenge, response, flag, says as flag_says}
-use Rattle.quic_headline.proofs.AcksDue.Group.{haste_of}
 use Rattle.quic_headline.proofs.Waited.Group.{polled_flags, wants_of}
-use Rattle.quic_headline.proofs.Waited.Urged.{Urging, Wished, wished_group, urges}
 use Rattle.quic_headline.proofs.Begins.Queued.{call_queues}
-use Rattle.quic_headline.proofs.Begins.Probed.{told_probes}
-use Rattle.quic_headline.proofs.Begins.Called.{call_asks}
-use Rattle.quic_headline.proofs.Begins.Halves.{Any, Waits as HalfWaits, all_pend, pends_more, none_reset, byte_is, fin_is}
+use Rattle.quic_headline.proofs.Begins.Called.{call_asks, AsksOn, IsUnsaid}
 use Rattle.quic_headline.proofs.Begins.Walk.{Pends, pend_more}
-use Rattle.quic_headline.proofs.Begins.Apart.{is_skipped, SignalsBy, signals_same, frames_signals, polled_signals, quiet_signals}
-use Rattle.quic_headline.proofs.Begins.Flights.{By, BegunAt, Begun, ids_begun, begun_loses, begun_flies}
 use Rattle.quic_headline.proofs.Begins.Gone.{polled_goes}
-use Rattle.quic_headline.proofs.Begins.Steps.{Left, left_of, polled_left, streams_left, quiet_left}
+use Rattle.quic_headline.proofs.Begins.Steps.{Left, streams_left, quiet_left}
 use Rattle.quic_headline.specs.InFlight.{is_ack_frequency}
+use Rattle.quic_headline.proofs.Begins.Behind.{Known, known, packets, holds, sight, seen_of, Caused, went_here, was, ack_begins, ping_begins, immediate_begins, probe_begins, signals_begin, pends_start, written_is, waits_within, left_is, delivery_begins, timeout_begins, poll_begins, skipped_is, Stepped}
+use Rattle.quic_headline.proofs.Begins.SaidWalk.{AtMost, IsWithin, blocked_frame, half_says}
+use Rattle.quic_headline.proofs.Begins.Said.{SaidHolds, said_group}
 
 -- ---- what is known
 
--- all that is known of packets and streams, limits that grew, how often the peer was asked how to
--- acknowledge, which of its ids are used, and what is due and wanted
-abbrev Grown : Way
-Grown = And (And (everything.All Ready ready) ReadsHold) GrownWait
+-- with it, which datagrams are in flight, which limits the peer told, and what was said of them
+abbrev Watched : Way
+Watched = And Known (And Unnamed Tallied)
 
-abbrev Requesting : Way
-Requesting = And Grown (And Counted NextKnown)
+watched : Group Nothing Watched
+watched = both Nothing Known (And Unnamed Tallied) known
+    (beside (And Nothing Known) Unnamed Tallied (over Observed (And Nothing Known) Unnamed (λ x y h. (packets x y h.1, sight x y h.1)) quiet_group) (tallied_group (And Nothing Known) (λ x y h. packets x y h.1)))
 
-abbrev Known : Way
-Known = And Requesting Wished
+abbrev Wide : Way
+Wide = And Watched SaidHolds
 
-requesting : Group Nothing Requesting
-requesting = both Nothing Grown (And Counted NextKnown) (everything.all_grown Ready ready)
-    (beside (And Nothing Grown) Counted NextKnown (over PacketsHold (And Nothing Grown) Counted (λ x y h. h.1.0.0.0.0) counted_group) (next_group (And Nothing Grown) (λ x y h. h.1.0.0.0.0)))
+wide : Group Nothing Wide
+wide = both Nothing Watched SaidHolds watched (said_group (And Nothing Watched) (λ x y h. h.1.0) (λ x y h. h.1.1.0))
 
-known : Group Nothing Known
-known = both Nothing Requesting Wished requesting (over Observed (And Nothing Requesting) Wished (λ x y h. (h.1.0.0.0.0.0, h.1.0.0.0.1)) wished_group)
+-- ---- limits that are used up
 
-packets : (x y : Party) → Known x y → PacketsHold x y
-packets x y h = h.0.0.0.0.0.0
+-- where nothing more than the limit was said, and the limit wasn't said last, it wasn't said
+never_said : (o : Option ℕ) (n limit : ℕ) → AtMost n o → IsWithin o limit → limit ≡ n → was_said o limit ≡ false → ⊥
+never_said None n limit most is same unsaid = most
+never_said (Some said) n limit most is same unsaid = both_ways (said == limit) unsaid (eq-eqb said limit (omega arith))
 
-holds : (x y : Party) → Known x y → HoldsWritten (wrote x.told) x.end.streams
-holds x y h = h.0.0.0.0.0.1.0.writes.keeps.holds
-
-sight : (x y : Party) → Known x y → Sight x y
-sight x y h = h.0.0.0.0.1
-
--- What holds of two ends where one is called, and behind it.
-record Stepped (x y : Party) (call : Call) (a : Answer) : Type 0 where
-  calls : Calls Known x y call a
-  joined : AreJoined x y
-  answer : IsAnswer x.policy x.end y.given call a
-  served : fails a ≡ false
-  gives : Known x y
-  takes : Known y x
-  behind : Known (called x y.given call a) y
-  opened : (called x y.given call a).end.closing.state ≡ states.Open
-
--- what is seen of the call
-abbrev seen_of : Party → Party → Call → Answer → Seen
-seen_of x y call a = record {
-  told = x.told;
-  now = told_of call a x.end.closing.state;
-  before = watch_of x y;
-  behind = watch_told (lens x y) (told_of call a x.end.closing.state) (watch_of x y);
-  unanswered = (wants_of x y).packets;
-  due = (haste_of (called x y.given call a) y).due;
-  marked = (wants_of (called x y.given call a) y).marked;
-  alive = (wants_of x y).alive;
-  asking = asking_of x.made;
-  using = (using_of x y).number;
-}
-
--- it waited, or has a cause
-abbrev Caused : Party → Party → Call → Answer → Thing → Type 0
-Caused x y call a q = IsPending x.end q ⊎ HasCause (seen_of x y call a) q
-
-module _ (x y : Party) (call : Call) (a : Answer) (s : Stepped x y call a) where
-  abbrev next : Party
-  next = called x y.given call a
-
-  abbrev seen : Seen
-  seen = seen_of x y call a
-
-  was : x.end.closing.state ≡ states.Open
-  was = was_open x.policy x.end y.given call a s.opened
-
-  -- what the observer knows behind the call
-  behind_is : watch_of next y ≡ seen.behind
-  behind_is = folded_more (watch_told (lens x y)) x.told (told_of call a x.end.closing.state) (first_watch x.final x.began x.initial_rtt x.initial_delay)
-
-  -- what came
-  came_is : came seen ≡ news (came_to x y) (came_to next y)
-  came_is =
-      ap (λ (i : Intake). news i seen.behind.intake) (watched_intake (lens x y) x.told (first_watch x.final x.began x.initial_rtt x.initial_delay))
-      ∙ ap (λ (i : Intake). news (came_to x y) i) (ap (λ (w : Watch). w.intake) (sym behind_is) ∙ watched_intake (lens x y) next.told (first_watch x.final x.began x.initial_rtt x.initial_delay))
-
--- what goes at a call is what its end sends
-went_here : (x y : Party) (call : Call) (a : Answer) → Stepped x y call a → went (seen_of x y call a).before (seen_of x y call a).behind ≡ sents_by x.policy x.end call a
-went_here x y call a s = went_is (watch_of x y) (seen_of x y call a).behind (sents_by x.policy x.end call a) (
-    ap (λ (w : Watch). w.own) (sym (behind_is x y call a s)) ∙ (sight (called x y.given call a) y s.behind).own ∙ ap (λ (ss : List Sent). ss ++ sents_by x.policy x.end call a) (sym (sight x y s.gives).own))
-
--- the observer has the clock of the end behind a call
-clock_behind_is : (x y : Party) (call : Call) (a : Answer) (s : Stepped x y call a) → (seen_of x y call a).behind.clock ≡ (called x y.given call a).end.closing.clock
-clock_behind_is x y call a s = ap (λ (w : Watch). w.clock) (sym (behind_is x y call a s)) ∙ ((sight (called x y.given call a) y s.behind).watched.flight s.opened).tells.clock
-
--- so it is of a moment that is taken over
-timeout_clock : (x y : Party) (now : ℕ) (a : Answer) (s : Stepped x y (calls.Timeout now) a) → (seen_of x y (calls.Timeout now) a).behind.clock ≡ (ticked x.end.closing now).clock
-timeout_clock x y now a s = clock_behind_is x y (calls.Timeout now) a s ∙ ap (λ (c : Closing). c.clock) (timed x.policy x.end now (was x y (calls.Timeout now) a s) s.opened).closing
-
--- ---- an acknowledgement
-
--- where one is due behind a call, it was, or the observer finds why
-ack_begins : (x y : Party) (call : Call) (a : Answer) → Stepped x y call a → IsPending (called x y.given call a).end Ack → Caused x y call a Ack
-ack_begins x y call a s due = urges x y call a (less_calls Known Urging (λ z v h. ((packets z v h, sight z v h), h.1.0)) x y call a s.calls) s.opened due
-
--- ---- PING, probes and messages
-
--- it waited, it is asked for, or the time without a packet is over
-other_ping : (x y : Party) (call : Call) (a : Answer) → Stepped x y call a → is_poll call ≡ false → (wakes_at x.end call ≡ true → wakes (seen_of x y call a).now (seen_of x y call a).behind.clock (seen_of x y call a).alive ≡ true) → IsPending (called x y.given call a).end Ping → Caused x y call a Ping
-other_ping x y call a s silent woken set = elim (or_cases (asks_ping call) (wakes_at x.end call || x.end.waiting.signals.ping) (sym (call_pinged x.policy x.end y.given call a silent s.opened) ∙ set)) [
-  | inl asked ↦ inr (or_left (asks_ping call) _ asked)
-  | inr other ↦ elim (or_cases (wakes_at x.end call) x.end.waiting.signals.ping other) [
-    | inl wakes_up ↦ inr (or_right (asks_ping call) _ (or_left (wakes (seen_of x y call a).now (seen_of x y call a).behind.clock (seen_of x y call a).alive) _ (woken wakes_up)))
-    | inr was_set ↦ inl was_set
-  ]
+-- an element that passes a test
+one_in : {A : Type 0} (test : A → Bool) (xs : List A) → list_any test xs ≡ true → (z : A) × In z xs × (test z ≡ true)
+one_in test [] is = cc
+one_in test (z ∷ xs) is = elim (or_cases (test z) (list_any test xs) is) [
+  | inl here ↦ (z, inl refl, here)
+  | inr more ↦ (let rest = one_in test xs more in (rest.0, inr rest.1, rest.2))
 ]
 
--- a probe waits at a poll in vain
-vain_poll : (x y : Party) (now : ℕ) (a : Answer) → Stepped x y (calls.Poll now) a → 0 < x.end.tracking.probes → sent_if (gave (answers.Poll (polled x.policy x.end now).answer)) (sent_by x.policy x.end now) ≡ [] → fails_to_probe (seen_of x y (calls.Poll now) a) ≡ true
-vain_poll x y now a s some none =
-    and_from (nat_lt 0 v.before.flight.probes) (not (nat_lt 0 (length (went v.before v.behind))))
-    (let same = ((sight x y s.gives).watched.flight (was x y (calls.Poll now) a s)).probes in lt-ltb 0 v.before.flight.probes (omega arith))
-    (ap (λ (ss : List Sent). not (nat_lt 0 (length ss))) (went_here x y (calls.Poll now) a s ∙ ap (λ (b : Answer). sent_if (gave b) (sent_by x.policy x.end now)) (poll_answer x.policy x.end now a s.answer s.served) ∙ none))
-  where
-    v : Seen
-    v = seen_of x y (calls.Poll now) a
+-- a frame that stands in datagrams was given
+stands_given : (test : FrameValue → Bool) (f : FrameValue) (ss : List Sent) → ((g : FrameValue) → test g ≡ true → g ≡ f) → stands test ss ≡ true → WasGiven ss f
+stands_given test f ss only is =
+    let sent = one_in (λ (s : Sent). list_any test s.frames) ss is in
+    let frame = one_in test sent.0.frames sent.2 in
+    record { sent = sent.0; among = sent.1; carried = subst (λ (g : FrameValue). In g sent.0.frames) (only frame.0 frame.2) frame.1 }
 
-ping_begins : (x y : Party) (call : Call) (a : Answer) → Stepped x y call a → IsPending (called x y.given call a).end Ping → Caused x y call a Ping
-ping_begins x y (calls.Poll now) a s set = elim (polled_pinged of_ping x.policy x.end now s.opened set).before [
-  | inl before ↦ inl before
-  | inr waited ↦ inr (or_right (wakes v.now v.behind.clock v.alive) _ (vain_poll x y now a s waited.0 waited.1))
-]
-  where
-    v : Seen
-    v = seen_of x y (calls.Poll now) a
-ping_begins x y (calls.Timeout now) a s set = other_ping x y (calls.Timeout now) a s refl (λ woke.
-    ap (λ (z : State). is_timely z (calls.Timeout now) && is_past v.alive v.behind.clock) opened
-    ∙ past_is v.alive v.behind.clock
-    ∙ ap (λ (o : Option ℕ). has_come o v.behind.clock) (s.gives.1.0.1.wanted opened).alive
-    ∙ ap (λ (n : ℕ). has_come x.end.timers.keep_alive n) (timeout_clock x y now a s)
-    ∙ woke) set
-  where
-    v : Seen
-    v = seen_of x y (calls.Timeout now) a
+all_only : (limit : ℕ) (g : FrameValue) → says_blocked limit g ≡ true → g ≡ data_blocked limit
+all_only limit (data_blocked said) is = ap data_blocked (eqb-true said limit is)
+all_only limit g is = cc
 
-    opened : x.end.closing.state ≡ states.Open
-    opened = was x y (calls.Timeout now) a s
-ping_begins x y call a s set = other_ping x y call a s refl (λ woke. cc) set
+on_only : (id limit : ℕ) (g : FrameValue) → says_blocked_on id limit g ≡ true → g ≡ blocked_frame id limit
+on_only id limit (stream_data_blocked f) is =
+    let both = and_parts (f.id == id) (f.limit == limit) is in
+    ap (λ (n : ℕ). blocked_frame n f.limit) (eqb-true f.id id both.0) ∙ ap (λ (n : ℕ). blocked_frame id n) (eqb-true f.limit limit both.1)
+on_only id limit g is = cc
 
--- IMMEDIATE_ACK waited, or a probe does in vain
-immediate_begins : (x y : Party) (call : Call) (a : Answer) → Stepped x y call a → IsPending (called x y.given call a).end Immediate → Caused x y call a Immediate
-immediate_begins x y (calls.Poll now) a s set = elim (polled_pinged of_immediate x.policy x.end now s.opened set).before [
-  | inl before ↦ inl before
-  | inr waited ↦ inr (vain_poll x y now a s waited.0 waited.1)
-]
-immediate_begins x y call a s set = inl (sym (call_hastened x.policy x.end y.given call a refl s.opened) ∙ set)
+module _ (x y : Party) (call : Call) (a : Answer) (s : Stepped x y call a) (h : SaidHolds x y) (t : Tallied x y) where
+  abbrev open_now : x.end.closing.state ≡ states.Open
+  open_now = was x y call a s
 
-probe_begins : (x y : Party) (call : Call) (a : Answer) → Stepped x y call a → IsPending (called x y.given call a).end Probe → Caused x y call a Probe
-probe_begins x y call a s some = elim (told_probes (lens x y) (told_of call a x.end.closing.state) (watch_of x y) (subst (λ (n : ℕ). 0 < n) (sym here) some)) [
-  | inl waited ↦ inl (subst (λ (n : ℕ). 0 < n) ((sight x y s.gives).watched.flight (was x y call a s)).probes waited)
-  | inr expires ↦ inr expires
-]
-  where
-    here : (seen_of x y call a).behind.flight.probes ≡ (called x y.given call a).end.tracking.probes
-    here = ap (λ (w : Watch). w.flight.probes) (sym (behind_is x y call a s)) ∙ ((sight (called x y.given call a) y s.behind).watched.flight s.opened).probes
+  abbrev before : Seen
+  before = seen_of x y call a
 
--- ---- path validation
+  tallies : Tallies (tally_of x.made.streams (came_to x y).took x.told) x.end.streams
+  tallies = t.still open_now
 
--- whether PATH_CHALLENGE came between
-abbrev Asked : Intake → Intake → Bool
-Asked i j = list_any (λ p. list_any is_path_challenge p.frames) (news i j)
+  intake_is : (watch_of x y).intake ≡ came_to x y
+  intake_is = watched_intake (lens x y) x.told (first_watch x.final x.began x.initial_rtt x.initial_delay)
 
--- a delivery leaves PATH_CHALLENGE as it was, or none, and PATH_RESPONSE waits where it did, or
--- PATH_CHALLENGE came
-delivered_signals : (x y : Party) (delivery : Delivery) (a : Answer) (s : Stepped x y (calls.Deliver delivery) a)
-    → SignalsBy (Asked (came_to x y) (came_to (called x y.given (calls.Deliver delivery) a) y)) x.end.waiting.signals (called x y.given (calls.Deliver delivery) a).end.waiting.signals
-delivered_signals x y delivery a s = by_coming x y a s.joined s.served (meets y x (packets y x s.takes)) (λ (e : End) (j : Intake). e.closing.state ≡ states.Open → SignalsBy (Asked (came_to x y) j) x.end.waiting.signals e.waiting.signals) (calls.Deliver delivery) s.answer (record {
-  apart = λ apart. cc;
-  none = λ other same opened. signals_same (Asked (came_to x y) (came_to x y)) x.end.waiting.signals;
-  comes = λ other same d among. record {
-    ignored = λ reason opened. signals_same (Asked (came_to x y) (came_to x y)) x.end.waiting.signals;
-    noted = λ state reason opened. (let clash : states.Closing ≡ states.Open = sym state ∙ opened in cc);
-    takes = λ words state new none mark opened. (let left = frames_signals d.frames (begun x.end other.now d.number) in (
-      left.0,
-      λ is. elim (left.1 is) [
-        | inl waited ↦ inl waited
-        | inr one ↦ inr (ap (λ (ps : List Packet). list_any (λ p. list_any is_path_challenge p.frames) ps) (one_new (came_to x y) d.number d.frames) ∙ or_left (list_any is_path_challenge d.frames) false one)
-      ],
-    ));
-    drains = λ words state new close is opened. cc;
-    refuses = λ words state new f is opened. cc;
-    exhausts = λ state opened. cc;
-  };
-}) s.opened
+  all_limit : x.end.streams.sending.limit ≡ data_limit before.params before.before.intake.took
+  all_limit =
+      tallies.sums.limit
+      ∙ ap (λ (m : ℕ). max m (greatest data_limit_in (came_to x y).took)) h.all
+      ∙ ap (λ (i : Intake). data_limit x.made.peer_params i.took) (sym intake_is)
 
--- so each waited, or has a cause
-abbrev SignalsBegin : Party → Party → Call → Answer → Type 0
-SignalsBegin x y call a = (IsPending (called x y.given call a).end Challenge → Caused x y call a Challenge) × (IsPending (called x y.given call a).end Response → Caused x y call a Response)
+  half_limit : (id : ℕ) (half : SendHalf) → sending_half x.end.streams id ≡ Some half → half.limit ≡ stream_limit before.params before.side before.before.intake.took id
+  half_limit id half there =
+      (half_tallied (tally_of x.made.streams (came_to x y).took x.told) x.end.streams id half there tallies.halves).limit
+      ∙ ap (λ (m : ℕ). max m (greatest (stream_limit_in id) (came_to x y).took)) (h.first id)
+      ∙ ap (λ (i : Intake). stream_limit x.made.peer_params x.side i.took id) (sym intake_is)
 
--- where nothing asks for them
-quiet_begin : (x y : Party) (call : Call) (a : Answer) → SignalsBy false x.end.waiting.signals (called x y.given call a).end.waiting.signals → SignalsBegin x y call a
-quiet_begin x y call a by = ((λ set. inl (by.0 set)), λ set. elim (by.1 set) [ inl waited ↦ inl waited | inr none ↦ absurd (let clash : false ≡ true = none in cc) ])
+  -- what was given
+  given : (f : FrameValue) → WasGiven before.gave f → WasGiven x.sents f
+  given f was = subst (λ (ss : List Sent). WasGiven ss f) (sight x y s.gives).own was
 
-signals_begin : (x y : Party) (call : Call) (a : Answer) → Stepped x y call a → SignalsBegin x y call a
-signals_begin x y (calls.Poll now) a s = quiet_begin x y (calls.Poll now) a (polled_signals x.policy x.end now s.opened)
-signals_begin x y (calls.Timeout now) a s = ((λ set. inr refl), λ set. inl (sym (ap is_some (timed x.policy x.end now (was x y (calls.Timeout now) a s) s.opened).response) ∙ set))
-signals_begin x y (calls.Deliver delivery) a s = (let by = delivered_signals x y delivery a s in (
-  (λ set. inl (by.0 set)),
-  (λ set. elim (by.1 set) [
-    | inl waited ↦ inl waited
-    | inr brought ↦ inr (ap (λ (ps : List Packet). list_any (λ p. list_any is_path_challenge p.frames) ps) (came_is x y (calls.Deliver delivery) a s) ∙ brought)
-  ]),
-))
-signals_begin x y call a s = quiet_begin x y call a (quiet_signals x.policy x.end y.given call a refl refl refl)
-
--- ---- streams, and what waits beside their bytes
-
--- what waits of them waits at the end
-pends_start : (x y : Party) → Known x y → Pends (λ q. IsPending x.end q) x.end
-pends_start x y h = record {
-  controls = λ c is. is;
-  halves = pends_more IsBuffered IsBuffered (λ q. HalfWaits x.end.streams q) (λ q. IsPending x.end q) x.end.streams (λ b i. i) waits (all_pend (wrote x.told) x.end.streams (holds x y h));
-  grew = h.0.0.1.all.bytes;
-}
-  where
-    waits : (q : Thing) → HalfWaits x.end.streams q → IsPending x.end q
-    waits (Byte id o) is = is
-    waits (Fin id) is = is
-    waits q is = absurd is
-
--- of a half that wasn't reset as many bytes were written as were accepted
-written_is : (w : Wrote) (h : SendHalf) → IsSendHalf w h → h.reset ≡ None → buffered h.buffer ≡ length w.bytes
-written_is w h held none = bytes_written w h held (go w.reset refl)
-  where
-    go : (o : Option ℕ) → w.reset ≡ o → w.reset ≡ None
-    go None is = is
-    go (Some code) is = (let clash : ◌≡◌ {A = Option ℕ} None (Some (length w.bytes)) = sym none ∙ (held.reset ∙ ap (option_map (λ c. length w.bytes)) is) in cc)
-
--- an offset that waits was written
-waits_within : (done : ℕ → Wrote) (s : StreamsState) (id o : ℕ) → HoldsWritten done s → on_half (byte_waits o) (at s.sending.halves.live id) ≡ true → o < length (done id).bytes
-waits_within done s id o i is = go (at s.sending.halves.live id) (sends_on s.side id && is_opened s id) (has_place s.side s.sending.halves.places id) (i.each id) is
-  where
-    within : (h : SendHalf) → IsSendHalf (done id) h → (h.reset ≡ None) × ((is_lost h.buffer o || is_unsent h.buffer o) ≡ true) → o < length (done id).bytes
-    within h held both = subst (λ (n : ℕ). o < n) (written_is (done id) h held both.0) (elim (or_cases (is_lost h.buffer o) (is_unsent h.buffer o) both.1) [
-      | inl lost ↦ (let sent = held.lawful.lost_sent o (has_is h.buffer.lost o lost) in let most = held.lawful.bounded in omega (arith, sent, most))
-      | inr unsent ↦ ltb-true o (buffered h.buffer) (and_parts (leb h.buffer.unsent o) (ltb o (buffered h.buffer)) unsent).1
-    ])
-
-    parts : (h : SendHalf) → byte_waits o h ≡ true → (h.reset ≡ None) × ((is_lost h.buffer o || is_unsent h.buffer o) ≡ true)
-    parts h waits = let two = and_parts (is_none h.reset) (is_lost h.buffer o || is_unsent h.buffer o) waits in (none_reset h.reset two.0, two.1)
-
-    go : (h : Option SendHalf) (m u : Bool) → StatusIs (done id ≡ nothing_done) (λ g. IsSendHalf (done id) g) (IsOver (done id)) (status_from h m u) → on_half (byte_waits o) h ≡ true → o < length (done id).bytes
-    go None m u x is = cc
-    go (Some h) m u x is = within h x (parts h is)
-
--- what is F of all that waits is F of each
-left_is : (F : Thing → Type 0) (e : End) → Left F e → ((id o : ℕ) → IsPending e (Byte id o) → F (Byte id o)) × ((id : ℕ) → IsPending e (Fin id) → F (Fin id)) × ((c : Control) → IsPending e (Frame c) → F (Frame c))
-left_is F e i = ((λ id o is. byte_is Any F e.streams id o i.halves is), (λ id is. fin_is Any F e.streams id i.halves is), i.controls)
-
--- ---- a delivery
-
--- whether a frame that passes a test came between
-abbrev Brings : (FrameValue → Bool) → Intake → Intake → Type 0
-Brings test i j = list_any (λ p. list_any test p.frames) (news i j) ≡ true
-
--- what waits behind what came, which has these frames at most
-record Arrived (x y : Party) (delivery : Delivery) (e : End) (j : Intake) : Type 0 where
-  frames : List FrameValue
-  brought : (test : FrameValue → Bool) → list_any test frames ≡ true → Brings test (came_to x y) j
-  begins : let v = with_delivery x.terms (watch_of x y) x.end.closing.state delivery j in BegunAt (λ q. IsPending x.end q) x.end.ids.peer.active (watch_of x y).flight.flying (watch_of x y).flight.acked frames v.flight.flying v.flight.acked e.streams e.waiting.frames
-
--- before anything came
-nothing_begun : (x y : Party) → Known x y → (frames : List FrameValue) → Begun (λ q. IsPending x.end q) x.end.ids.peer.active (watch_of x y).flight.flying (watch_of x y).flight.acked frames (watch_of x y).flight.flying (watch_of x y).flight.acked x.end
-nothing_begun x y h frames = (
-  record {
-    new = [];
-    more = sym (append-nil (watch_of x y).flight.acked);
-    inside = λ u i. i;
-    apart = λ u i j. absurd j;
-    pends = pend_more (λ q. IsPending x.end q) (By (λ q. IsPending x.end q) x.end.ids.peer.active (watch_of x y).flight.flying (watch_of x y).flight.acked frames (watch_of x y).flight.flying []) x.end.streams x.end.waiting.frames (λ q is. inl is) (pends_start x y h);
-  },
-  inl (omega arith),
-)
-
--- ids that are drawn keep their numbers
-numbers_same : (words : ℕ → ℕ) (e : End) (n : ℕ) → has_new_id n (drawing words e).waiting ≡ has_new_id n e.waiting.frames.new_cids
-numbers_same words e n = places_same n e.ids.undrawn (words_behind (words_drawn e) words) (record { living = e.ids.living; waiting = e.waiting.frames.new_cids })
-
-module _ (x y : Party) (delivery : Delivery) (a : Answer) (s : Stepped x y (calls.Deliver delivery) a) where
-  abbrev w : Watch
-  w = watch_of x y
-
-  abbrev i : Intake
-  i = came_to x y
-
-  intake : w.intake ≡ i
-  intake = watched_intake (lens x y) x.told (first_watch x.final x.began x.initial_rtt x.initial_delay)
-
-  -- nothing came
-  same_arrived : Arrived x y delivery x.end i
-  same_arrived = record {
-    frames = [];
-    brought = λ test is. cc;
-    begins = subst (λ (v : Watch). BegunAt (λ q. IsPending x.end q) x.end.ids.peer.active w.flight.flying w.flight.acked [] v.flight.flying v.flight.acked x.end.streams x.end.waiting.frames)
-        (sym (ap (λ (j : Intake). with_delivery x.terms w x.end.closing.state delivery j) (sym intake) ∙ nothing_delivered x.terms w x.end.closing.state delivery)) (nothing_begun x y s.gives []).0;
-  }
-
-  -- a packet is taken
-  taken_arrived : (d : Sent) → x.end.closing.state ≡ states.Open → (arrived x.end delivery.now d.number d.frames).fault ≡ None → (f : End) (ids : List IssuedCid) → ((n : ℕ) → has_new_id n ids ≡ true → has_new_id n (arrived x.end delivery.now d.number d.frames).end.waiting.frames.new_cids ≡ true) → f.streams ≡ (arrived x.end delivery.now d.number d.frames).end.streams → f.waiting.frames ≡ record (arrived x.end delivery.now d.number d.frames).end.waiting.frames { new_cids = ids }
-      → Arrived x y delivery f (with_taken i d.number d.frames)
-  taken_arrived d opened none f ids same streams waiting = record {
-    frames = d.frames;
-    brought = came;
-    begins = let all = frames_fly x.terms now d.frames (Begun Start used flew before d.frames) (begun_flies Start used flew before d.frames) w.flight (begun x.end delivery.now d.number) none (record { waits = begins; holds = nothing_begun x y s.gives d.frames }) in
-        subst (λ (v : Watch). BegunAt Start used flew before d.frames v.flight.flying v.flight.acked f.streams f.waiting.frames) (sym there)
-        (subst (λ (p : _). BegunAt Start used flew before d.frames after.flying after.acked f.streams p) (sym waiting)
-        (subst (λ (t : StreamsState). BegunAt Start used flew before d.frames after.flying after.acked t (record left.waiting.frames { new_cids = ids })) (sym streams) (ids_begun Start used flew before d.frames after.flying after.acked left ids same all.holds.0)));
-  }
+  -- a limit on all streams that wasn't said last wasn't said
+  all_unsaid : was_said x.end.streams.sending.said x.end.streams.sending.limit ≡ false → has_said before ≡ false
+  all_unsaid unsaid = go (has_said before) refl
     where
-      left : End
-      left = (arrived x.end delivery.now d.number d.frames).end
+      limit : ℕ
+      limit = data_limit before.params before.before.intake.took
 
-      Start : Thing → Type 0
-      Start q = IsPending x.end q
+      go : (b : Bool) → has_said before ≡ b → has_said before ≡ false
+      go false is = is
+      go true is =
+          let i = (h.still open_now).says in
+          absurd (never_said x.end.streams.sending.said limit x.end.streams.sending.limit (i.told limit (given (data_blocked limit) (stands_given (says_blocked limit) (data_blocked limit) before.gave (all_only limit) is))) i.within all_limit unsaid)
 
-      used : ℕ
-      used = x.end.ids.peer.active
-
-      flew : List Sent
-      flew = w.flight.flying
-
-      before : List Sent
-      before = w.flight.acked
-
-      came : (test : FrameValue → Bool) → list_any test d.frames ≡ true → Brings test i (with_taken i d.number d.frames)
-      came test is = ap (λ (ps : List Packet). list_any (λ p. list_any test p.frames) ps) (one_new i d.number d.frames) ∙ or_left (list_any test d.frames) false is
-
-      now : ℕ
-      now = max w.clock delivery.now
-
-      after : Flight
-      after = after_frames x.terms now d.frames w.flight
-
-      there : with_delivery x.terms w x.end.closing.state delivery (with_taken i d.number d.frames) ≡ record w { intake = with_taken w.intake d.number d.frames; clock = now; flight = after }
-      there = ap (λ (j : Intake). with_delivery x.terms w x.end.closing.state delivery (with_taken j d.number d.frames)) (sym intake) ∙ packet_delivered x.terms w x.end.closing.state delivery d.number d.frames opened
-
-      waits : Waits x.terms w.clock w.flight (held x.end)
-      waits = (sight x y s.gives).watched.flight opened
-
-      numbers : Numbers
-      numbers = number_opened x.end.numbers d.number
-
-      begins : Waits x.terms now w.flight (held (begun x.end delivery.now d.number))
-      begins = ticked_waits x.terms w.clock delivery.now w.flight (record (held x.end) { numbers = numbers }) (numbers_wait x.terms w.clock w.flight (held x.end) numbers refl waits)
-
-  delivered : (called x y.given (calls.Deliver delivery) a).end.closing.state ≡ states.Open → Arrived x y delivery (called x y.given (calls.Deliver delivery) a).end (came_to (called x y.given (calls.Deliver delivery) a) y)
-  delivered = by_coming x y a s.joined s.served (meets y x (packets y x s.takes)) (λ (e : End) (j : Intake). e.closing.state ≡ states.Open → Arrived x y delivery e j) (calls.Deliver delivery) s.answer (record {
-    apart = λ apart. cc;
-    none = λ other same opened. same_arrived;
-    comes = λ other same d among. (let is : delivery ≡ other = cc in subst (λ (z : Delivery). Arrivals x.end z.now d.number d.frames i (λ (o : Outcome) (j : Intake). o.end.closing.state ≡ states.Open → Arrived x y delivery o.end j)) is (record {
-      ignored = λ reason opened. same_arrived;
-      noted = λ state reason opened. (let clash : states.Closing ≡ states.Open = sym state ∙ opened in cc);
-      takes = λ words state new none mark opened. (let f : End = after_taken d.number (asks_in (map Ok d.frames)) mark (arrived x.end delivery.now d.number d.frames).end in taken_arrived d state none (drawn words f) (drawing words f).waiting (λ n is. sym (numbers_same words f n) ∙ is) refl refl);
-      drains = λ words state new close fault opened. cc;
-      refuses = λ words state new f fault opened. cc;
-      exhausts = λ state opened. cc;
-    }));
-  })
-
--- ---- what has begun has a cause
-
--- what is behind the first of two lists
-behind_acked : (before after new : List Sent) → after ≡ before ++ new → drop (length before) after ≡ new
-behind_acked before after new is = ap (λ (xs : List Sent). drop (length before) xs) is ∙ drop_all before new
-
--- an observer finds which id of the peer an open end uses, and which it knows
-ids_hold : (x y : Party) (call : Call) (a : Answer) → Stepped x y call a → IdsHold (watch_of x y).intake.took (using_of x y).number x.end.ids.peer
-ids_hold x y call a s = subst (λ (i : Intake). IdsHold i.took (using_of x y).number x.end.ids.peer) (sym (watched_intake (lens x y) x.told (first_watch x.final x.began x.initial_rtt x.initial_delay))) (s.gives.0.1.1.holds (was x y call a s))
-
--- where these are in flight behind the call, and these were acknowledged, and frames that it
--- brought are among these
-module _ (x y : Party) (call : Call) (a : Answer) (s : Stepped x y call a) (frames : List FrameValue) (brought : (test : FrameValue → Bool) → list_any test frames ≡ true → brings test (seen_of x y call a) ≡ true) (new : List Sent)
-    (more : (seen_of x y call a).behind.flight.acked ≡ (watch_of x y).flight.acked ++ new) where
-  caused : (q : Thing) → By (λ z. IsPending x.end z) x.end.ids.peer.active (watch_of x y).flight.flying (watch_of x y).flight.acked frames (seen_of x y call a).behind.flight.flying new q → Caused x y call a q
-  caused q (inl start) = inl start
-  caused q (inr (inl lost)) = inr (by_kind q lost.bore (record {
-    sent = lost.sent;
-    flew = lost.flies;
-    gone = lost.gone;
-    unnamed = λ i. lost.unnamed (subst (λ (ss : List Sent). In lost.sent ss) (behind_acked (watch_of x y).flight.acked (seen_of x y call a).behind.flight.acked new more) i);
-    bore = lost.bore;
-  }))
+  -- nor was one on a stream
+  on_unsaid : (id : ℕ) → AsksOn id x.end.streams (after_on_streams (is_open x.end.closing.state) (streams_at x.end) call a).state → has_said_on id before ≡ false
+  on_unsaid id asks = go (has_said_on id before) refl
     where
-      by_kind : (z : Thing) → Bears lost.sent z → WasLost (seen_of x y call a) z → HasCause (seen_of x y call a) z
-      by_kind (Byte id o) bore l = inr l
-      by_kind (Fin id) bore l = inr l
-      by_kind (Frame c) bore l = inr (inl l)
-      by_kind z bore l = absurd bore
-  caused (Frame (LimitOf AllData)) (inr (inr raised)) = inr (inl (or_right _ (brings brings_data (seen_of x y call a)) (brought brings_data raised)))
-  caused (Frame (LimitOf (StreamCount dir))) (inr (inr raised)) = inr (inl (or_right _ (brings may_end (seen_of x y call a)) (brought may_end raised)))
-  caused (Frame (NewId number)) (inr (inr raised)) = inr (inl (brought is_retirement raised))
-  caused (Frame (Retirement number)) (inr (inr raised)) = (
-      let used : ℕ = (using_of x y).number in
-      let may : list_any (retires used number) frames ≡ true = subst (λ (n : ℕ). list_any (retires n number) frames ≡ true) (ids_hold x y call a s).used_is raised in
-      inr (inl (or_right _ (brings (retires used number) (seen_of x y call a)) (brought (retires used number) may))))
-  caused q (inr (inr raised)) = absurd raised
+      limit : ℕ
+      limit = stream_limit before.params before.side before.before.intake.took id
 
--- what waits of streams and beside their bytes
-abbrev StreamsBegin : Party → Party → Call → Answer → Type 0
-StreamsBegin x y call a = Left (Caused x y call a) (called x y.given call a).end
+      go : (b : Bool) → has_said_on id before ≡ b → has_said_on id before ≡ false
+      go false is = is
+      go true is =
+          let half = half_says (WasGiven x.sents) x.end.streams id asks.half asks.there (h.still open_now).says in
+          absurd (never_said asks.half.said limit asks.half.limit (half.0 limit (given (blocked_frame id limit) (stands_given (says_blocked_on id limit) (blocked_frame id limit) before.gave (on_only id limit) is))) half.1 (half_limit id asks.half asks.there) asks.unsaid)
 
--- a delivery
-delivery_begins : (x y : Party) (delivery : Delivery) (a : Answer) → Stepped x y (calls.Deliver delivery) a → StreamsBegin x y (calls.Deliver delivery) a
-delivery_begins x y delivery a s = left_of (Caused x y call a) (called x y.given call a).end (pend_more _ (Caused x y call a) _ _ (caused x y call a s r.frames (λ test is. here test (r.brought test is)) at.new at.more) at.pends)
-  where
-    call : Call
-    call = calls.Deliver delivery
+  -- what an application asks for of streams is asked for
+  asked_is : (c : Control) → call_asks call a c ≡ true → IsUnsaid x.end.streams (after_on_streams (is_open x.end.closing.state) (streams_at x.end) call a).state c → asks_for before c ≡ true
+  asked_is (LimitOf AllData) is unsaid = or_left (call_asks call a (LimitOf AllData)) (brings brings_data before) is
+  asked_is (LimitOf (StreamCount dir)) is unsaid = or_left (call_asks call a (LimitOf (StreamCount dir))) (brings may_end before) is
+  asked_is Blocked is unsaid = and_from (finds_blocked (λ id. true) call a) (not (has_said before)) is (ap not (all_unsaid unsaid))
+  asked_is (BlockedOn id) is unsaid = and_from (finds_blocked (λ j. j == id) call a) (not (has_said_on id before)) is (ap not (on_unsaid id unsaid))
+  asked_is (NewId number) is unsaid = cc
+  asked_is Request is unsaid = cc
+  asked_is (Retirement number) is unsaid = cc
+  asked_is c is unsaid = is
 
-    r : Arrived x y delivery (called x y.given call a).end (came_to (called x y.given call a) y)
-    r = delivered x y delivery a s s.opened
-
-    -- behind the call the observer knows what it knows once this came
-    behind : (seen_of x y call a).behind ≡ with_delivery x.terms (watch_of x y) x.end.closing.state delivery (came_to (called x y.given call a) y)
-    behind =
-        ap (λ (b : Bool). watch_given b (lens x y) (timed_with (lens x y) (told_of call a x.end.closing.state) (watch_of x y))) (only_polls_give x.policy x.end y.given call a refl s.answer)
-        ∙ ap (λ (b : Bool). watch_moment b x.terms (came_with (lens x y) (told_of call a x.end.closing.state) (watch_of x y))) (untimely x.end.closing.state call refl)
-        ∙ ap (λ (j : Intake). with_delivery x.terms (watch_of x y) x.end.closing.state delivery j)
-        (ap (λ (i : Intake). and_told x.policy y.final (told_of call a x.end.closing.state) i) (watched_intake (lens x y) x.told (first_watch x.final x.began x.initial_rtt x.initial_delay)) ∙ sym (came_more x y call a))
-
-    at : BegunAt (λ q. IsPending x.end q) x.end.ids.peer.active (watch_of x y).flight.flying (watch_of x y).flight.acked r.frames (seen_of x y call a).behind.flight.flying (seen_of x y call a).behind.flight.acked (called x y.given call a).end.streams (called x y.given call a).end.waiting.frames
-    at = subst (λ (v : Watch). BegunAt (λ q. IsPending x.end q) x.end.ids.peer.active (watch_of x y).flight.flying (watch_of x y).flight.acked r.frames v.flight.flying v.flight.acked (called x y.given call a).end.streams (called x y.given call a).end.waiting.frames) (sym behind) r.begins
-
-    here : (test : FrameValue → Bool) → Brings test (came_to x y) (came_to (called x y.given call a) y) → brings test (seen_of x y call a) ≡ true
-    here test is = ap (λ (ps : List Packet). list_any (λ p. list_any test p.frames) ps) (came_is x y call a s) ∙ is
-
--- a timeout
-timeout_begins : (x y : Party) (now : ℕ) (a : Answer) → Stepped x y (calls.Timeout now) a → StreamsBegin x y (calls.Timeout now) a
-timeout_begins x y now a s = left_of (Caused x y call a) (called x y.given call a).end (pend_more _ (Caused x y call a) _ _ (caused x y call a s [] (λ test is. cc) at.new at.more) at.pends)
-  where
-    call : Call
-    call = calls.Timeout now
-
-    w : Watch
-    w = watch_of x y
-
-    used : ℕ
-    used = x.end.ids.peer.active
-
-    opened : x.end.closing.state ≡ states.Open
-    opened = was x y call a s
-
-    t : Told
-    t = told_of call a x.end.closing.state
-
-    behind : (seen_of x y call a).behind ≡ at_time x.terms w now
-    behind =
-        told_timed (lens x y) t w (only_polls_give x.policy x.end y.given call a refl s.answer) (none_comes (lens x y) t w.intake refl)
-        ∙ ap (λ (z : State). watch_moment (is_timely z call) x.terms (record w { clock = clock_behind w.clock (moment_of z false call) })) opened
-
-    flies : Begun (λ q. IsPending x.end q) used w.flight.flying w.flight.acked [] (at_time x.terms w now).flight.flying (at_time x.terms w now).flight.acked (timed_out_in states.Open x.policy x.end now).end
-    flies = timeout_flies (Begun (λ q. IsPending x.end q) used w.flight.flying w.flight.acked []) (begun_loses (λ q. IsPending x.end q) used w.flight.flying w.flight.acked []) (λ flying acked c pending timers signals validation e i. i)
-        x.policy x.terms w x.end now ((sight x y s.gives).stands opened) ((sight x y s.gives).watched.flight opened) (nothing_begun x y s.gives [])
-
-    at : BegunAt (λ q. IsPending x.end q) used w.flight.flying w.flight.acked [] (seen_of x y call a).behind.flight.flying (seen_of x y call a).behind.flight.acked (timed_out x.policy x.end now).end.streams (timed_out x.policy x.end now).end.waiting.frames
-    at =
-        subst (λ (v : Watch). BegunAt (λ q. IsPending x.end q) used w.flight.flying w.flight.acked [] v.flight.flying v.flight.acked (timed_out x.policy x.end now).end.streams (timed_out x.policy x.end now).end.waiting.frames) (sym behind)
-        (subst (λ (z : State). BegunAt (λ q. IsPending x.end q) used w.flight.flying w.flight.acked [] (at_time x.terms w now).flight.flying (at_time x.terms w now).flight.acked (timed_out_in z x.policy x.end now).end.streams (timed_out_in z x.policy x.end now).end.waiting.frames) (sym opened) flies.0)
-
--- a poll
-poll_begins : (x y : Party) (now : ℕ) (a : Answer) → Stepped x y (calls.Poll now) a → StreamsBegin x y (calls.Poll now) a
-poll_begins x y now a s = polled_left (Caused x y call a) x.policy x.end now (watch_of x y).flight.flying seen_waits.tells.waits
-    (λ some u among c bears. inr (inr (inr (record { polls = refl; waited = subst (λ (n : ℕ). 0 < n) (sym seen_waits.probes) some; sent = u; flies = among; bears = bears })))) (λ anew. inr (inl (sym known_anew ∙ anew)))
-    (pend_more (λ q. IsPending x.end q) (Caused x y call a) x.end.streams x.end.waiting.frames (λ q is. inl is) (pends_start x y s.gives)) s.opened
-  where
-    call : Call
-    call = calls.Poll now
-
-    seen_waits : Waits x.terms (watch_of x y).clock (watch_of x y).flight (held x.end)
-    seen_waits = (sight x y s.gives).watched.flight (was x y call a s)
-
-    -- the observer finds when the peer is to be asked
-    known_anew : is_anew (by_of x.end) ≡ wants_anew (asking_of x.made) (watch_of x y).own (watch_of x y).flight
-    known_anew =
-        anew_known x.terms (watch_of x y).clock x.sents (watch_of x y).flight x.end seen_waits.tells s.gives.0.1.0.next
-        ∙ ap (λ (b : Asking). wants_anew b x.sents (watch_of x y).flight) s.gives.0.1.0.same
-        ∙ ap (λ (ss : List Sent). wants_anew (asking_of x.made) ss (watch_of x y).flight) (sym (sight x y s.gives).own)
-
--- an observer finds which ids of the peer are passed over where the next one is used
-skipped_is : (x y : Party) (call : Call) (a : Answer) → Stepped x y call a → (n : ℕ) → is_skipped call a x.end.ids.peer n ≡ passes_over (seen_of x y call a) n
-skipped_is x y call a s n =
-    let holds = ids_hold x y call a s in
-    ap (λ (used : ℕ). uses_next call a && is_passed n used (next_after x.end.ids.peer)) holds.used_is
-    ∙ ap (λ (next : Option ℕ). uses_next call a && is_passed n (using_of x y).number next) (next_above (watch_of x y).intake.took (using_of x y).number x.end.ids.peer holds)
-
--- what an application asks for of streams is asked for
-asked_is : (x y : Party) (call : Call) (a : Answer) (c : Control) → call_asks call a c ≡ true → asks_for (seen_of x y call a) c ≡ true
-asked_is x y call a (LimitOf AllData) is = or_left (call_asks call a (LimitOf AllData)) (brings brings_data (seen_of x y call a)) is
-asked_is x y call a (LimitOf (StreamCount dir)) is = or_left (call_asks call a (LimitOf (StreamCount dir))) (brings may_end (seen_of x y call a)) is
-asked_is x y call a (NewId number) is = cc
-asked_is x y call a Request is = cc
-asked_is x y call a (Retirement number) is = cc
-asked_is x y call a c is = is
+-- ---- what waits
 
 -- another call, but for how far bytes were written
 abbrev Almost : Party → Party → Call → Answer → Thing → Type 0
 Almost x y call a (Byte id o) = IsPending x.end (Byte id o) ⊎ (length (written id x.told) ≤ o)
 Almost x y call a q = Caused x y call a q
 
-other_begins : (x y : Party) (call : Call) (a : Answer) → is_delivery call ≡ false → is_poll call ≡ false → is_timeout call ≡ false → Stepped x y call a → Left (Almost x y call a) (called x y.given call a).end
-other_begins x y call a apart silent other s = go (is_on_streams call) refl
+other_begins : (x y : Party) (call : Call) (a : Answer) → is_delivery call ≡ false → is_poll call ≡ false → is_timeout call ≡ false → Stepped x y call a → SaidHolds x y → Tallied x y → Left (Almost x y call a) (called x y.given call a).end
+other_begins x y call a apart silent other s h t = go (is_on_streams call) refl
   where
     almost : (q : Thing) → IsPending x.end q → Almost x y call a q
     almost Ack is = inl is
@@ -625,35 +211,35 @@ other_begins x y call a apart silent other s = go (is_on_streams call) refl
     start = pend_more (λ q. IsPending x.end q) (Almost x y call a) x.end.streams x.end.waiting.frames almost (pends_start x y s.gives)
 
     go : (b : Bool) → is_on_streams call ≡ b → Left (Almost x y call a) (called x y.given call a).end
-    go true on = streams_left (Almost x y call a) x.policy x.end y.given start call a (λ c is. inr (inl (asked_is x y call a c is))) (λ id is. inr (inl is)) (λ id h is. sent_within (wrote x.told) x.end.streams (holds x y s.gives) id h is)
+    go true on = streams_left (Almost x y call a) x.policy x.end y.given start call a (λ c is unsaid. inr (inl (asked_is x y call a s h t c is unsaid))) (λ id is. inr (inl is)) (λ id h is. sent_within (wrote x.told) x.end.streams (holds x y s.gives) id h is)
         (λ id h is none o above. inr (subst (λ (n : ℕ). n ≤ o) (written_is (wrote x.told id) h (half_holds (wrote x.told) x.end.streams (holds x y s.gives) id h is) none) above)) s.answer on
     go false off = quiet_left (Almost x y call a) x.policy x.end y.given start call a (λ n skips. inr (inl (or_left (passes_over (seen_of x y call a) n) (brings (retires (using_of x y).number n) (seen_of x y call a)) (sym (skipped_is x y call a s n) ∙ skips)))) off apart silent other
 
 -- ---- all of it
 
-begins : (x y : Party) (call : Call) (a : Answer) → Stepped x y call a → (q : Thing) → IsPending (called x y.given call a).end q → Caused x y call a q
-begins x y call a s Ack is = ack_begins x y call a s is
-begins x y call a s Ping is = ping_begins x y call a s is
-begins x y call a s Immediate is = immediate_begins x y call a s is
-begins x y call a s Challenge is = (signals_begin x y call a s).0 is
-begins x y call a s Response is = (signals_begin x y call a s).1 is
-begins x y call a s Probe is = probe_begins x y call a s is
-begins x y call a s (Message m) is = call_queues m x.policy x.end y.given call a is
-begins x y (calls.Deliver delivery) a s (Byte id o) is = (left_is _ _ (delivery_begins x y delivery a s)).0 id o is
-begins x y (calls.Deliver delivery) a s (Fin id) is = (left_is _ _ (delivery_begins x y delivery a s)).1 id is
-begins x y (calls.Deliver delivery) a s (Frame c) is = (left_is _ _ (delivery_begins x y delivery a s)).2 c is
-begins x y (calls.Timeout now) a s (Byte id o) is = (left_is _ _ (timeout_begins x y now a s)).0 id o is
-begins x y (calls.Timeout now) a s (Fin id) is = (left_is _ _ (timeout_begins x y now a s)).1 id is
-begins x y (calls.Timeout now) a s (Frame c) is = (left_is _ _ (timeout_begins x y now a s)).2 c is
-begins x y (calls.Poll now) a s (Byte id o) is = (left_is _ _ (poll_begins x y now a s)).0 id o is
-begins x y (calls.Poll now) a s (Fin id) is = (left_is _ _ (poll_begins x y now a s)).1 id is
-begins x y (calls.Poll now) a s (Frame c) is = (left_is _ _ (poll_begins x y now a s)).2 c is
-begins x y call a s (Byte id o) is = elim ((left_is _ _ (other_begins x y call a refl refl refl s)).0 id o is) [
+begins : (x y : Party) (call : Call) (a : Answer) → Stepped x y call a → SaidHolds x y → Tallied x y → (q : Thing) → IsPending (called x y.given call a).end q → Caused x y call a q
+begins x y call a s h t Ack is = ack_begins x y call a s is
+begins x y call a s h t Ping is = ping_begins x y call a s is
+begins x y call a s h t Immediate is = immediate_begins x y call a s is
+begins x y call a s h t Challenge is = (signals_begin x y call a s).0 is
+begins x y call a s h t Response is = (signals_begin x y call a s).1 is
+begins x y call a s h t Probe is = probe_begins x y call a s is
+begins x y call a s h t (Message m) is = call_queues m x.policy x.end y.given call a is
+begins x y (calls.Deliver delivery) a s h t (Byte id o) is = (left_is _ _ (delivery_begins x y delivery a s)).0 id o is
+begins x y (calls.Deliver delivery) a s h t (Fin id) is = (left_is _ _ (delivery_begins x y delivery a s)).1 id is
+begins x y (calls.Deliver delivery) a s h t (Frame c) is = (left_is _ _ (delivery_begins x y delivery a s)).2 c is
+begins x y (calls.Timeout now) a s h t (Byte id o) is = (left_is _ _ (timeout_begins x y now a s)).0 id o is
+begins x y (calls.Timeout now) a s h t (Fin id) is = (left_is _ _ (timeout_begins x y now a s)).1 id is
+begins x y (calls.Timeout now) a s h t (Frame c) is = (left_is _ _ (timeout_begins x y now a s)).2 c is
+begins x y (calls.Poll now) a s h t (Byte id o) is = (left_is _ _ (poll_begins x y now a s)).0 id o is
+begins x y (calls.Poll now) a s h t (Fin id) is = (left_is _ _ (poll_begins x y now a s)).1 id is
+begins x y (calls.Poll now) a s h t (Frame c) is = (left_is _ _ (poll_begins x y now a s)).2 c is
+begins x y call a s h t (Byte id o) is = elim ((left_is _ _ (other_begins x y call a refl refl refl s h t)).0 id o is) [
   | inl waited ↦ inl waited
   | inr above ↦ inr (inl (above, waits_within (wrote (called x y.given call a).told) (called x y.given call a).end.streams id o (holds (called x y.given call a) y s.behind) is))
 ]
-begins x y call a s (Fin id) is = (left_is _ _ (other_begins x y call a refl refl refl s)).1 id is
-begins x y call a s (Frame c) is = (left_is _ _ (other_begins x y call a refl refl refl s)).2 c is
+begins x y call a s h t (Fin id) is = (left_is _ _ (other_begins x y call a refl refl refl s h t)).1 id is
+begins x y call a s h t (Frame c) is = (left_is _ _ (other_begins x y call a refl refl refl s h t)).2 c is
 
 -- ---- what goes waits no more
 
@@ -727,13 +313,13 @@ other_stays Server w e ds control heard = refl
 
 module _ (r : Run) (end : World) (honest : IsHonest r) (run : IsRun r end) (side : Side) (i : ℕ) (call : Call) (a : Answer) (served : AreServed r (suc i)) (here : IsAt r i side call a) where
   made : MadeAt r i side call a
-  made = made_at Known known r end honest run i side call a here served
+  made = made_at Wide wide r end honest run i side call a here served
 
   abbrev front : World
   front = made.before
 
-  h : CallHolds Known r i side call a front
-  h = call_holds Known known r end honest run i side call a front made.behind (λ id is. honest.ids side i id call a here is) (run.codes (record { side = side; call = call }) (stands_in r.events i (record { side = side; call = call }) here.event)) made.made
+  h : CallHolds Wide r i side call a front
+  h = call_holds Wide wide r end honest run i side call a front made.behind (λ id is. honest.ids side i id call a here is) (run.codes (record { side = side; call = call }) (stands_in r.events i (record { side = side; call = call }) here.event)) made.made
 
   abbrev x : Party
   x = calling r i front side call h.sents
@@ -771,7 +357,7 @@ module _ (r : Run) (end : World) (honest : IsHonest r) (run : IsRun r end) (side
   haste_same told = refl
 
   opened_stepped : (called x y.given call a).end.closing.state ≡ states.Open → Stepped x y call a
-  opened_stepped opened = record { calls = whole Known r i side call a front h; joined = h.joined; answer = made.made.step.answer; served = made_served r i side call a front made.behind made.made; gives = h.gives; takes = h.takes; behind = h.behind; opened = opened }
+  opened_stepped opened = record { calls = less_calls Wide Known (λ z v k. k.0.0) x y call a (whole Wide r i side call a front h); joined = h.joined; answer = made.made.step.answer; served = made_served r i side call a front made.behind made.made; gives = h.gives.0.0; takes = h.takes.0.0; behind = h.behind.0.0; opened = opened }
 
   -- what is seen of these
   abbrev seen_with : State → Watch → Watch → Bool → Bool → Seen
@@ -786,6 +372,9 @@ module _ (r : Run) (end : World) (honest : IsHonest r) (run : IsRun r end) (side
     alive = (wants_of x y).alive;
     asking = asking_at r side;
     using = in_use r side i;
+    side = side;
+    params = (end_at side r.start).peer_params;
+    gave = before.own;
   }
 
   -- what is seen in the run is seen so
@@ -806,7 +395,7 @@ module _ (r : Run) (end : World) (honest : IsHonest r) (run : IsRun r end) (side
   begins_here opened q is =
       let stepped = opened_stepped (ap (λ (e : End). e.closing.state) (sym left) ∙ opened) in
       let pending : IsPending (called x y.given call a).end q = subst (λ (e : End). IsPending e q) left is in
-      elim (begins x y call a stepped q pending) [
+      elim (begins x y call a stepped h.gives.1 h.gives.0.1.1 q pending) [
         | inl before ↦ still (reads_pends (control_at side front) (heard_at side front) call (end_at side front) q before) (λ gone. gone_waits x y call a stepped q
             (subst (λ (ss : List Sent). HasGone ss q) (ap (λ (v : Seen). went v.before v.behind) seen_same ∙ went_here x y call a stepped) gone) pending)
         | inr cause ↦ new.begins (subst (λ (v : Seen). HasCause v q) (sym seen_same) cause)

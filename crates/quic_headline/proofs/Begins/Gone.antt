@@ -3,7 +3,7 @@ use Rattle.std.proofs.Common.{◌≡◌, ℕ, zero, suc, ◌+◌, ◌-◌, ◌<�
 use Rattle.std.specs.Prelude.{ltb, leb}
 use Rattle.std.specs.Option.{is_none}
 use Rattle.std.proofs.lemmas.Bool.{or_cases, and_from, and_parts, both_ways, not-true, cond_both, cases_eq, lt-ltb, le-leb, leb-true}
-use Rattle.quic_wire.specs.Value.{FrameValue, StreamValue, stream, max_data, max_stream_data, max_streams, datagram, padding, ping, ack, connection_close, application_close, immediate_ack, ack_frequency}
+use Rattle.quic_wire.specs.Value.{FrameValue, StreamValue, stream, datagram, padding, ping, ack, connection_close, application_close, immediate_ack, ack_frequency}
 use Rattle.quic_sets.specs.Offsets.{is_within}
 use Rattle.quic_send_buffer.specs.Buffered.{is_lost, is_unsent, written, next_start, sent_end}
 use Rattle.quic_send_buffer.proofs.Buffered.Places.{has_without}
@@ -13,7 +13,6 @@ use Rattle.quic_streams_parts.specs.SendHalf.{SendHalf, Queued, has_pending, fra
 use Rattle.quic_streams_halves.specs.Halves.{with_half}
 use Rattle.quic_retransmits.specs.declared.retransmits.ControlKind.{ControlKind}
 use Rattle.quic_streams_state.specs.declared.state.StreamsState.{StreamsState}
-use Rattle.quic_streams_state.specs.Parts.{Sending}
 use Rattle.quic_streams_state.specs.Control.{kind_of, frame_told}
 use Rattle.quic_streams_state.specs.Frames.{after_frame_sent}
 use Rattle.quic_streams_laws.specs.KeepingLaws.{at-half}
@@ -33,6 +32,7 @@ use Rattle.quic_headline.specs.Observer.{Sent, HoldsOffset, HoldsEnd}
 use Rattle.quic_headline.specs.Duties.{on_half}
 use Rattle.quic_headline.specs.Begins.{byte_waits, fin_waits}
 use Rattle.quic_headline.proofs.Packets.Probes.{by_going}
+use Rattle.quic_headline.proofs.Packets.Told.{told_half}
 use Rattle.quic_headline.proofs.Places.Parties.{sent_by, sent_if, sent_as}
 use Rattle.quic_headline.proofs.Places.Told.{in_append}
 use Rattle.quic_headline.proofs.Begins.Halves.{went_fewer}
@@ -120,12 +120,20 @@ by_turned P fair q id h each = cond_both {A = Queued} (fair && has_pending h) (t
 abbrev AllRid : Draft → Type 0
 AllRid d = (id : ℕ) (h : SendHalf) → at d.end.streams.sending.halves.live id ≡ Some h → Rid d.frames id h
 
--- a frame that goes of what waits beside the bytes of streams leaves the halves that send
-told_sends : (f : FrameValue) (s : StreamsState) → (frame_told f s).sending ≡ s.sending
-told_sends (max_data limit) s = refl
-told_sends (max_stream_data f) s = refl
-told_sends (max_streams f) s = refl
-told_sends f s = refl
+-- so it is of a half, if there is one
+abbrev RidOf : List FrameValue → ℕ → Option SendHalf → Type 0
+RidOf fs id o = (h : SendHalf) → o ≡ Some h → Rid fs id h
+
+-- a frame that goes of what waits beside the bytes of streams leaves each half, but for which limit
+-- was said on it
+told_rids : (f : FrameValue) (fs : List FrameValue) (s : StreamsState) (id : ℕ) → RidOf fs id (at s.sending.halves.live id) → RidOf fs id (at (frame_told f s).sending.halves.live id)
+told_rids f fs s id i = told_half (RidOf fs id) said f s id i
+  where
+    said : (h : SendHalf) (limit : ℕ) → RidOf fs id (Some h) → RidOf fs id (Some (record h { said = Some limit }))
+    said h limit was g is = (let i = was h refl in subst (λ (x : SendHalf). Rid fs id x) (same_some is) (record { bytes = i.bytes; fin = i.fin }))
+      where
+        same_some : {a b : SendHalf} → Some a ≡ Some b → a ≡ b
+        same_some e = cc
 
 no_stream : (kind : ControlKind) (g : FrameValue) (f : StreamValue) → kind_of g ≡ Some kind → stream f ≡ g → ⊥
 no_stream kind g f is same = let clash : ◌≡◌ {A = Option ControlKind} None (Some kind) = ap kind_of same ∙ is in cc
@@ -150,7 +158,7 @@ draft_rids leaving e may = by_leave AllRid keep leaving e may (λ id h there. re
   where
     keep : Writing AllRid
     keep (puts.drops kind) d may i = i
-    keep (puts.control kind f) d may i = λ id h there. rid_more d.frames f id h (λ g same of_it. no_stream kind f g may.of_kind same) (i id h (sym (ap (λ (s : Sending). at s.halves.live id) (told_sends f d.end.streams)) ∙ there))
+    keep (puts.control kind f) d may i = λ id h there. rid_more d.frames f id h (λ g same of_it. no_stream kind f g may.of_kind same) (told_rids f d.frames d.end.streams id (i id) h there)
     keep (puts.stream id h room) d (found, first, some, is, more) i = half_rids d.end.transport.send_fairness d.frames d.end.streams id room h found i
     keep (puts.message m ms) d may i = λ id h there. rid_more d.frames (datagram m) id h (λ g same of_it. cc) (i id h there)
     keep puts.ping d may i = λ id h there. rid_more d.frames ping id h (λ g same of_it. cc) (i id h there)

@@ -61,6 +61,7 @@ module _ (B : Buffered → Type 0) (F : Thing → Type 0) (fresh : B nothing_wri
     fresh = λ id limit small none. none_pends id limit;
     over = λ id h i over. tt;
     blocked = λ id h b i. record { lawful = i.lawful; bytes = i.bytes; fin = i.fin };
+    noted = λ id h said i. record { lawful = i.lawful; bytes = i.bytes; fin = i.fin };
     placed = λ id h p i. record { lawful = i.lawful; bytes = i.bytes; fin = i.fin };
   }
 

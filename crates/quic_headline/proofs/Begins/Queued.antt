@@ -80,7 +80,7 @@ module _ (m : List ℕ) where
     notes = λ n x i. i;
     begins = λ moment n x i. i;
     frame = λ f x i. frame_messages (Fewer e) (drops e) f x i (λ y is j. i (subst (In m) (received_leaves x.transport.datagram_receive_buffer_size y x.messages.queues) j));
-    takes = λ n asks mark x i. by_taken (λ (f : End). Fewer e f.messages.queues) n asks mark x (λ idle alive. i);
+    takes = λ n asks urged mark x i. by_taken (λ (f : End). Fewer e f.messages.queues) n asks urged mark x (λ idle alive. i);
     closes = λ reason x i. i;
     drains = λ close x i. i;
     asks_close = λ x i. i;

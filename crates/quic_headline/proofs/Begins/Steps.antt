@@ -17,7 +17,7 @@ use Rattle.quic_machine.specs.Closing.{ticked}
 use Rattle.quic_machine.specs.End.{End, with_closing, streams_at, closed_by}
 use Rattle.quic_machine.specs.Tracking.{TrackedPacket}
 use Rattle.quic_machine.specs.Calls.{is_open, closed_in}
-use Rattle.quic_machine.specs.StreamCalls.{IsStreamAnswer, is_on_streams}
+use Rattle.quic_machine.specs.StreamCalls.{IsStreamAnswer, is_on_streams, after_on_streams}
 use Rattle.quic_machine.specs.Poll.{Polled, Ready, polled, record_moved, probed as probed_end, request_queued, asks_anew}
 use Rattle.quic_machine.specs.PollCases.{ready_at, draft_at, by_poll_to, may_leave_at, probe_leaves}
 use Rattle.quic_machine.specs.InjectionCases.{by_injection}
@@ -36,7 +36,7 @@ use Rattle.quic_headline.proofs.Packets.Probes.{by_readied, ready_state, by_goin
 use Rattle.quic_headline.proofs.Packets.Waited.{IsWaited, AreWaited}
 use Rattle.quic_headline.proofs.Halves.WordsCalls.{call_on_is}
 use Rattle.quic_headline.proofs.Waited.Pings.{ready_still}
-use Rattle.quic_headline.proofs.Begins.Called.{call_asks, call_one}
+use Rattle.quic_headline.proofs.Begins.Called.{call_asks, IsUnsaid, call_one}
 use Rattle.quic_headline.proofs.Begins.Halves.{Any, AllPend, pend_kept, pends_more}
 use Rattle.quic_headline.proofs.Begins.OnStreams.{calls_pend}
 use Rattle.quic_headline.proofs.Begins.Walk.{PendsAt, Pends, Sends, moved_pend, draft_pends, asked_pend}
@@ -85,7 +85,7 @@ module _ (F : Thing → Type 0) (p : Policy) (e : End) (now : ℕ) (flying : Lis
     | inr was ↦ j.controls Request was
   ]) j
 
-  ready_pends : Pends F g.end
+  pub ready_pends : Pends F g.end
   ready_pends = go e.tracking.probes refl
     where
       go : (n : ℕ) → e.tracking.probes ≡ n → Pends F g.end
@@ -111,7 +111,7 @@ module _ (F : Thing → Type 0) (p : Policy) (e : End) (now : ℕ) (flying : Lis
 
 module _ (F : Thing → Type 0) (p : Policy) (e : End) (theirs : List (List ℕ)) (i : Pends F e) where
   -- on streams
-  module _ (call : Call) (a : Answer) (asked : (c : Control) → call_asks call a c ≡ true → F (Frame c)) (ends : (id : ℕ) → ended_by id call a ≡ true → F (Fin id))
+  module _ (call : Call) (a : Answer) (asked : (c : Control) → call_asks call a c ≡ true → IsUnsaid e.streams (after_on_streams (is_open e.closing.state) (streams_at e) call a).state c → F (Frame c)) (ends : (id : ℕ) → ended_by id call a ≡ true → F (Fin id))
       (bounded : (id : ℕ) (h : SendHalf) → sending_half e.streams id ≡ Some h → h.buffer.unsent ≤ written h.buffer)
       (new : (id : ℕ) (h : SendHalf) → sending_half e.streams id ≡ Some h → h.reset ≡ None → (o : ℕ) → written h.buffer ≤ o → F (Byte id o)) where
     pub streams_left : IsAnswer p e theirs call a → is_on_streams call ≡ true → Left F (after_call p e theirs call a)
@@ -119,7 +119,7 @@ module _ (F : Thing → Type 0) (p : Policy) (e : End) (theirs : List (List ℕ)
         let c = call_on_is p e theirs call a on in
         let b : Bool = is_open e.closing.state in
         subst (Left F) (sym c.same) (record {
-          controls = λ d waits. elim (call_one b d (streams_at e) call a (λ id same. subst (λ (k : Call). IsStreamAnswer b e.streams k a) same (c.answer is)) waits) [ inl was ↦ i.controls d was | inr asks ↦ asked d asks ];
+          controls = λ d waits. elim (call_one b d (streams_at e) call a (λ id same. subst (λ (k : Call). IsStreamAnswer b e.streams k a) same (c.answer is)) waits) [ inl was ↦ i.controls d was | inr asks ↦ asked d asks.0 asks.1 ];
           halves = calls_pend F b (streams_at e) call a bounded new ends (bare F e.streams i.halves) (c.answer is);
         })
 

@@ -34,7 +34,7 @@ use Rattle.quic_machine.specs.Validation.{is_blocked, with_blocked}
 use Rattle.quic_machine.specs.Control.{Control}
 use Rattle.quic_machine.specs.End.{End, with_closing, with_numbers, with_window, closed_by}
 use Rattle.quic_machine.specs.Opens.{own_id_length}
-use Rattle.quic_machine.specs.Receive.{Fault, broke, too_many_pieces, closed_by_peer, violation, is_empty, asks_in, take_frame, take_items, take_payload, dropped, ends_as, by_state, opened_to, opened_as, opening, headed, received_in, is_read, drawn_if, unopened_in}
+use Rattle.quic_machine.specs.Receive.{Fault, broke, too_many_pieces, closed_by_peer, violation, is_empty, asks_in, is_urged, take_frame, take_items, take_payload, dropped, ends_as, by_state, opened_to, opened_as, opening, headed, received_in, is_read, drawn_if, unopened_in}
 use Rattle.quic_machine.specs.Poll.{Polled, bounds, may_seal, polled}
 use Rattle.quic_machine.specs.Calls.{closed_in}
 use Rattle.quic_machine.specs.Machine.{World, Policies, IsLeft, IsStep, IsAnswer, end_at, view_of, after_call, after_delivered, end_left, reads_window, says_last, fails, Follows}
@@ -79,17 +79,17 @@ module _ (e : End) where
       go false = items_keep (Had e) frame_had is x i
 
   -- none of these is the application's
-  ends_had : (fault : Option Fault) (asking : Bool) (n : ℕ) (mark : Option EcnCodepoint) (x : End) → Had e x → Had e (ends_as fault asking n mark x).end
-  ends_had None asking n mark x i is = by_taken (Had e) n asking mark x (λ idle alive. i) is
-  ends_had (Some (closed_by_peer close)) asking n mark x i is = cc
-  ends_had (Some (broke error)) asking n mark x i is = cc
-  ends_had (Some too_many_pieces) asking n mark x i is = cc
+  ends_had : (fault : Option Fault) (asking urged : Bool) (n : ℕ) (mark : Option EcnCodepoint) (x : End) → Had e x → Had e (ends_as fault asking urged n mark x).end
+  ends_had None asking urged n mark x i is = by_taken (Had e) n asking urged mark x (λ idle alive. i) is
+  ends_had (Some (closed_by_peer close)) asking urged n mark x i is = cc
+  ends_had (Some (broke error)) asking urged n mark x i is = cc
+  ends_had (Some too_many_pieces) asking urged n mark x i is = cc
 
   state_had : (s : State) (o : Opening) (arrival : Arrival) (x : End) → Had e x → Had e (by_state s o arrival x).end
   state_had states.Open o arrival x i =
       let begins : End = with_closing x (ticked x.closing arrival.now) in
       let taken = take_payload o.first (items o.payload) begins in
-      ends_had taken.fault (asks_in (items o.payload)) o.number arrival.mark taken.end (payload_had o.first (items o.payload) begins i)
+      ends_had taken.fault (asks_in (items o.payload)) (is_urged arrival.mark (items o.payload) begins) o.number arrival.mark taken.end (payload_had o.first (items o.payload) begins i)
   state_had states.Closing o arrival x i = i
   state_had states.Drained o arrival x i = i
   state_had states.Failed o arrival x i = i

@@ -36,7 +36,7 @@ use Rattle.quic_headline.proofs.Halves.ReadGroup.{ReadsHold}
 use Rattle.quic_headline.proofs.Causes.Crowded.{IsCrowdedBy, crowded, up_to}
 use Rattle.quic_headline.proofs.Causes.Judged.{IsNew, Judged, nothing, exhausted, drained, taken, refused, judged, crowd_is}
 use Rattle.quic_headline.proofs.Causes.Shown.{reason_shown, call_closes, IsUnread}
-use Rattle.quic_headline.proofs.Causes.Pieces.{WhyPieces, Held, held}
+use Rattle.quic_headline.proofs.Causes.Pieces.{window_of, WhyPieces, Held, held}
 use Rattle.quic_headline.proofs.Causes.Refused.{refused_not}
 use Rattle.quic_headline.proofs.Channel.Passing.{BreaksNone, PassesAt}
 
@@ -44,7 +44,7 @@ use Rattle.quic_headline.proofs.Channel.Passing.{BreaksNone, PassesAt}
 -- was taken, or came to too many pieces
 pub record Blameless (x y : Party) : Type 0 where
   pub reason : IsBlameless y.end.closing.reason
-  pub judged : (c : PacketCame y.policy x.final y.told) → IsTakenOrCrowded y.policy x.final y.told c
+  pub judged : (c : PacketCame y.policy x.final y.told) → IsTakenOrCrowded y.policy (window_of y) x.final y.told c
 
 -- What that rests on.
 pub record RestsOn (B : Way) : Type 1 where
@@ -75,24 +75,24 @@ last_or_before (u ∷ told) (b ∷ before) behind t call is =
     go first (inl same) = inl (ap (λ (x : Told). x ∷ before) first ∙ ap (λ (xs : List Told). u ∷ xs) same.0, same.1)
     go first (inr old) = inr (old.0, ap (λ (xs : List Told). u ∷ xs) old.1 ∙ ap (λ (x : Told). x ∷ (before ++ call ∷ old.0)) (sym first))
 
-module _ (p : Policy) (given : List (List ℕ)) (told : List Told) (t : Told) (were : (c : PacketCame p given told) → IsTakenOrCrowded p given told c) where
+module _ (p : Policy) (window : ℕ) (given : List (List ℕ)) (told : List Told) (t : Told) (were : (c : PacketCame p given told) → IsTakenOrCrowded p window given told c) where
   -- what came before one call more was judged, and so is what came by it
-  judged_more : ((c : PacketCame p given (told ++ t ∷ [])) → c.before ≡ told → c.call ≡ t → IsTakenOrCrowded p given (told ++ t ∷ []) c) → (c : PacketCame p given (told ++ t ∷ [])) → IsTakenOrCrowded p given (told ++ t ∷ []) c
+  judged_more : ((c : PacketCame p given (told ++ t ∷ [])) → c.before ≡ told → c.call ≡ t → IsTakenOrCrowded p window given (told ++ t ∷ []) c) → (c : PacketCame p given (told ++ t ∷ [])) → IsTakenOrCrowded p window given (told ++ t ∷ []) c
   judged_more now c = go (last_or_before told c.before c.behind t c.call c.split)
     where
-      go : ((c.before ≡ told) × (c.call ≡ t)) ⊎ ((rest : List Told) × (told ≡ c.before ++ c.call ∷ rest)) → IsTakenOrCrowded p given (told ++ t ∷ []) c
+      go : ((c.before ≡ told) × (c.call ≡ t)) ⊎ ((rest : List Told) × (told ≡ c.before ++ c.call ∷ rest)) → IsTakenOrCrowded p window given (told ++ t ∷ []) c
       go (inl same) = now c same.0 same.1
       go (inr old) = still (were then)
         where
           then : PacketCame p given told
           then = record { before = c.before; call = c.call; behind = old.0; split = old.1; was_open = c.was_open; datagram = c.datagram; handed_in = c.handed_in; opening = c.opening; opened = c.opened; new = c.new }
 
-          still : IsTakenOrCrowded p given told then → IsTakenOrCrowded p given (told ++ t ∷ []) c
+          still : IsTakenOrCrowded p window given told then → IsTakenOrCrowded p window given (told ++ t ∷ []) c
           still (inl whole) = inl whole
           still (inr many) = inr (many.0, record { front = many.1.front; frame = many.1.frame; rest = many.1.rest; frames = many.1.frames; many = many.1.many })
 
   -- nothing comes by a call that hands nothing in
-  judged_quiet : handed given t.call t.answer ≡ None → (c : PacketCame p given (told ++ t ∷ [])) → IsTakenOrCrowded p given (told ++ t ∷ []) c
+  judged_quiet : handed given t.call t.answer ≡ None → (c : PacketCame p given (told ++ t ∷ [])) → IsTakenOrCrowded p window given (told ++ t ∷ []) c
   judged_quiet none = judged_more (λ c same is. absurd (clash c is))
     where
       clash : (c : PacketCame p given (told ++ t ∷ [])) → c.call ≡ t → ⊥
@@ -127,13 +127,14 @@ module _ (B : Way) (rests : RestsOn B) (x y : Party) (delivery : Delivery) (a : 
 
   -- a packet that was refused came to too many pieces
   many_came : (s : Sent) → In s y.sents → (n : IsNew x y delivery a s) → x.end.closing.state ≡ states.Open → (arrived x.end delivery.now s.number s.frames).fault ≡ Some too_many_pieces
-      → (h : PacketCame x.policy y.final (x.told ++ t ∷ [])) → h.before ≡ x.told → h.call ≡ t → a ≡ answers.Deliver (Closed (error_of too_many_pieces)) → IsTakenOrCrowded x.policy y.final (x.told ++ t ∷ []) h
+      → (h : PacketCame x.policy y.final (x.told ++ t ∷ [])) → h.before ≡ x.told → h.call ≡ t → a ≡ answers.Deliver (Closed (error_of too_many_pieces)) → IsTakenOrCrowded x.policy (window_of x) y.final (x.told ++ t ∷ []) h
   many_came s among new still_open many h same call answer =
       let e : End = begun x.end delivery.now s.number in
       let reads = rests.reads y x c.takes in
-      let crowd : IsCrowdedBy x.told (came_to x y).took s.number s.frames =
-      crowded x.side (wrote y.told) x.told (came_to x y).took s.number s.frames e (rests.says y x c.takes s among) reads.reads reads.brought ((rests.pieces y x c.takes).come still_open) (up_to s.frames e many) in
-      inr (ap (λ (u : Told). u.answer) call ∙ answer, crowd_is x y delivery a s crowd new h same call)
+      let why = rests.pieces y x c.takes in
+      let crowd : IsCrowdedBy (window_of x) x.told (came_to x y).took s.number s.frames =
+      crowded (window_of x) x.side (wrote y.told) x.told (came_to x y).took s.number s.frames e (rests.says y x c.takes s among) reads.reads reads.brought (why.come still_open) why.window (up_to s.frames e many) in
+      inr (ap (λ (u : Told). u.answer) call ∙ answer, crowd_is x y delivery a (window_of x) s crowd new h same call)
 
   -- no rule is broken by it, nor did the peer close in it
   many_only : (f : Fault) → BreaksNone f → a ≡ answers.Deliver (Closed (error_of f)) → after.closing.reason ≡ Some (reason_of f) → f ≡ too_many_pieces
@@ -145,25 +146,25 @@ module _ (B : Way) (rests : RestsOn B) (x y : Party) (delivery : Delivery) (a : 
   delivered : Judged x y delivery a after → Blameless y (called x y.given (calls.Deliver delivery) a)
   delivered (nothing k none) = record {
     reason = subst IsBlameless (sym k.reason) b.reason;
-    judged = judged_more x.policy y.final x.told t b.judged (λ h same call. absurd (none h same call));
+    judged = judged_more x.policy (window_of x) y.final x.told t b.judged (λ h same call. absurd (none h same call));
   }
   delivered (exhausted none reason state) = record {
     reason = subst IsBlameless (sym reason) tt;
-    judged = judged_more x.policy y.final x.told t b.judged (λ h same call. absurd (none h same call));
+    judged = judged_more x.policy (window_of x) y.final x.told t b.judged (λ h same call. absurd (none h same call));
   }
   delivered (drained s among new still_open close fault answer reason state) = record {
     reason = subst IsBlameless (sym reason) tt;
-    judged = judged_more x.policy y.final x.told t b.judged (λ h same call. inl (ap (λ (u : Told). u.answer) call ∙ answer));
+    judged = judged_more x.policy (window_of x) y.final x.told t b.judged (λ h same call. inl (ap (λ (u : Told). u.answer) call ∙ answer));
   }
   delivered (taken s among new still_open none answer k) = record {
     reason = subst IsBlameless (sym k.reason) b.reason;
-    judged = judged_more x.policy y.final x.told t b.judged (λ h same call. inl (ap (λ (u : Told). u.answer) call ∙ answer));
+    judged = judged_more x.policy (window_of x) y.final x.told t b.judged (λ h same call. inl (ap (λ (u : Told). u.answer) call ∙ answer));
   }
   delivered (refused s among new still_open f fault answer reason state) =
       let only : f ≡ too_many_pieces = many_only f ((rests.passes y x c.takes).passes s among still_open delivery.now f fault) answer reason in
       record {
         reason = subst IsBlameless (sym (reason ∙ ap (λ (g : Fault). Some (reason_of g)) only)) tt;
-        judged = judged_more x.policy y.final x.told t b.judged (λ h same call.
+        judged = judged_more x.policy (window_of x) y.final x.told t b.judged (λ h same call.
             many_came s among new still_open (fault ∙ ap (λ (g : Fault). Some g) only) h same call (answer ∙ ap (λ (g : Fault). answers.Deliver (Closed (error_of g))) only));
       }
 
@@ -172,7 +173,7 @@ blameless_behind : (B : Way) (rests : RestsOn B) (x y : Party) (call : Call) (a 
 blameless_behind B rests x y (calls.Deliver delivery) a c b = delivered B rests x y delivery a c b (judged x y delivery a c.joined (meets y x (rests.packets y x c.takes)) c.served c.answer)
 blameless_behind B rests x y call a c b = record {
   reason = apart_blameless x.policy x.end y.given call a refl b.reason;
-  judged = judged_quiet x.policy y.final x.told (told_of call a x.end.closing.state) b.judged (none_handed y.final call a refl);
+  judged = judged_quiet x.policy (window_of x) y.final x.told (told_of call a x.end.closing.state) b.judged (none_handed y.final call a refl);
 }
 
 pub blameless_group : (B : Way) → RestsOn B → Group B Blameless

@@ -1,22 +1,21 @@
 -- Where a frame comes to too many pieces, more maximal runs of offsets of its stream arrived and
 -- weren't read than may wait.
-use Rattle.std.proofs.Common.{◌≡◌, ℕ, ◌<◌, ◌≤◌, ◌^◌, Bool, true, false, not, nat_lt, nat_le, List, [], ◌∷◌, ◌++◌, map, Option, Some, None, Ok, refl, sym, ap, ◌∙◌, subst, ◌⊎◌, inl, inr}
+use Rattle.std.proofs.Common.{◌≡◌, ℕ, ◌<◌, ◌≤◌, ◌^◌, Bool, true, false, not, nat_lt, nat_le, List, [], ◌∷◌, ◌++◌, map, Option, Some, None, Ok, refl, sym, ap, ◌∙◌, subst, ◌⊎◌, inl, inr, arith}
 use Rattle.std.specs.Prelude.{◌&&◌, ◌||◌, if◌then◌else◌, Result, Err}
 use Rattle.std.specs.Option.{is_some}
 use Rattle.std.specs.declared.ops.Range.{Range}
-use Rattle.std.proofs.lemmas.Bool.{ltb-true, both_ways}
+use Rattle.std.proofs.lemmas.Bool.{ltb-true, le-ltb, both_ways}
 use Rattle.quic_wire_core.specs.declared.stream_id.Side.{Side}
 use Rattle.quic_wire_core.specs.declared.stream_id.Side.TheVariants.{Client, Server}
 use Rattle.quic_wire_core.specs.StreamId.{dir_of, index_of}
 use Rattle.quic_wire_core.specs.TransportError.{ErrorValue}
 use Rattle.quic_wire.specs.Value.{FrameValue, AckValue, StreamValue, NewConnectionIdValue, ack, stream, reset_stream, new_token, handshake_done, datagram, connection_close, application_close, path_challenge, path_response, new_connection_id, retire_connection_id, AckFrequencyValue, ack_frequency}
-use Rattle.quic_assembler.specs.declared.assembler.TheConstants.{MOST_PIECES}
 use Rattle.quic_assembler.specs.Arrived.{is_given, waits, runs_of}
 use Rattle.quic_assembler.proofs.Arrived.Lawful.{given_waits_not}
 use Rattle.quic_streams_parts.specs.declared.answers.Breach.{Breach}
 use Rattle.quic_streams_parts.specs.declared.answers.Breach.TheVariants.{FlowControl, StreamLimit, StreamState, FinalSize, FrameEncoding, Pieces}
 use Rattle.quic_streams_parts.specs.Dirs.{is_own, is_two_way}
-use Rattle.quic_streams_parts.specs.RecvHalf.{RecvHalf, end_of, breaks_final, after_frame, has_too_many}
+use Rattle.quic_streams_parts.specs.RecvHalf.{RecvHalf, end_of, breaks_final, after_frame, most_pieces, has_too_many}
 use Rattle.quic_ids.specs.CidState.{retirement_answer}
 use Rattle.quic_ids.specs.CidQueue.{insert_answer}
 use Rattle.quic_ids.specs.declared.cid_queue.InsertError.{InsertError}
@@ -46,7 +45,7 @@ use Rattle.quic_machine.specs.FrameCases.{passed, ack_taken, frames_leave}
 use Rattle.quic_messages.specs.Messages.{received_answer}
 use Rattle.quic_messages.specs.declared.errors.ReceivedError.{ReceivedError}
 use Rattle.quic_headline.specs.Runs.{Told, Packet, In, reads, offsets_of, WasTaken, HasArrived}
-use Rattle.quic_headline.specs.Causes.{HasMoreRuns, IsUnread}
+use Rattle.quic_headline.specs.Causes.{HasMoreRuns, IsUnread, most_runs}
 use Rattle.quic_headline.proofs.Places.Told.{in_left, in_append, in_last}
 use Rattle.quic_headline.proofs.Places.Order.{given_in, in_given}
 use Rattle.quic_headline.proofs.Halves.Ghosts.{read, SaysOf}
@@ -55,6 +54,7 @@ use Rattle.quic_headline.proofs.Halves.Bringing.{frames_read, Brought, frames_br
 use Rattle.quic_headline.proofs.Halves.ReadGroup.{WasIn}
 use Rattle.quic_headline.proofs.Causes.Come.{IsIdle, IsComeHalf, HasCome, come_frame, come_kept, come_at, come_wider, come_stream, come_reset_frame}
 use Rattle.quic_headline.proofs.Causes.Runs.{more_runs}
+use Rattle.quic_headline.proofs.Causes.Window.{HasWindow, frames_window}
 
 -- ---- the rule of pieces is broken by STREAM frames alone
 
@@ -209,19 +209,20 @@ up_to (f ∷ fs) e is = go (take_frame f e).fault refl is (λ j. up_to fs (take_
 
 -- ---- the half of its stream, once the frame is kept
 
--- A half that is in use, and on which too many pieces wait: neither stopped nor reset.
-record IsCrowdedHalf (id : ℕ) (s : StreamsState) : Type 0 where
+-- A half that is in use, and on which more pieces wait than may of such a window: neither stopped
+-- nor reset.
+record IsCrowdedHalf (window id : ℕ) (s : StreamsState) : Type 0 where
   half : RecvHalf
   there : receiving_half s id ≡ Some half
-  many : has_too_many half ≡ true
+  many : has_too_many window half ≡ true
   goes : half.stopped ≡ false
   free : half.reset ≡ None
 
 -- nothing waits of one on which nothing is taken any more
-not_idle : (came : ℕ → Type 0) (h : RecvHalf) → IsComeHalf came h → has_too_many h ≡ true → IsIdle h → ⊥
-not_idle came h c many idle =
-    let none : has_too_many h ≡ false = ap (λ ps. nat_lt MOST_PIECES (runs_of ps)) (c.idle idle) in
-    both_ways (has_too_many h) none many
+not_idle : (came : ℕ → Type 0) (window : ℕ) (h : RecvHalf) → IsComeHalf came h → has_too_many window h ≡ true → IsIdle h → ⊥
+not_idle came window h c many idle =
+    let none : has_too_many window h ≡ false = ap (λ ps. nat_lt (most_pieces window) (runs_of ps)) (c.idle idle) ∙ le-ltb (most_pieces window) 0 (omega arith) in
+    both_ways (has_too_many window h) none many
 
 module _ (s : StreamsState) (p : Retransmits) (f : StreamValue) (breach : stream_breach s f ≡ Some Pieces) where
   -- no other rule was broken
@@ -233,17 +234,20 @@ module _ (s : StreamsState) (p : Retransmits) (f : StreamValue) (breach : stream
       go None here is = here
 
   -- so it is kept, and brings its part to too many
-  at_part : too_many_at (part_for s f.id) f ≡ Some Pieces
+  at_part : too_many_at s.receiving.stream_window (part_for s f.id) f ≡ Some Pieces
   at_part = subst (λ (o : Option Breach). breach_kept o s f ≡ Some Pieces) allowed breach
 
-  crowded_half : (came more : ℕ → ℕ → Type 0) → ((id o : ℕ) → came id o → more id o) → ((o : ℕ) → f.offset ≤ o → o < end_of f → more f.id o) → HasCome came s → IsCrowdedHalf f.id (after_stream s p f).state
-  crowded_half came more wider brings i = stream_cases s p f (IsCrowdedHalf f.id) refused ended takes
+  crowded_half : (came more : ℕ → ℕ → Type 0) → ((id o : ℕ) → came id o → more id o) → ((o : ℕ) → f.offset ≤ o → o < end_of f → more f.id o) → HasCome came s → IsCrowdedHalf s.receiving.stream_window f.id (after_stream s p f).state
+  crowded_half came more wider brings i = stream_cases s p f (IsCrowdedHalf window f.id) refused ended takes
     where
-      refused : (b : Breach) → refusal s f.id (end_of f) f.fin ≡ Some b → IsCrowdedHalf f.id s
+      window : ℕ
+      window = s.receiving.stream_window
+
+      refused : (b : Breach) → refusal s f.id (end_of f) f.fin ≡ Some b → IsCrowdedHalf window f.id s
       refused b is = let clash : None ≡ Some b = sym allowed ∙ is in cc
 
-      ended : receiving_refusal s f.id ≡ None → part_for s f.id ≡ None → IsCrowdedHalf f.id s
-      ended within none = let clash : None ≡ Some Pieces = sym (ap (λ (o : Option RecvHalf). too_many_at o f) none) ∙ at_part in cc
+      ended : receiving_refusal s f.id ≡ None → part_for s f.id ≡ None → IsCrowdedHalf window f.id s
+      ended within none = let clash : None ≡ Some Pieces = sym (ap (λ (o : Option RecvHalf). too_many_at window o f) none) ∙ at_part in cc
 
       too_many : (b : Bool) → (if b then Some Pieces else None) ≡ Some Pieces → b ≡ true
       too_many true is = refl
@@ -257,14 +261,14 @@ module _ (s : StreamsState) (p : Retransmits) (f : StreamValue) (breach : stream
       unset (Some code) never = absurd (never refl)
       unset None never = refl
 
-      takes : (h : RecvHalf) → beyond s f.id ≡ None → part_for s f.id ≡ Some h → Unbroken s.receiving h (end_of f) f.fin → IsCrowdedHalf f.id (renewed s f.id h (after_frame h f) true)
-      takes h within part u = record { half = new; there = there; many = many; goes = goes; free = unset new.reset (λ set. not_idle (more f.id) new now many (inr set)) }
+      takes : (h : RecvHalf) → beyond s f.id ≡ None → part_for s f.id ≡ Some h → Unbroken s.receiving h (end_of f) f.fin → IsCrowdedHalf window f.id (renewed s f.id h (after_frame h f) true)
+      takes h within part u = record { half = new; there = there; many = many; goes = goes; free = unset new.reset (λ set. not_idle (more f.id) window new now many (inr set)) }
         where
           new : RecvHalf
           new = after_frame h f
 
-          many : has_too_many (after_frame h f) ≡ true
-          many = too_many (has_too_many (after_frame h f)) (sym (ap (λ (o : Option RecvHalf). too_many_at o f) part) ∙ at_part)
+          many : has_too_many window (after_frame h f) ≡ true
+          many = too_many (has_too_many window (after_frame h f)) (sym (ap (λ (o : Option RecvHalf). too_many_at window o f) part) ∙ at_part)
 
           before : IsComeHalf (came f.id) h
           before = come_at came (opened_by s f.id) f.id h part (by_opened (HasCome came) (come_kept came) s f.id within i)
@@ -273,7 +277,7 @@ module _ (s : StreamsState) (p : Retransmits) (f : StreamValue) (breach : stream
           now = come_frame (came f.id) (more f.id) s.receiving h f (wider f.id) brings u before
 
           goes : (after_frame h f).stopped ≡ false
-          goes = off (after_frame h f).stopped (λ on. not_idle (more f.id) (after_frame h f) now many (inl on))
+          goes = off (after_frame h f).stopped (λ on. not_idle (more f.id) window (after_frame h f) now many (inl on))
 
           here : receiving_half (with_recv (opened_by s f.id) f.id (after_frame h f)) f.id ≡ Some (after_frame h f)
           here = live_receives (with_recv (opened_by s f.id) f.id (after_frame h f)) f.id (after_frame h f) (at-half (opened_by s f.id).side (opened_by s f.id).receiving.halves f.id (after_frame h f))
@@ -324,15 +328,16 @@ came_now p took f i o from below = record { frame = f; taken = record { packet =
 
 -- with its frames up to that one, more runs of its stream had arrived and not been read than may
 -- wait
-pub record IsCrowdedBy (told : List Told) (took : List Packet) (n : ℕ) (frames : List FrameValue) : Type 0 where
+pub record IsCrowdedBy (window : ℕ) (told : List Told) (took : List Packet) (n : ℕ) (frames : List FrameValue) : Type 0 where
   pub front : List FrameValue
   pub frame : StreamValue
   pub rest : List FrameValue
   pub split : frames ≡ front ++ stream frame ∷ rest
-  pub many : HasMoreRuns (IsUnread (record { number = n; frames = front ++ stream frame ∷ [] } ∷ took) told frame.id) MOST_PIECES
+  pub many : HasMoreRuns (IsUnread (record { number = n; frames = front ++ stream frame ∷ [] } ∷ took) told frame.id) (most_runs window)
 
-module _ (side : Side) (done : ℕ → Wrote) (told : List Told) (took : List Packet) (n : ℕ) (frames : List FrameValue) (e : End) (says : (f : FrameValue) → In f frames → SaysOf done f)
-    (reads_are : HoldsRead done (read told) e.streams) (brought : Brought side (WasIn took) e.streams) (come : HasCome (λ id o. HasArrived took id o) e.streams) (w : UpTo frames e) where
+module _ (window : ℕ) (side : Side) (done : ℕ → Wrote) (told : List Told) (took : List Packet) (n : ℕ) (frames : List FrameValue) (e : End) (says : (f : FrameValue) → In f frames → SaysOf done f)
+    (reads_are : HoldsRead done (read told) e.streams) (brought : Brought side (WasIn took) e.streams) (come : HasCome (λ id o. HasArrived took id o) e.streams)
+    (sized : HasWindow window e.streams) (w : UpTo frames e) where
   -- the packet up to its frame
   abbrev part : Packet
   part = record { number = n; frames = w.front ++ stream w.frame ∷ [] }
@@ -388,14 +393,14 @@ module _ (side : Side) (done : ℕ → Wrote) (told : List Told) (took : List Pa
       ]
 
   -- the half of the frame's stream
-  crowd : IsCrowdedHalf w.frame.id after
-  crowd = crowded_half x.streams x.waiting.frames w.frame w.breach (λ id o. HasArrived packets id o) (λ id o. HasArrived packets id o) (λ id o a. a) (came_now part took w.frame (in_last (stream w.frame) w.front)) come_there
+  crowd : IsCrowdedHalf window w.frame.id after
+  crowd = subst (λ (n : ℕ). IsCrowdedHalf n w.frame.id after) (frames_window window w.front e sized) (crowded_half x.streams x.waiting.frames w.frame w.breach (λ id o. HasArrived packets id o) (λ id o. HasArrived packets id o) (λ id o a. a) (came_now part took w.frame (in_last (stream w.frame) w.front)) come_there)
 
-  pub crowded : IsCrowdedBy told took n frames
+  pub crowded : IsCrowdedBy window told took n frames
   crowded = record { front = w.front; frame = w.frame; rest = w.rest; split = w.split; many = at_half crowd }
     where
-      at_half : IsCrowdedHalf w.frame.id after → HasMoreRuns (IsUnread packets told w.frame.id) MOST_PIECES
-      at_half c = more_runs (IsUnread packets told w.frame.id) c.half.arrived.read c.half.arrived.parts MOST_PIECES came.lawful.apart in_set waiting (ltb-true MOST_PIECES (runs_of c.half.arrived.parts) c.many)
+      at_half : IsCrowdedHalf window w.frame.id after → HasMoreRuns (IsUnread packets told w.frame.id) (most_runs window)
+      at_half c = more_runs (IsUnread packets told w.frame.id) c.half.arrived.read c.half.arrived.parts (most_runs window) came.lawful.apart in_set waiting (ltb-true (most_runs window) (runs_of c.half.arrived.parts) c.many)
         where
           came : IsComeHalf (λ o. HasArrived packets w.frame.id o) c.half
           came = come_at (λ id o. HasArrived packets id o) after w.frame.id c.half c.there come_after

@@ -40,7 +40,7 @@ use Rattle.quic_machine.specs.Heard.{Heard}
 use Rattle.quic_machine.specs.Validation.{is_blocked, with_blocked}
 use Rattle.quic_machine.specs.End.{End, with_closing, with_numbers, with_window, closed_by}
 use Rattle.quic_machine.specs.Opens.{own_id_length, in_phase, opens_behind}
-use Rattle.quic_machine.specs.Receive.{Fault, broke, too_many_pieces, closed_by_peer, reason_of, violation, is_empty, asks_in, take_frame, take_items, take_payload, dropped, ends_as, by_state, opened_to, opened_as, opening, headed, Outcome, received_in, received, is_read, drawn_if, unopened_in}
+use Rattle.quic_machine.specs.Receive.{Fault, broke, too_many_pieces, closed_by_peer, reason_of, violation, is_empty, asks_in, is_urged, take_frame, take_items, take_payload, dropped, ends_as, by_state, opened_to, opened_as, opening, headed, Outcome, received_in, received, is_read, drawn_if, unopened_in}
 use Rattle.quic_machine.specs.Poll.{Polled, may_seal, polled}
 use Rattle.quic_machine.specs.Timeouts.{loss_judged, timed_out, timed_out_in}
 use Rattle.quic_machine.specs.Machine.{World, Policies, IsStep, IsAnswer, IsDelivered, IsLeft, Follows, policy_at, end_at, view_of, end_left, after_call, after_delivered, reads_window, says_last, gave, fails}
@@ -98,11 +98,11 @@ module _ (e : End) (now : ℕ) where
       go true = i
       go false = items_keep Timely frame_timely is x i
 
-  ends_timely : (fault : Option Fault) (asking : Bool) (n : ℕ) (mark : Option EcnCodepoint) (x : End) → Timely x → Timely (ends_as fault asking n mark x).end
-  ends_timely None asking n mark x i = by_taken Timely n asking mark x (λ idle alive. i)
-  ends_timely (Some (closed_by_peer close)) asking n mark x i = i
-  ends_timely (Some (broke error)) asking n mark x i = i
-  ends_timely (Some too_many_pieces) asking n mark x i = i
+  ends_timely : (fault : Option Fault) (asking urged : Bool) (n : ℕ) (mark : Option EcnCodepoint) (x : End) → Timely x → Timely (ends_as fault asking urged n mark x).end
+  ends_timely None asking urged n mark x i = by_taken Timely n asking urged mark x (λ idle alive. i)
+  ends_timely (Some (closed_by_peer close)) asking urged n mark x i = i
+  ends_timely (Some (broke error)) asking urged n mark x i = i
+  ends_timely (Some too_many_pieces) asking urged n mark x i = i
 
   same_time : e.closing.clock ≤ max e.closing.clock now
   same_time = omega arith
@@ -111,7 +111,7 @@ module _ (e : End) (now : ℕ) where
   state_timely states.Open o arrival is =
       let begins : End = with_closing (with_numbers e (number_opened e.numbers o.number)) (ticked e.closing arrival.now) in
       let taken = take_payload o.first (items o.payload) begins in
-      ends_timely taken.fault (asks_in (items o.payload)) o.number arrival.mark taken.end (payload_timely o.first (items o.payload) begins (here arrival.now is))
+      ends_timely taken.fault (asks_in (items o.payload)) (is_urged arrival.mark (items o.payload) begins) o.number arrival.mark taken.end (payload_timely o.first (items o.payload) begins (here arrival.now is))
     where
       here : (n : ℕ) → n ≡ now → max e.closing.clock n ≤ max e.closing.clock now
       here n same = omega arith

@@ -52,8 +52,8 @@ packet_more p given told t c = record {
   new = c.new;
 }
 
-pub crowd_more : (p : Policy) (given : List (List ℕ)) (told : List Told) (t : Told) → CrowdCame p given told → CrowdCame p given (told ++ t ∷ [])
-crowd_more p given told t m = record {
+pub crowd_more : (p : Policy) (window : ℕ) (given : List (List ℕ)) (told : List Told) (t : Told) → CrowdCame p window given told → CrowdCame p window given (told ++ t ∷ [])
+crowd_more p window given told t m = record {
   packet = packet_more p given told t m.packet;
   crowded = record { front = m.crowded.front; frame = m.crowded.frame; rest = m.crowded.rest; frames = m.crowded.frames; many = m.crowded.many };
 }
@@ -97,8 +97,8 @@ module _ (x y : Party) (delivery : Delivery) (a : Answer) where
         → after.closing.reason ≡ Some (reason_of f) → after.closing.state ≡ states.Closing → Judged after
 
   -- where the packet is crowded, it is so by what the lists say
-  pub crowd_is : (s : Sent) → IsCrowdedBy x.told (came_to x y).took s.number s.frames → (n : IsNew s) → (h : CameThen) → h.before ≡ x.told → h.call ≡ now_told → IsCrowded x.policy y.final then h most_runs
-  crowd_is s c n h same call = record {
+  pub crowd_is : (window : ℕ) (s : Sent) → IsCrowdedBy window x.told (came_to x y).took s.number s.frames → (n : IsNew s) → (h : CameThen) → h.before ≡ x.told → h.call ≡ now_told → IsCrowded x.policy y.final then h (most_runs window)
+  crowd_is window s c n h same call = record {
     front = c.front;
     frame = c.frame;
     rest = c.rest;
@@ -132,8 +132,8 @@ module _ (x y : Party) (delivery : Delivery) (a : Answer) where
       met_refused : x.end.closing.state ≡ states.Open → is_again n i.opened ≡ false → (f : Fault) → (arrived x.end now n frames).fault ≡ Some f → o.answer ≡ Closed (error_of f) → o.end.closing.reason ≡ Some (reason_of f) → o.end.closing.state ≡ states.Closing
           → j ≡ with_refused i n frames → Met o j
 
-    keeps_taken : (words : ℕ → ℕ) (codepoint : Option EcnCodepoint) → Keeps x.end (drawn words (after_taken n (asks_in (map Ok frames)) codepoint (arrived x.end now n frames).end))
-    keeps_taken words codepoint =
+    keeps_taken : (words : ℕ → ℕ) (urged : Bool) (codepoint : Option EcnCodepoint) → Keeps x.end (drawn words (after_taken n (asks_in (map Ok frames)) urged codepoint (arrived x.end now n frames).end))
+    keeps_taken words urged codepoint =
         let k = keeps_frames frames (begun x.end now n) in
         record { reason = ap (λ (c : Closing). c.reason) k.closing; state = ap (λ (c : Closing). c.state) k.closing }
 
@@ -141,7 +141,7 @@ module _ (x y : Party) (delivery : Delivery) (a : Answer) where
     cases = record {
       ignored = λ reason. met_nothing (record { reason = refl; state = refl }) (λ still. refl);
       noted = λ state reason. met_nothing (record { reason = refl; state = refl }) (λ still. refl);
-      takes = λ words still_open new none mark. met_taken still_open new none refl (keeps_taken words mark) refl;
+      takes = λ words still_open new none urged mark. met_taken still_open new none refl (keeps_taken words urged mark) refl;
       drains = λ words still_open new close fault. met_drained still_open new close fault refl refl refl refl;
       exhausts = λ still_open. met_last still_open refl refl refl;
       refuses = λ words still_open new f fault. met_refused still_open new f fault refl refl refl refl;

@@ -292,7 +292,7 @@ covered_arrivals : (e : End) (now n : ℕ) (frames : List FrameValue) (i : Intak
 covered_arrivals e now n frames i k covered = record {
   ignored = λ reason. covered;
   noted = λ here reason closing. covered here;
-  takes = λ words here new none mark closing. absurd (open_closing e.closing.state here (sym (ap (λ (c : Closing). c.state) left.closing) ∙ closing));
+  takes = λ words here new none urged mark closing. absurd (open_closing e.closing.state here (sym (ap (λ (c : Closing). c.state) left.closing) ∙ closing));
   drains = λ words here new close is closing. absurd (drained_closing states.Drained refl closing);
   refuses = λ words here new f is closing. (let knows = (known here).named in let more = frames_rise (cut_against e.numbers) frames (begun e now n) (omega arith) in omega arith);
   exhausts = λ here closing. (let knows = (known here).named in omega arith);

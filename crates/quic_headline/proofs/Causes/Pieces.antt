@@ -18,11 +18,11 @@ use Rattle.quic_machine.specs.End.{End}
 use Rattle.quic_machine.specs.Receive.{Fault, broke, too_many_pieces, reason_of, Outcome, closed_by_peer}
 use Rattle.quic_machine.specs.Machine.{World, policy_at, after_call}
 use Rattle.quic_machine.specs.CallCases.{is_delivery}
-use Rattle.quic_machine.specs.FrameCases.{begun}
+use Rattle.quic_machine.specs.FrameCases.{begun, passed}
 use Rattle.quic_machine.specs.Poll.{rests}
 use Rattle.quic_headline.specs.Runs.{Run, Packet, Intake, given_of, until, AreServed, HasArrived}
 use Rattle.quic_headline.specs.Headline.{IsHonest, IsRun}
-use Rattle.quic_headline.specs.Causes.{CrowdCame, TooManyPieces}
+use Rattle.quic_headline.specs.Causes.{stream_window_at, CrowdCame, TooManyPieces}
 use Rattle.quic_headline.proofs.Packets.Delivered.{Arrivals, arrived, with_taken}
 use Rattle.quic_headline.proofs.Packets.Group.{PacketsHold, meets}
 use Rattle.quic_headline.proofs.Places.Parties.{told_of, Party, called, came_to, Beginning, begun_as}
@@ -35,20 +35,27 @@ use Rattle.quic_headline.proofs.Halves.Ready.{Ready}
 use Rattle.quic_headline.proofs.Halves.Wrote.{wrote}
 use Rattle.quic_headline.proofs.Halves.Ghosts.{Saying}
 use Rattle.quic_headline.proofs.Halves.QuietSteps.{sent_within}
-use Rattle.quic_headline.proofs.Halves.ReadCalls.{call_kept}
+use Rattle.quic_headline.proofs.Halves.ReadCalls.{any_kept, call_kept}
 use Rattle.quic_headline.proofs.Halves.ReadGroup.{ReadsHold}
 use Rattle.quic_headline.proofs.Causes.Come.{HasCome, come_kept, come_wider, come_kept_calls, come_first}
 use Rattle.quic_headline.proofs.Causes.Crowded.{IsCrowdedBy, crowded, up_to, frames_come, came_before, came_now}
 use Rattle.quic_headline.proofs.Causes.Judged.{Judged, nothing, exhausted, drained, taken, refused, judged, crowd_more, crowd_is}
+use Rattle.quic_headline.proofs.Causes.Window.{HasWindow, window_stays, frames_window}
 use Rattle.quic_headline.proofs.Causes.Shown.{reason_shown, call_closes, IsUnread}
 
 -- what these packets brought
 abbrev pub came_in : List Packet → ℕ → ℕ → Type 0
 came_in packets id o = HasArrived packets id o
 
--- y takes from x: why it closed for too many pieces, and while it is open, what waits there came
+-- the receive window of the streams of an end, as it was made
+abbrev pub window_of : Party → ℕ
+window_of x = x.made.streams.receiving.stream_window
+
+-- y takes from x: why it closed for too many pieces, its streams have the receive window with which
+-- it was made, and while it is open, what waits there came
 pub record WhyPieces (x y : Party) : Type 0 where
-  pub pieces : y.end.closing.reason ≡ Some reasons.Pieces → CrowdCame y.policy x.final y.told
+  pub pieces : y.end.closing.reason ≡ Some reasons.Pieces → CrowdCame y.policy (window_of y) x.final y.told
+  pub window : HasWindow (window_of y) y.end.streams
   pub come : y.end.closing.state ≡ states.Open → HasCome (came_in (came_to y x).took) y.end.streams
 
 -- What that rests on.
@@ -66,7 +73,7 @@ come_arrivals : (e : End) (now n : ℕ) (frames : List FrameValue) (i : Intake) 
 come_arrivals e now n frames i come = record {
   ignored = λ reason. come;
   noted = λ state reason still. (let clash : states.Closing ≡ states.Open = sym state ∙ still in cc);
-  takes = λ words still_open new none mark still.
+  takes = λ words still_open new none urged mark still.
       frames_come (came_in (with_taken i n frames).took) frames (begun e now n) (λ f j. came_now p i.took f j) (come_wider (came_in i.took) (came_in (with_taken i n frames).took) e.streams (came_before p i.took) (come still_open));
   drains = λ words still_open new close is still. cc;
   refuses = λ words still_open new f is still. cc;
@@ -75,6 +82,20 @@ come_arrivals e now n frames i come = record {
   where
     p : Packet
     p = record { number = n; frames = frames }
+
+-- so the window stays
+window_arrivals : (window : ℕ) (e : End) (now n : ℕ) (frames : List FrameValue) (i : Intake) → HasWindow window e.streams → Arrivals e now n frames i (λ (o : Outcome) (j : Intake). HasWindow window o.end.streams)
+window_arrivals window e now n frames i was = record {
+  ignored = λ reason. was;
+  noted = λ state reason. was;
+  takes = λ words still_open new none urged mark. after;
+  drains = λ words still_open new close is. after;
+  refuses = λ words still_open new f is. after;
+  exhausts = λ still_open. was;
+}
+  where
+    after : HasWindow window (passed frames (begun e now n)).end.streams
+    after = frames_window window frames (begun e now n) was
 
 -- a fault whose reason is pieces
 fault_is : (f : Fault) → Some (reason_of f) ≡ Some reasons.Pieces → f ≡ too_many_pieces
@@ -100,16 +121,25 @@ module _ (B : Way) (rests : RestsOn B) (x y : Party) (call : Call) (a : Answer) 
         | inr shut ↦ absurd (shut.shut still)
       ]
 
+  -- the window at x is as it was
+  window_behind : HasWindow (window_of x) (called x y.given call a).end.streams
+  window_behind = by_coming x y a c.joined c.served (meets y x (rests.packets y x c.takes)) (λ (e : End) (i : Intake). HasWindow (window_of x) e.streams) call c.answer (record {
+    apart = λ apart. call_kept (HasWindow (window_of x)) (any_kept (HasWindow (window_of x)) (window_stays (window_of x))) x.policy x.end y.given (sent_within (wrote x.told) x.end.streams (rests.written x y c.gives)) p.window call a c.answer apart
+        (λ dir same. by_accept (HasWindow (window_of x)) (window_stays (window_of x)) dir x.end.streams (λ may. tt) p.window);
+    none = λ delivery is. p.window;
+    comes = λ delivery is s among. window_arrivals (window_of x) x.end delivery.now s.number s.frames (came_to x y) p.window;
+  })
+
   -- a crowd that came before came still
-  crowd_before : x.end.closing.reason ≡ Some reasons.Pieces → CrowdCame x.policy y.final (x.told ++ told_of call a x.end.closing.state ∷ [])
-  crowd_before is = crowd_more x.policy y.final x.told (told_of call a x.end.closing.state) (p.pieces is)
+  crowd_before : x.end.closing.reason ≡ Some reasons.Pieces → CrowdCame x.policy (window_of x) y.final (x.told ++ told_of call a x.end.closing.state ∷ [])
+  crowd_before is = crowd_more x.policy (window_of x) y.final x.told (told_of call a x.end.closing.state) (p.pieces is)
 
 -- a delivery at which an end closes for too many pieces
 crowd_now : (B : Way) (rests : RestsOn B) (x y : Party) (delivery : Delivery) (a : Answer) (c : Calls B x y (calls.Deliver delivery) a) (p : WhyPieces y x) → (called x y.given (calls.Deliver delivery) a).end.closing.reason ≡ Some reasons.Pieces
-    → CrowdCame x.policy y.final (x.told ++ told_of (calls.Deliver delivery) a x.end.closing.state ∷ [])
+    → CrowdCame x.policy (window_of x) y.final (x.told ++ told_of (calls.Deliver delivery) a x.end.closing.state ∷ [])
 crowd_now B rests x y delivery a c p is = go (judged x y delivery a c.joined (meets y x (rests.packets y x c.takes)) c.served c.answer)
   where
-    go : Judged x y delivery a (after_call x.policy x.end y.given (calls.Deliver delivery) a) → CrowdCame x.policy y.final (x.told ++ told_of (calls.Deliver delivery) a x.end.closing.state ∷ [])
+    go : Judged x y delivery a (after_call x.policy x.end y.given (calls.Deliver delivery) a) → CrowdCame x.policy (window_of x) y.final (x.told ++ told_of (calls.Deliver delivery) a x.end.closing.state ∷ [])
     go (nothing k none) = crowd_before B rests x y (calls.Deliver delivery) a c p (sym k.reason ∙ is)
     go (taken s among new still_open none answer k) = crowd_before B rests x y (calls.Deliver delivery) a c p (sym k.reason ∙ is)
     go (exhausted none reason state) = let clash : ◌≡◌ {A = Option LostReason} (Some reasons.KeyLimit) (Some reasons.Pieces) = sym reason ∙ is in cc
@@ -118,13 +148,13 @@ crowd_now B rests x y delivery a c p is = go (judged x y delivery a c.joined (me
         let too_many : (arrived x.end delivery.now s.number s.frames).fault ≡ Some too_many_pieces = fault ∙ ap (λ (g : Fault). Some g) (fault_is f (sym reason ∙ is)) in
         let e : End = begun x.end delivery.now s.number in
         let held = rests.reads y x c.takes in
-        let crowd : IsCrowdedBy x.told (came_to x y).took s.number s.frames =
-        crowded x.side (wrote y.told) x.told (came_to x y).took s.number s.frames e (rests.says y x c.takes s among) held.reads held.brought (p.come still_open) (up_to s.frames e too_many) in
-        record { packet = new.packet; crowded = crowd_is x y delivery a s crowd new new.packet new.before new.call }
+        let crowd : IsCrowdedBy (window_of x) x.told (came_to x y).took s.number s.frames =
+        crowded (window_of x) x.side (wrote y.told) x.told (came_to x y).took s.number s.frames e (rests.says y x c.takes s among) held.reads held.brought (p.come still_open) p.window (up_to s.frames e too_many) in
+        record { packet = new.packet; crowded = crowd_is x y delivery a (window_of x) s crowd new new.packet new.before new.call }
 
 -- any call
 pieces_behind : (B : Way) (rests : RestsOn B) (x y : Party) (call : Call) (a : Answer) (c : Calls B x y call a) (p : WhyPieces y x) → (called x y.given call a).end.closing.reason ≡ Some reasons.Pieces
-    → CrowdCame x.policy y.final (x.told ++ told_of call a x.end.closing.state ∷ [])
+    → CrowdCame x.policy (window_of x) y.final (x.told ++ told_of call a x.end.closing.state ∷ [])
 pieces_behind B rests x y (calls.Deliver delivery) a c p is = crowd_now B rests x y delivery a c p is
 pieces_behind B rests x y call a c p is = elim (call_closes x.policy x.end y.given call a refl) [
   | inl k ↦ crowd_before B rests x y call a c p (sym k.reason ∙ is)
@@ -136,10 +166,10 @@ pieces_behind B rests x y call a c p is = elim (call_closes x.policy x.end y.giv
 
 pub pieces_group : (B : Way) → RestsOn B → Group B WhyPieces
 pieces_group B rests = record {
-  first = λ x y m there here. record { pieces = λ is. cc; come = λ still. begins x y };
-  writer = λ x y call a c p back. record { pieces = p.pieces; come = p.come };
-  reader = λ x y call a c there p. record { pieces = pieces_behind B rests x y call a c p; come = come_behind B rests x y call a c p };
-  shows = λ x y here there b back p q. record { pieces = p.pieces; come = p.come };
+  first = λ x y m there here. record { pieces = λ is. cc; window = refl; come = λ still. begins x y };
+  writer = λ x y call a c p back. record { pieces = p.pieces; window = p.window; come = p.come };
+  reader = λ x y call a c there p. record { pieces = pieces_behind B rests x y call a c p; window = window_behind B rests x y call a c p; come = come_behind B rests x y call a c p };
+  shows = λ x y here there b back p q. record { pieces = p.pieces; window = p.window; come = p.come };
 }
   where
     begins : (x y : Beginning) → HasCome (came_in []) (begun_as y x).end.streams
@@ -150,7 +180,7 @@ pieces_group B rests = record {
 module _ (G : Way) (why : (x y : Party) → G x y → WhyPieces x y) (r : Run) (end : World) (honest : IsHonest r) (all : (side : Side) (i : ℕ) → AreServed r i → Placed G r end side i) where
   pub too_many_at : TooManyPieces r
   too_many_at side place shows =
-      subst (λ (n : ℕ). CrowdCame (policy_at side r.keys) (given_of r (other_side side)) (until r side n)) (sym next)
+      subst (λ (n : ℕ). CrowdCame (policy_at side r.keys) (stream_window_at r side) (given_of r (other_side side)) (until r side n)) (sym next)
       ((why y x p.takes).pieces (reason_shown G r end side place (Some reasons.Pieces) shows p))
     where
       next : place + 1 ≡ suc place

@@ -55,7 +55,7 @@ receives = record {
   notes = λ n e i. i;
   begins = λ now n e i. i;
   frame = frame_keeps IsExplained (record { ack = λ rises a e i. acked_keeps IsExplained settling rises a (named a e) i; on_streams = λ f e on i. frame_leaves IsExplained f e on (λ t. i); apart = λ f e is i. apart_leaves IsExplained f e is (λ c. i) (λ c most. i); message = λ m e i. i });
-  takes = λ n asks mark e i. by_taken IsExplained n asks mark e (λ idle alive. i);
+  takes = λ n asks urged mark e i. by_taken IsExplained n asks urged mark e (λ idle alive. i);
   closes = λ reason e i. tt;
   drains = λ close e i. tt;
   asks_close = λ e i. i;

@@ -28,7 +28,7 @@ use Rattle.quic_machine.specs.Ids.{known}
 use Rattle.quic_machine.specs.Closing.{ticked}
 use Rattle.quic_machine.specs.End.{End, with_closing, with_numbers}
 use Rattle.quic_machine.specs.Opens.{own_id_length}
-use Rattle.quic_machine.specs.Receive.{Fault, broke, too_many_pieces, closed_by_peer, Outcome, asks_in, take_payload, dropped, ends_as, by_state, is_read, drawn_if, opened_to, opened_as, opening, unopened_in, headed, received_in, received}
+use Rattle.quic_machine.specs.Receive.{Fault, broke, too_many_pieces, closed_by_peer, Outcome, asks_in, is_urged, take_payload, dropped, ends_as, by_state, is_read, drawn_if, opened_to, opened_as, opening, unopened_in, headed, received_in, received}
 use Rattle.quic_machine.specs.Machine.{IsDelivered, after_delivered, says_last}
 
 -- two deliveries that are answered alike
@@ -40,16 +40,17 @@ module _ (close : CloseValue) (error : ErrorValue) where
   abbrev NotBoth : Outcome → Type 0
   NotBoth o = o.answer ≡ Closed error → o.end.closing.reason ≡ Some (reasons.Peer close) → ⊥
 
-  ends_not : (fault : Option Fault) (asking : Bool) (n : ℕ) (mark : Option EcnCodepoint) (e : End) → NotBoth (ends_as fault asking n mark e)
-  ends_not None asking n mark e answer reason = cc
-  ends_not (Some (closed_by_peer other)) asking n mark e answer reason = cc
-  ends_not (Some (broke broken)) asking n mark e answer reason = cc
-  ends_not (Some too_many_pieces) asking n mark e answer reason = cc
+  ends_not : (fault : Option Fault) (asking urged : Bool) (n : ℕ) (mark : Option EcnCodepoint) (e : End) → NotBoth (ends_as fault asking urged n mark e)
+  ends_not None asking urged n mark e answer reason = cc
+  ends_not (Some (closed_by_peer other)) asking urged n mark e answer reason = cc
+  ends_not (Some (broke broken)) asking urged n mark e answer reason = cc
+  ends_not (Some too_many_pieces) asking urged n mark e answer reason = cc
 
   state_not : (s : State) (o : Opening) (arrival : Arrival) (e : End) → NotBoth (by_state s o arrival e)
   state_not states.Open o arrival e =
-      let taken = take_payload o.first (items o.payload) (with_closing e (ticked e.closing arrival.now)) in
-      ends_not taken.fault (asks_in (items o.payload)) o.number arrival.mark taken.end
+      let begins : End = with_closing e (ticked e.closing arrival.now) in
+      let taken = take_payload o.first (items o.payload) begins in
+      ends_not taken.fault (asks_in (items o.payload)) (is_urged arrival.mark (items o.payload) begins) o.number arrival.mark taken.end
   state_not states.Closing o arrival e = λ answer reason. cc
   state_not states.Drained o arrival e = λ answer reason. cc
   state_not states.Failed o arrival e = λ answer reason. cc

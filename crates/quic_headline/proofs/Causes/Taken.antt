@@ -28,7 +28,7 @@ use Rattle.quic_machine.specs.Ids.{known}
 use Rattle.quic_machine.specs.Policy.{Policy}
 use Rattle.quic_machine.specs.End.{End, with_closing, with_numbers}
 use Rattle.quic_machine.specs.Opens.{in_phase, opens_behind, opens}
-use Rattle.quic_machine.specs.Receive.{Fault, Outcome, broke, too_many_pieces, closed_by_peer, asks_in, take_payload, dropped, ends_as, by_state, unopened_in, opened_as, opening, headed, received_in, received}
+use Rattle.quic_machine.specs.Receive.{Fault, Outcome, broke, too_many_pieces, closed_by_peer, asks_in, is_urged, take_payload, dropped, ends_as, by_state, unopened_in, opened_as, opening, headed, received_in, received}
 use Rattle.quic_machine.specs.Machine.{World, IsAnswer, IsDelivered, fails, says_last}
 use Rattle.quic_headline.specs.Runs.{Run, Told, Intake, is_again, handed, came_open, until, state_at, AreServed}
 use Rattle.quic_headline.specs.Headline.{IsHonest, IsRun, IsAt}
@@ -86,16 +86,17 @@ module _ (p : Policy) (e : End) (arrival : Arrival) where
   taken_open states.Failed o x is = cc
 
   -- and is never dropped as a duplicate
-  ends_again : (f : Option Fault) (asking : Bool) (n : ℕ) (mark : Option EcnCodepoint) (x : End) → (ends_as f asking n mark x).answer ≡ duplicate → ⊥
-  ends_again None asking n mark x is = cc
-  ends_again (Some (closed_by_peer close)) asking n mark x is = cc
-  ends_again (Some (broke error)) asking n mark x is = cc
-  ends_again (Some too_many_pieces) asking n mark x is = cc
+  ends_again : (f : Option Fault) (asking urged : Bool) (n : ℕ) (mark : Option EcnCodepoint) (x : End) → (ends_as f asking urged n mark x).answer ≡ duplicate → ⊥
+  ends_again None asking urged n mark x is = cc
+  ends_again (Some (closed_by_peer close)) asking urged n mark x is = cc
+  ends_again (Some (broke error)) asking urged n mark x is = cc
+  ends_again (Some too_many_pieces) asking urged n mark x is = cc
 
   state_again : (s : State) (o : Opening) (x : End) → (by_state s o arrival x).answer ≡ duplicate → ⊥
   state_again states.Open o x is =
-      let taken = take_payload o.first (items o.payload) (with_closing x (ticked x.closing arrival.now)) in
-      ends_again taken.fault (asks_in (items o.payload)) o.number arrival.mark taken.end is
+      let begins : End = with_closing x (ticked x.closing arrival.now) in
+      let taken = take_payload o.first (items o.payload) begins in
+      ends_again taken.fault (asks_in (items o.payload)) (is_urged arrival.mark (items o.payload) begins) o.number arrival.mark taken.end is
   state_again states.Closing o x is = cc
   state_again states.Drained o x is = cc
   state_again states.Failed o x is = cc

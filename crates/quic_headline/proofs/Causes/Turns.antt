@@ -37,7 +37,7 @@ use Rattle.quic_machine.specs.Opens.{own_id_length, in_phase, opens_behind, woul
 use Rattle.quic_machine.specs.Calls.{is_open, closed_in}
 use Rattle.quic_machine.specs.StreamCalls.{IsRead, IsStreamAnswer}
 use Rattle.quic_machine.specs.End.{End, with_closing, with_numbers}
-use Rattle.quic_machine.specs.Receive.{Fault, broke, too_many_pieces, closed_by_peer, violation, is_empty, asks_in, take_frame, take_items, take_payload, Outcome, dropped, ends_as, by_state, opened_to, opened_as, opening, unopened_in, headed, received_in, received, is_read, drawn_if, with_ids_drawn, drop_of}
+use Rattle.quic_machine.specs.Receive.{Fault, broke, too_many_pieces, closed_by_peer, violation, is_empty, asks_in, is_urged, take_frame, take_items, take_payload, Outcome, dropped, ends_as, by_state, opened_to, opened_as, opening, unopened_in, headed, received_in, received, is_read, drawn_if, with_ids_drawn, drop_of}
 use Rattle.quic_machine.specs.Poll.{Polled, gives_datagram, datagram_of, bounds, may_seal, polled}
 use Rattle.quic_time.specs.Timers.{has_come}
 use Rattle.quic_machine.specs.Timeouts.{expiry_at, timed_out_in, timed_out}
@@ -243,17 +243,18 @@ module _ (e : End) (call : Call) where
   still : (o : Outcome) → o.end.closing ≡ e.closing → gave (answers.Deliver o.answer) ≡ false → asks_again (answers.Deliver o.answer) ≡ false → Comes o
   still o is none asks = kept (alike_by e.closing e.closing o.end.closing (same_as e.closing) is) (ap (λ (x : Closing). x.owed) is) (λ closing. (none, asks))
 
-  ends_turn : (fault : Option Fault) (asking : Bool) (n now : ℕ) (mark : Option EcnCodepoint) (x : End) → e.closing.state ≡ states.Open → x.closing ≡ ticked e.closing now → Comes (ends_as fault asking n mark x)
-  ends_turn None asking n now mark x here is =
+  ends_turn : (fault : Option Fault) (asking urged : Bool) (n now : ℕ) (mark : Option EcnCodepoint) (x : End) → e.closing.state ≡ states.Open → x.closing ≡ ticked e.closing now → Comes (ends_as fault asking urged n mark x)
+  ends_turn None asking urged n now mark x here is =
       kept (alike_by e.closing (ticked e.closing now) x.closing (later_as e.closing now) is) (ap (λ (y : Closing). y.owed) is) (λ closing. absurd (open_closing e.closing.state here closing))
-  ends_turn (Some (closed_by_peer close)) asking n now mark x here is = lapsed here refl (ap (λ (y : Closing). y.close) is)
-  ends_turn (Some (broke error)) asking n now mark x here is = shut_for e.closing x.closing call (answers.Deliver (receives.Closed error)) (reasons.Transport error) here tt refl
-  ends_turn (Some too_many_pieces) asking n now mark x here is = shut_for e.closing x.closing call _ reasons.Pieces here tt refl
+  ends_turn (Some (closed_by_peer close)) asking urged n now mark x here is = lapsed here refl (ap (λ (y : Closing). y.close) is)
+  ends_turn (Some (broke error)) asking urged n now mark x here is = shut_for e.closing x.closing call (answers.Deliver (receives.Closed error)) (reasons.Transport error) here tt refl
+  ends_turn (Some too_many_pieces) asking urged n now mark x here is = shut_for e.closing x.closing call _ reasons.Pieces here tt refl
 
   state_turns : (s : State) → e.closing.state ≡ s → (o : Opening) (arrival : Arrival) → Comes (by_state s o arrival (with_numbers e (number_opened e.numbers o.number)))
   state_turns states.Open here o arrival =
-      let taken = take_payload o.first (items o.payload) (begun e arrival.now o.number) in
-      ends_turn taken.fault (asks_in (items o.payload)) o.number arrival.now arrival.mark taken.end here (payload_has (ticked e.closing arrival.now) o.first (items o.payload) (begun e arrival.now o.number) refl)
+      let begins : End = begun e arrival.now o.number in
+      let taken = take_payload o.first (items o.payload) begins in
+      ends_turn taken.fault (asks_in (items o.payload)) (is_urged arrival.mark (items o.payload) begins) o.number arrival.now arrival.mark taken.end here (payload_has (ticked e.closing arrival.now) o.first (items o.payload) begins refl)
   state_turns states.Closing here o arrival = asked here (record { state = refl; reason = refl; close = refl }) refl refl refl
   state_turns states.Drained here o arrival = kept (same_as e.closing) refl (λ closing. (refl, refl))
   state_turns states.Failed here o arrival = kept (same_as e.closing) refl (λ closing. (refl, refl))

@@ -108,7 +108,7 @@ shut_arrivals : (sents : List Sent) (e : End) (now n : ℕ) (frames : List Frame
 shut_arrivals sents e now n frames i s = record {
   ignored = λ reason. s;
   noted = λ state reason. record { used = s.used; explained = s.explained };
-  takes = λ words still_open new none mark. record {
+  takes = λ words still_open new none urged mark. record {
     used = λ shown. absurd (open_free e.closing.state e.closing.reason s.explained still_open reasons.NumberLimit (sym (ap (λ (c : Closing). c.reason) left.closing) ∙ shown));
     explained = subst (λ (c : Closing). Explains c.state c.reason) (sym left.closing) s.explained;
   };

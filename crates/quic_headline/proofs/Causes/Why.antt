@@ -30,7 +30,7 @@ use Rattle.quic_machine.specs.Validation.{is_blocked, with_blocked}
 use Rattle.quic_machine.specs.Control.{Control}
 use Rattle.quic_machine.specs.End.{End, with_closing, with_numbers, with_window, closed_by}
 use Rattle.quic_machine.specs.Opens.{own_id_length, would_open}
-use Rattle.quic_machine.specs.Receive.{Fault, broke, too_many_pieces, closed_by_peer, reason_of, violation, is_empty, asks_in, take_frame, take_items, take_payload, dropped, ends_as, by_state, opened_to, opened_as, opening, headed, received_in, is_read, drawn_if, unopened_in}
+use Rattle.quic_machine.specs.Receive.{Fault, broke, too_many_pieces, closed_by_peer, reason_of, violation, is_empty, asks_in, is_urged, take_frame, take_items, take_payload, dropped, ends_as, by_state, opened_to, opened_as, opening, headed, received_in, is_read, drawn_if, unopened_in}
 use Rattle.quic_machine.specs.Poll.{Polled, bounds, polled, polled_in}
 use Rattle.quic_machine.specs.Timeouts.{Expiry, expiry_at, loss_judged, loss_expired, unless_idle, timed_out_in}
 use Rattle.quic_machine.specs.Calls.{closed_in}
@@ -92,17 +92,17 @@ module _ (p : Policy) (e : End) (call : Call) (a : Answer) (why : LostReason) wh
   faults : (f : Fault) → Some (reason_of f) ≡ Some why → Cause p e call a why
   faults f is = refuses f (same_reason (reason_of f) why is)
 
-  ends_why : (fault : Option Fault) (asking : Bool) (n : ℕ) (mark : Option EcnCodepoint) (x : End) → HasCause x → HasCause (ends_as fault asking n mark x).end
-  ends_why None asking n mark x i is = by_taken HasCause n asking mark x (λ idle alive. i) is
-  ends_why (Some (closed_by_peer close)) asking n mark x i is = faults (closed_by_peer close) is
-  ends_why (Some (broke error)) asking n mark x i is = faults (broke error) is
-  ends_why (Some too_many_pieces) asking n mark x i is = faults too_many_pieces is
+  ends_why : (fault : Option Fault) (asking urged : Bool) (n : ℕ) (mark : Option EcnCodepoint) (x : End) → HasCause x → HasCause (ends_as fault asking urged n mark x).end
+  ends_why None asking urged n mark x i is = by_taken HasCause n asking urged mark x (λ idle alive. i) is
+  ends_why (Some (closed_by_peer close)) asking urged n mark x i is = faults (closed_by_peer close) is
+  ends_why (Some (broke error)) asking urged n mark x i is = faults (broke error) is
+  ends_why (Some too_many_pieces) asking urged n mark x i is = faults too_many_pieces is
 
   state_why : (s : State) (o : Opening) (arrival : Arrival) (x : End) → HasCause x → HasCause (by_state s o arrival x).end
   state_why states.Open o arrival x i =
       let begins : End = with_closing x (ticked x.closing arrival.now) in
       let taken = take_payload o.first (items o.payload) begins in
-      ends_why taken.fault (asks_in (items o.payload)) o.number arrival.mark taken.end (payload_why o.first (items o.payload) begins i)
+      ends_why taken.fault (asks_in (items o.payload)) (is_urged arrival.mark (items o.payload) begins) o.number arrival.mark taken.end (payload_why o.first (items o.payload) begins i)
   state_why states.Closing o arrival x i = i
   state_why states.Drained o arrival x i = i
   state_why states.Failed o arrival x i = i

@@ -76,7 +76,7 @@ frames_stay P Q step fs e all i = (frames_leave (λ (left : List FrameValue) (x 
 
 -- a fact of streams that each frame of a packet keeps holds in each case of its delivery
 in_arrivals : (P : StreamsState → Type 0) (e : End) (now n : ℕ) (frames : List FrameValue) (came : Intake) → P e.streams → P (passed frames (begun e now n)).end.streams → Arrivals e now n frames came (λ (o : Outcome) (j : Intake). P o.end.streams)
-in_arrivals P e now n frames came i after = record { ignored = λ reason. i; noted = λ state reason. i; takes = λ words state new none mark. after; drains = λ words state new close is. after; refuses = λ words state new f is. after; exhausts = λ state. i }
+in_arrivals P e now n frames came i after = record { ignored = λ reason. i; noted = λ state reason. i; takes = λ words state new none urged mark. after; drains = λ words state new close is. after; refuses = λ words state new f is. after; exhausts = λ state. i }
 
 -- ---- a call
 

@@ -24,7 +24,7 @@ use Rattle.quic_streams_parts.specs.declared.answers.ClosedStream.{ClosedStream}
 use Rattle.quic_streams_parts.specs.declared.answers.Written.{Written}
 use Rattle.quic_streams_parts.specs.Dirs.{Counts, of, with_of, is_own, is_two_way}
 use Rattle.quic_streams_parts.specs.Events.{Events, with_event, after_event}
-use Rattle.quic_streams_parts.specs.SendHalf.{SendHalf, is_acked, half_acked}
+use Rattle.quic_streams_parts.specs.SendHalf.{SendHalf, was_said, is_acked, half_acked}
 use Rattle.quic_streams_parts.specs.RecvHalf.{RecvHalf, after_frame, after_reset_stream}
 use Rattle.quic_streams_halves.specs.Halves.{is_done}
 use Rattle.quic_retransmits.specs.Retransmits.{Retransmits}
@@ -112,7 +112,7 @@ module _ (K : Side → Counts → Counts → Events → List ℕ → Type 0) (mo
 
   blocked_counts : (o : Option SendHalf) (s : StreamsState) (p : Retransmits) (id : ℕ) → Listed s → Listed (blocked_at o s p id).state
   blocked_counts None s p id i = i
-  blocked_counts (Some h) s p id i = either_streams (room s.sending == 0) (blocked_by_all s p id h) (blocked_by_own s p id) (joined_counts s id h i) i
+  blocked_counts (Some h) s p id i = either_streams (room s.sending == 0) (blocked_by_all s p id h) (blocked_by_own s p id h) (joined_counts s id h i) (either_streams (was_said h.said h.limit) _ _ i i)
 
   accepted_counts : (o : Option SendHalf) (s : StreamsState) (id : ℕ) (bytes : List ℕ) → Listed s → Listed (accepted_at o s id bytes)
   accepted_counts None s id bytes i = i
@@ -212,7 +212,7 @@ module _ (K : Side → Counts → Counts → Events → List ℕ → Type 0) (mo
   composed_counts e i = by_writing (λ (d : Draft). Listed d.end.streams) keep e i
     where
       keep : Writing (λ (d : Draft). Listed d.end.streams)
-      keep (puts.control kind f) d may j = by_tells Listed d.end.streams j j (λ id. j) (λ dir. j) f
+      keep (puts.control kind f) d may j = by_tells Listed d.end.streams j j (λ id. j) (λ dir. j) (λ limit. j) (λ id limit. j) f
       keep p d may j = j
 
   poll_counts : (p : Policy) (e : End) (now : ℕ) → Listed e.streams → Listed (poll.polled p e now).end.streams

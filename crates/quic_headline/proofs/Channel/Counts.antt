@@ -168,7 +168,7 @@ module _ (B : Way) (rests : RestsOn B) where
       comes = λ delivery is s among. (let after = frames_know y.end.streams s.frames (begun x.end delivery.now s.number) (c.takes.1.given s among) k.counts in record {
         ignored = λ reason. k.counts;
         noted = λ state reason. k.counts;
-        takes = λ words state new none mark. after;
+        takes = λ words state new none urged mark. after;
         drains = λ words state new close is. after;
         refuses = λ words state new f is. after;
         exhausts = λ state. k.counts;

@@ -27,10 +27,10 @@ use Rattle.quic_streams_state.specs.Control.{blocked_limit, without_first, frame
 use Rattle.quic_streams_state.specs.Control as control
 use Rattle.quic_streams_laws.specs.Giving.{Sends, Receives, MayGiveBy}
 use Rattle.quic_streams_laws.specs.Quiet.{IsSentWithin}
-use Rattle.quic_streams_laws.specs.QuietLaws.{is_quiet, by_tells}
+use Rattle.quic_streams_laws.specs.QuietLaws.{is_quiet, by_tells, by_told}
 use Rattle.quic_streams_laws.specs.Keeping.{KeepsAll}
 use Rattle.quic_streams_laws.specs.Keeping as changes
-use Rattle.quic_streams_laws.specs.KeepingLaws.{by_accept, by_stream, by_reset_frame, by_frame, by_limit_told}
+use Rattle.quic_streams_laws.specs.KeepingLaws.{by_accept, by_stream, by_reset_frame, by_frame}
 use Rattle.quic_streams_laws.specs.Shape.{IsShaped}
 use Rattle.quic_streams_laws.specs.ShapeLaws.{OpensMore, opened_more, more_own, more_remote, past_remote, shape_any, sends_may}
 use Rattle.quic_machine.specs.declared.run.Call.{Call}
@@ -242,11 +242,10 @@ module _ (s : StreamsState) (A : Type 0) where
   more_given fs g all one f i = elim (in_more f g fs i) [ inl old ↦ all f old | inr new ↦ subst (May s A) (sym new) one ]
 
   told_goes : (d : Draft) (f : FrameValue) → Goes s A d → IsShaped (frame_told f d.end.streams) × Grown (frame_told f d.end.streams) s × StopsHold (frame_told f d.end.streams) d.end.waiting.frames
-  told_goes d f g = by_tells (λ (t : StreamsState). IsShaped t × Grown t s × StopsHold t d.end.waiting.frames) d.end.streams (g.shape, g.back, g.stops)
-      (shape_any changes.tells d.end.streams tt g.shape, g.back, g.stops)
-      (λ id. (by_limit_told IsShaped shape_any d.end.streams id g.shape, g.back, g.stops))
-      (λ dir. (shape_any (changes.tells_count dir) d.end.streams tt g.shape, g.back, g.stops))
-      f
+  told_goes d f g =
+      let both : Grown (frame_told f d.end.streams) s × StopsHold (frame_told f d.end.streams) d.end.waiting.frames =
+      by_tells (λ (t : StreamsState). Grown t s × StopsHold t d.end.waiting.frames) d.end.streams (g.back, g.stops) (g.back, g.stops) (λ id. (g.back, g.stops)) (λ dir. (g.back, g.stops)) (λ limit. (g.back, g.stops)) (λ id limit. (g.back, g.stops)) f in
+      (by_told IsShaped shape_any f d.end.streams g.shape, both.0, both.1)
 
   acked_goes : (d : Draft) → Goes s A d → Goes s A (with_ack d)
   acked_goes d g = record { shape = g.shape; back = g.back; stops = g.stops; late = g.late; frames = more_given d.frames _ g.frames (tt, tt) }

@@ -61,7 +61,7 @@ pub record Heard (t s : StreamsState) : Type 0 where
   pub all : s.sending.limit ≤ t.receiving.announced
 
 of_halves : (t : StreamsState) → AreOfHalves (λ q limit. (id : ℕ) → Allows t id limit) (λ id. Unit {0}) (λ id h. Allows t id h.limit) (λ id. Unit {0})
-of_halves t = record { fresh = λ id limit first none. first id; over = λ id h is ended. tt; blocked = λ id h b is. is; placed = λ id h p is. is }
+of_halves t = record { fresh = λ id limit first none. first id; over = λ id h is ended. tt; blocked = λ id h b is. is; noted = λ id h said is. is; placed = λ id h p is. is }
 
 -- the limit of a half that there is
 pub half_heard : (t s : StreamsState) (id : ℕ) (h : SendHalf) → sending_half s id ≡ Some h → Heard t s → Allows t id h.limit

@@ -360,7 +360,7 @@ module _ (used issued least low : ℕ) where
     arrivals_stand stands e now n frames came all names tracked i = record {
       ignored = λ reason. i;
       noted = λ state reason. i;
-      takes = λ words state new none mark. drawn_stand words (after_taken n (asks_in (map Ok frames)) mark (arrived e now n frames).end) behind;
+      takes = λ words state new none urged mark. drawn_stand words (after_taken n (asks_in (map Ok frames)) urged mark (arrived e now n frames).end) behind;
       drains = λ words state new close is. drawn_stand words (drained_at n close (arrived e now n frames).end) behind;
       refuses = λ words state new f is. drawn_stand words (closed_by (reason_of f) (arrived e now n frames).end) behind;
       exhausts = λ state. i;

@@ -256,7 +256,7 @@ module _ (window : Option ℕ) where
       notes = λ n x j. j;
       begins = λ time n x j. j;
       frame = frame_leaves;
-      takes = λ n asks mark x j. j;
+      takes = λ n asks urged mark x j. j;
       closes = λ reason x j. j;
       drains = λ close x j. j;
       asks_close = λ x j. j;

@@ -65,7 +65,7 @@ module _ (B : Way) (rests : RestsOn B) (x y : Party) (call : Call) (a : Answer) 
     comes = λ delivery is s among. record {
       ignored = λ reason. grown_same x.end.streams;
       noted = λ state reason. grown_same x.end.streams;
-      takes = λ words state new none mark. frames_grow s.frames (begun x.end delivery.now s.number);
+      takes = λ words state new none urged mark. frames_grow s.frames (begun x.end delivery.now s.number);
       drains = λ words state new close is. frames_grow s.frames (begun x.end delivery.now s.number);
       refuses = λ words state new f is. frames_grow s.frames (begun x.end delivery.now s.number);
       exhausts = λ state. grown_same x.end.streams;
@@ -105,7 +105,7 @@ module _ (B : Way) (rests : RestsOn B) (x y : Party) (call : Call) (a : Answer) 
     arrivals_stop now s among = record {
       ignored = λ reason. stops_before;
       noted = λ state reason. stops_before;
-      takes = λ words state new none mark. passed_stops;
+      takes = λ words state new none urged mark. passed_stops;
       drains = λ words state new close is. passed_stops;
       refuses = λ words state new f is. passed_stops;
       exhausts = λ state. stops_before;

@@ -156,7 +156,7 @@ module _ (B : Way) (packets : (x y : Party) → B x y → PacketsHold x y) (x y 
   arrives now s = record {
     ignored = λ reason. record { still = i.still; reached = i.reached };
     noted = λ state reason. record { still = i.still; reached = i.reached };
-    takes = λ words state new none mark. record {
+    takes = λ words state new none urged mark. record {
       still = λ open_now. i.still state;
       reached = frames_reach (WasIn (came_in (with_taken came s.number s.frames))) x.side s.frames (begun x.end now s.number) (λ f j. record { packet = packet; was_taken = in_packets came.part packet (packet ∷ came.took) (inl refl); carried = j })
           (reached_wider (WasIn (came_in came)) (WasIn (came_in (with_taken came s.number s.frames))) x.side x.end.streams.side x.end.streams.opening.remote (was packet) i.reached);

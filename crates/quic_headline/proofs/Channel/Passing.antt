@@ -69,9 +69,9 @@ no_fault o none fault is = let clash : None ≡ Some fault = sym none ∙ is in 
 closes_only : (close : CloseValue) → NoneBroken (Some (closed_by_peer close))
 closes_only close fault is = let same : closed_by_peer close ≡ fault = cc in subst BreaksNone same tt
 
-many_only : (o : Option RecvHalf) (f : StreamValue) → NoneBroken (fault_of (too_many_at o f))
-many_only None f fault is = cc
-many_only (Some h) f fault is = go (has_too_many (after_frame h f)) is
+many_only : (window : ℕ) (o : Option RecvHalf) (f : StreamValue) → NoneBroken (fault_of (too_many_at window o f))
+many_only window None f fault is = cc
+many_only window (Some h) f fault is = go (has_too_many window (after_frame h f)) is
   where
     go : (b : Bool) → fault_of (if b then Some Pieces else None) ≡ Some fault → BreaksNone fault
     go true is = let same : too_many_pieces ≡ fault = cc in subst BreaksNone same tt
@@ -84,7 +84,7 @@ allowed s id end fin ids sizes = ap (λ (o : Option Breach). breach_behind o s i
 -- a frame that passes
 pub frame_passes : (f : FrameValue) (e : End) → IdsPass e.streams f → SizesPass e.streams f → PlainPass e f → (fault : Fault) → (take_frame f e).fault ≡ Some fault → BreaksNone fault
 frame_passes (stream f) e ids sizes plain fault is =
-    many_only (part_for e.streams f.id) f fault (sym (ap (λ (o : Option Breach). fault_of (breach_kept o e.streams f)) (allowed e.streams f.id (end_of f) f.fin ids sizes)) ∙ is)
+    many_only e.streams.receiving.stream_window (part_for e.streams f.id) f fault (sym (ap (λ (o : Option Breach). fault_of (breach_kept o e.streams f)) (allowed e.streams f.id (end_of f) f.fin ids sizes)) ∙ is)
 frame_passes (reset_stream f) e ids sizes plain fault is = nothing_broken (reset_breach e.streams f) (allowed e.streams f.id f.final_size true ids sizes) fault is
 frame_passes (datagram m) e ids sizes plain fault is =
     let clash : None ≡ Some fault = sym (ap (λ (b : Bool). (message_judged (if b then Ok (length e.messages.queues.incoming == 0) else Err received_errors.Breach) m e).fault) plain) ∙ is in cc

@@ -12,7 +12,7 @@ use Rattle.quic_streams_parts.specs.declared.answers.WriteError.{WriteError}
 use Rattle.quic_streams_parts.specs.declared.answers.WriteError.TheVariants as write_errors
 use Rattle.quic_streams_parts.specs.declared.answers.ClosedStream.{ClosedStream}
 use Rattle.quic_streams_parts.specs.declared.answers.Written.{Written}
-use Rattle.quic_streams_parts.specs.SendHalf.{SendHalf, is_acked, half_acked}
+use Rattle.quic_streams_parts.specs.SendHalf.{SendHalf, was_said, is_acked, half_acked}
 use Rattle.quic_streams_parts.specs.RecvHalf.{RecvHalf, end_of}
 use Rattle.quic_retransmits.specs.Retransmits.{Retransmits, nothing_waits, merged}
 use Rattle.quic_streams_parts.specs.Table.{Table}
@@ -106,7 +106,7 @@ module _ (Q : ℕ → Type 0) (A : Type 0) where
   module _ (s : StreamsState) (p : Retransmits) (i : StopsOf Q A p) where
     blocked_stops : (o : Option SendHalf) (id : ℕ) → StopsOf Q A (blocked_at o s p id).pending
     blocked_stops None id = i
-    blocked_stops (Some h) id = either (room s.sending == 0) (blocked_by_all s p id h) (blocked_by_own s p id) i i
+    blocked_stops (Some h) id = either (room s.sending == 0) (blocked_by_all s p id h) (blocked_by_own s p id h) i (either (was_said h.said h.limit) _ _ i i)
 
     written_stops : (r : Result ℕ WriteError) (id : ℕ) (bytes : List ℕ) → StopsOf Q A (written_by r s p id bytes).pending
     written_stops (Ok n) id bytes = i

@@ -189,7 +189,7 @@ module _ (B : Way) (w : IsWriting B) (x y : Party) (call : Call) (a : Answer) (c
       arrivals now n fs = record {
         ignored = λ reason. here;
         noted = λ state reason. here;
-        takes = λ words state new none mark. stays_frames x.end.streams fs (begun x.end now n) here;
+        takes = λ words state new none urged mark. stays_frames x.end.streams fs (begun x.end now n) here;
         drains = λ words state new close is. stays_frames x.end.streams fs (begun x.end now n) here;
         refuses = λ words state new f is. stays_frames x.end.streams fs (begun x.end now n) here;
         exhausts = λ state. here;

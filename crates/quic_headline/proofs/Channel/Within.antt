@@ -49,7 +49,7 @@ module _ (B : Way) (w : IsWriting B) (x y : Party) (call : Call) (a : Answer) (c
     none = λ delivery is. i.heard;
     comes = λ delivery is s among. (
         let all : Heard y.end.streams (passed s.frames (begun x.end delivery.now s.number)).end.streams = frames_heard y.end.streams s.frames (begun x.end delivery.now s.number) (λ f j. i.told s among f j) i.heard in
-        record { ignored = λ reason. i.heard; noted = λ state reason. i.heard; takes = λ words state new none mark. all; drains = λ words state new close fault. all; refuses = λ words state new f fault. all; exhausts = λ state. i.heard });
+        record { ignored = λ reason. i.heard; noted = λ state reason. i.heard; takes = λ words state new none urged mark. all; drains = λ words state new close fault. all; refuses = λ words state new f fault. all; exhausts = λ state. i.heard });
   })
 
   -- what it writes is within that

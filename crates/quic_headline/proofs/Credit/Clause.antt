@@ -109,7 +109,7 @@ module _ (B : Way) (w : IsWriting B) (within : (x y : Party) → B x y → Withi
   comes_uses now s = record {
     ignored = λ reason still. told_more x.end.streams (i.still still);
     noted = λ state reason still. (let clash : states.Closing ≡ states.Open = sym state ∙ still in cc);
-    takes = λ words state new none mark still. frames_count wide each_wide x.end.streams later s.frames (begun x.end now s.number) (λ f among. frame_said p packets (x.told ++ t ∷ []) f among) here
+    takes = λ words state new none urged mark still. frames_count wide each_wide x.end.streams later s.frames (begun x.end now s.number) (λ f among. frame_said p packets (x.told ++ t ∷ []) f among) here
         (grown wide each_wide (usage packets x.told) later (uses_then (usage packets x.told) (usage packets (x.told ++ t ∷ [])) later (told_uses packets x.told t) (packet_uses p packets (x.told ++ t ∷ []))) x.end.streams (i.still state));
     drains = λ words state new close is still. cc;
     refuses = λ words state new f is still. cc;
@@ -156,7 +156,7 @@ module _ (B : Way) (w : IsWriting B) (within : (x y : Party) → B x y → Withi
     comes = λ delivery is s among. record {
       ignored = λ reason. all_said;
       noted = λ state reason. all_said;
-      takes = λ words state new none mark q there f k. within_packet wide each_wide (record { number = s.number; frames = s.frames }) packets (x.told ++ t ∷ []) f (all_said q there f k);
+      takes = λ words state new none urged mark q there f k. within_packet wide each_wide (record { number = s.number; frames = s.frames }) packets (x.told ++ t ∷ []) f (all_said q there f k);
       drains = λ words state new close fault q there f k. within_packet wide each_wide (record { number = s.number; frames = s.frames }) packets (x.told ++ t ∷ []) f (all_said q there f k);
       refuses = λ words state new f is. all_said;
       exhausts = λ state. all_said;

@@ -219,7 +219,7 @@ module _ (w : IsWriting N) (x y : Party) (call : Call) (a : Answer) (c : Calls N
     none = λ delivery is. i.counts;
     comes = λ delivery is s among. (
         let all : CountsDone (passed s.frames (begun x.end delivery.now s.number)).end.streams = frames_keep (λ (e : End). CountsDone e.streams) done_frame s.frames (begun x.end delivery.now s.number) i.counts in
-        record { ignored = λ reason. i.counts; noted = λ state reason. i.counts; takes = λ words state new none mark. all; drains = λ words state new close fault. all; refuses = λ words state new f fault. all; exhausts = λ state. i.counts });
+        record { ignored = λ reason. i.counts; noted = λ state reason. i.counts; takes = λ words state new none urged mark. all; drains = λ words state new close fault. all; refuses = λ words state new f fault. all; exhausts = λ state. i.counts });
   })
 
   -- what is said of counts
@@ -248,7 +248,7 @@ module _ (w : IsWriting N) (x y : Party) (call : Call) (a : Answer) (c : Calls N
 
   fine : AreFine AsThere (Within packets x.told)
   fine = record {
-    told = λ f s k. by_tells AsThere s k k (λ id. k) (λ dir. k) f;
+    told = λ f s k. by_tells AsThere s k k (λ id. k) (λ dir. k) (λ limit. k) (λ id limit. k) f;
     sent = λ fair s id room h found k. k;
     limits = goes_within;
     pads = tt;
@@ -287,7 +287,7 @@ module _ (w : IsWriting N) (x y : Party) (call : Call) (a : Answer) (c : Calls N
     comes = λ delivery is s among. record {
       ignored = λ reason. all_said;
       noted = λ state reason. all_said;
-      takes = λ words state new none mark q there f carried. (
+      takes = λ words state new none urged mark q there f carried. (
           let was = all_said q there f carried in
           let more = packet_over x.side (dir_named f.one_way) (record { number = s.number; frames = s.frames }) packets (x.told ++ t ∷ []) in
           omega (arith, was, more));

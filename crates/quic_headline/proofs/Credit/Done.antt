@@ -74,7 +74,7 @@ left_goes : (both : ℕ → Bool) → GoesOn (λ id x. IsLeft (both id) x)
 left_goes both = record { opens = λ id i. i; comes = λ id window i. i; told = λ id h n i. i; ends = λ id h i. tt }
 
 none_of_halves : (both : ℕ → Bool) → AreOfHalves (λ id limit. Unit {0}) (RunsOneWay both) (λ id h. RunsOneWay both id) (λ id. Unit {0})
-none_of_halves both = record { fresh = λ id limit f n. n; over = λ id h q ended. tt; blocked = λ id h b q. q; placed = λ id h p q. q }
+none_of_halves both = record { fresh = λ id limit f n. n; over = λ id h q ended. tt; blocked = λ id h b q. q; noted = λ id h said q. q; placed = λ id h p q. q }
 
 left_kept : (both : ℕ → Bool) → KeepsBy (λ r id old new. IsLeft (both id) (live old) → IsLeft (both id) (live new)) (λ s id old new. Unit {0}) (λ s id n old new. Unit {0}) (AllReceiving (λ id x. IsLeft (both id) x))
 left_kept both = receives_laws.each_kept (λ id x. IsLeft (both id) x) (left_goes both)

@@ -122,6 +122,8 @@ module _ (wide each_wide : ℕ) (packets : List Packet) (ts : List Told) (before
           sums = sums_told IsAny (IsCounted u) (IsSpent u) before (λ j h n c. record { seen = c.seen; halted = λ is. c.halted is; cut = λ is. c.cut is; listed = λ is. c.listed is }) s id k.stays i.sums;
         }))
         (λ dir. (let i = k.uses in record { window = i.window; stream_window = i.stream_window; sums = record { final = i.sums.final; sum = i.sums.sum; each = i.sums.each } }))
+        (λ limit. k.uses)
+        (λ id limit. k.uses)
         f;
   }
 

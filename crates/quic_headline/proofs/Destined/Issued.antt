@@ -167,7 +167,7 @@ module _ (x y : Party) (c : PacketsHold x y) (back : PacketsHold y x) (none : No
   arrives = record {
     ignored = λ reason. record { still = i.still; goes = i.goes };
     noted = λ state reason. record { still = i.still; goes = i.goes };
-    takes = λ words state new fine mark. record { still = λ opened. i.still state; goes = draws (came_in (with_taken came s.number s.frames)) words (after_taken s.number (asks_in (map Ok s.frames)) mark (arrived x.end now s.number s.frames).end) taken };
+    takes = λ words state new fine urged mark. record { still = λ opened. i.still state; goes = draws (came_in (with_taken came s.number s.frames)) words (after_taken s.number (asks_in (map Ok s.frames)) urged mark (arrived x.end now s.number s.frames).end) taken };
     drains = λ words state new close is. record { still = λ opened. cc; goes = draws (came_in (with_taken came s.number s.frames)) words (drained_at s.number close (arrived x.end now s.number s.frames).end) taken };
     refuses = λ words state new f is. record { still = λ opened. cc; goes = draws (came_in (with_refused came s.number s.frames)) words (closed_by (reason_of f) (arrived x.end now s.number s.frames).end) (refused state) };
     exhausts = λ state. record { still = λ opened. cc; goes = i.goes };

@@ -143,7 +143,7 @@ own_arrivals : (x y : Party) → PacketsHold x y → PacketsHold y x → (now : 
 own_arrivals x y p back now s among own = record {
   ignored = λ reason opened. own opened;
   noted = λ state reason opened. own opened;
-  takes = λ words state new none mark opened. own_taken x y p back now s among (own state) words (after_taken s.number (asks_in (map Ok s.frames)) mark (arrived x.end now s.number s.frames).end) (passes x y p back now s among (own state));
+  takes = λ words state new none urged mark opened. own_taken x y p back now s among (own state) words (after_taken s.number (asks_in (map Ok s.frames)) urged mark (arrived x.end now s.number s.frames).end) (passes x y p back now s among (own state));
   drains = λ words state new close is opened. cc;
   refuses = λ words state new f is opened. cc;
   exhausts = λ state opened. cc;

@@ -45,6 +45,7 @@ pub flies_along : (F : Duty → Type 0) → GoesAlong (FliesIn F) (λ id w. Unit
 flies_along F = record {
   fresh = none_flies F;
   blocked = λ id h b i. record { offsets = i.offsets; fin = i.fin };
+  noted = λ id h said i. record { offsets = i.offsets; fin = i.fin };
   placed = λ id h p i. record { offsets = i.offsets; fin = i.fin };
   grown = λ id h bytes i. record { offsets = i.offsets; fin = i.fin };
   ended = λ id h i. record { offsets = i.offsets; fin = λ none is. absurd (ended_waits h.end_acked is) };

@@ -177,7 +177,7 @@ module _ (B : Way) (b : IsReadied B) (x y : Party) (call : Call) (a : Answer) (c
     none = λ delivery is. asks_still;
     comes = λ delivery is s among. (
         let after : AreAsked Asks (passed s.frames (started x.end delivery.now s.number)).end.streams = frames_keep (λ (e : End). AreAsked Asks e.streams) (λ f e j. asked_frame Asks f e j) s.frames (started x.end delivery.now s.number) asks_still in
-        record { ignored = λ reason. asks_still; noted = λ closing reason. asks_still; takes = λ words open_there fresh fine mark. after; drains = λ words open_there fresh close fault. after; refuses = λ words open_there fresh f fault. after; exhausts = λ open_there. asks_still });
+        record { ignored = λ reason. asks_still; noted = λ closing reason. asks_still; takes = λ words open_there fresh fine urged mark. after; drains = λ words open_there fresh close fault. after; refuses = λ words open_there fresh f fault. after; exhausts = λ open_there. asks_still });
   })
 
   -- ---- limits
@@ -228,7 +228,7 @@ module _ (B : Way) (b : IsReadied B) (x y : Party) (call : Call) (a : Answer) (c
         record {
           ignored = λ reason. further what value _ (all.ignored reason);
           noted = λ state reason. further what value _ (all.noted state reason);
-          takes = λ words state new none mark. further what value _ (all.takes words state new none mark);
+          takes = λ words state new none urged mark. further what value _ (all.takes words state new none urged mark);
           drains = λ words state new close is. further what value _ (all.drains words state new close is);
           refuses = λ words state new f is. further what value _ (all.refuses words state new f is);
           exhausts = λ state. further what value _ (all.exhausts state);
@@ -261,7 +261,7 @@ module _ (B : Way) (b : IsReadied B) (x y : Party) (call : Call) (a : Answer) (c
         record {
           ignored = λ reason. further_on _ (all.ignored reason);
           noted = λ state reason. further_on _ (all.noted state reason);
-          takes = λ words state new none mark. further_on _ (all.takes words state new none mark);
+          takes = λ words state new none urged mark. further_on _ (all.takes words state new none urged mark);
           drains = λ words state new close is. further_on _ (all.drains words state new close is);
           refuses = λ words state new g is. further_on _ (all.refuses words state new g is);
           exhausts = λ state. further_on _ (all.exhausts state);

@@ -193,7 +193,7 @@ module _ (B : Way) (w : IsWriting B) (x y : Party) (call : Call) (a : Answer) (c
           record {
             ignored = λ reason. comes_halts call none x.end i.halted;
             noted = λ closing reason. comes_halts call none x.end i.halted;
-            takes = λ words open_there new fine mark. comes_halts call none (passed s.frames before).end after;
+            takes = λ words open_there new fine urged mark. comes_halts call none (passed s.frames before).end after;
             drains = λ words open_there new close fault. comes_halts call none (passed s.frames before).end after;
             refuses = λ words open_there new f fault. comes_halts call none (passed s.frames before).end after;
             exhausts = λ open_there. comes_halts call none x.end i.halted;

@@ -326,7 +326,7 @@ module _ (took : List Packet) (own : List Sent) (what : Limited) (value : ℕ) (
   arrivals_stated e now n frames came takes i = record {
     ignored = λ reason. i;
     noted = λ state reason. record { knows = i.knows; stand = i.stand };
-    takes = λ words state new none mark. record { knows = after.1.knows; stand = after.1.stand };
+    takes = λ words state new none urged mark. record { knows = after.1.knows; stand = after.1.stand };
     drains = λ words state new close is. record { knows = after.1.knows; stand = after.1.stand };
     refuses = λ words state new f is. record { knows = after.1.knows; stand = after.1.stand };
     exhausts = λ state. record { knows = i.knows; stand = i.stand };

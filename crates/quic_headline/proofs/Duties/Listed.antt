@@ -27,7 +27,7 @@ use Rattle.quic_retransmits.specs.Retransmits.{Retransmits, nothing_waits, merge
 use Rattle.quic_streams_state.specs.declared.state.StreamsState.{StreamsState}
 use Rattle.quic_retransmits.specs.declared.retransmits.ControlKind.{ControlKind}
 use Rattle.quic_retransmits.specs.declared.retransmits.ControlKind.TheVariants.{ResetStream, StopSending, NewConnectionId, RetireConnectionId}
-use Rattle.quic_streams_state.specs.State.{Streams, Sending, streams_of, sending_half, receiving_half}
+use Rattle.quic_streams_state.specs.State.{Streams, streams_of, sending_half, receiving_half}
 use Rattle.quic_streams_state.specs.Sends.{reset_half}
 use Rattle.quic_streams_state.specs.Limits.{decided, settled}
 use Rattle.quic_streams_state.specs.Acked.{after_stream_acked, after_reset_acked}
@@ -37,7 +37,6 @@ use Rattle.quic_streams_state.specs.Reading.{told_bytes, after_read_begun, after
 use Rattle.quic_streams_state.specs.Control.{Entry, reset_frame, reset_entry, stop_entry, new_id_entry, retire_entry, told_id, waiting, without_first, control_frames, kind_of, Goes}
 use Rattle.quic_streams_state.specs.Control as control
 use Rattle.quic_streams_laws.specs.KindLaws.{GoesFirst, first_others, without_of}
-use Rattle.quic_streams_laws.specs.QuietLaws.{told_sending}
 use Rattle.quic_streams_laws.specs.ControlWalk.{by_control}
 use Rattle.quic_recovery_core.specs.PendingAcks.{can_send}
 use Rattle.quic_machine.specs.declared.run.Call.{Call}
@@ -77,6 +76,7 @@ use Rattle.quic_headline.proofs.Packets.Probes.{by_ready, ready_tracked, by_goin
 use Rattle.quic_headline.proofs.Packets.Given.{draft_number}
 use Rattle.quic_headline.proofs.Packets.Carried.{again_is}
 use Rattle.quic_headline.proofs.Packets.Delivered.{Arrivals, arrived}
+use Rattle.quic_headline.proofs.Packets.Told.{told_reads}
 use Rattle.quic_headline.proofs.Packets.MayGo.{WasReset, AreReady}
 use Rattle.quic_headline.proofs.Packets.Named.{NamesTaken, Stands, WasCarried, named_carried, by_frame, frame_fewer}
 use Rattle.quic_headline.proofs.Halves.Pile.{SamePile, without_fewer}
@@ -561,7 +561,7 @@ module _ (took : List Packet) (what : Listed) where
 
     -- each case of a delivery
     pub arrivals_stand : (e : End) (now n : ℕ) (frames : List FrameValue) (came : Intake) → ((a : AckValue) → In (ack a) frames → NamesTaken took a) → AreTracked sents e.tracking.packets → ListedStands took what e → Arrivals e now n frames came (λ (o : Outcome) (j : Intake). ListedStands took what o.end)
-    arrivals_stand e now n frames came takes tracked i = record { ignored = λ reason. i; noted = λ state reason. i; takes = λ words state new none mark. draws words (after_taken n (asks_in (map Ok frames)) mark (arrived e now n frames).end) after; drains = λ words state new close is. draws words (drained_at n close (arrived e now n frames).end) after; refuses = λ words state new f is. draws words (closed_by (reason_of f) (arrived e now n frames).end) after; exhausts = λ state. i }
+    arrivals_stand e now n frames came takes tracked i = record { ignored = λ reason. i; noted = λ state reason. i; takes = λ words state new none urged mark. draws words (after_taken n (asks_in (map Ok frames)) urged mark (arrived e now n frames).end) after; drains = λ words state new close is. draws words (drained_at n close (arrived e now n frames).end) after; refuses = λ words state new f is. draws words (closed_by (reason_of f) (arrived e now n frames).end) after; exhausts = λ state. i }
       where
         draws : (words : ℕ → ℕ) (x : End) → ListedStands took what x → ListedStands took what (drawn words x)
         draws words x j = drawn_stands took what words x j
@@ -606,7 +606,7 @@ id_due c e es (r ∷ rs) is none =
 module _ (s : StreamsState) (p : Retransmits) (ready : AreReady s.sending.halves.live p) (what : Listed) where
   -- frames of control went: what waited waits still or went, and the resets that wait still waited
   record Moved (c : control.Draft) : Type 0 where
-    same : c.state.sending ≡ s.sending
+    same : (r : ℕ × ℕ) → reset_frame r (at c.state.sending.halves.live r.0) ≡ reset_frame r (at s.sending.halves.live r.0)
     waited : (r : ℕ × ℕ) → In r c.pending.reset_stream → In r p.reset_stream
     moves : listed_in what p ≡ true → (listed_in what c.pending ≡ true) ⊎ (said what c.frames ≡ true)
 
@@ -619,7 +619,7 @@ module _ (s : StreamsState) (p : Retransmits) (ready : AreReady s.sending.halves
       go (r ∷ rs) is waited =
           let entry : reset_entry r ≡ e = cc in
           reset_due s.sending.halves.live r (ready.resets r (waited r (inl refl)))
-          (ap (λ (x : Sending). reset_frame r (at x.halves.live r.0)) (sym m.same) ∙ (ap (λ (x : Entry). x.frame c.state) entry ∙ none))
+          (sym (m.same r) ∙ (ap (λ (x : Entry). x.frame c.state) entry ∙ none))
 
   -- so it waits still where something is dropped
   dropped : (it : Listed) (kind : ControlKind) (c : control.Draft) (e : Entry) (es : List Entry) → waiting kind c.pending ≡ e ∷ es → e.frame c.state ≡ None → Moved c → listed_in it c.pending ≡ true → listed_in it (without_first kind c.pending) ≡ true
@@ -645,7 +645,7 @@ module _ (s : StreamsState) (p : Retransmits) (ready : AreReady s.sending.halves
       moves = λ was. elim (m.moves was) [ inl waits ↦ inl (dropped what kind c e es is none m waits) | inr went ↦ inr went ];
     };
     sends = λ c kind f is room m. record {
-      same = told_sending f c.state ∙ m.same;
+      same = λ r. told_reads (reset_frame r) (λ h limit. refl) f c.state r.0 ∙ m.same r;
       waited = λ r i. m.waited r ((without_fewer kind c.pending).resets r i);
       moves = λ was. elim (m.moves was) [
         | inl waits ↦ elim (or_cases (says what f) (listed_in what (without_first kind c.pending)) (sym (goes_listed kind c f is) ∙ waits)) [
@@ -655,7 +655,7 @@ module _ (s : StreamsState) (p : Retransmits) (ready : AreReady s.sending.halves
         | inr went ↦ inr (said_front what c.frames (f ∷ []) went)
       ];
     };
-  }) (control.no_frames used s p nothing_waits) (record { same = refl; waited = λ r i. i; moves = λ was. inl was })
+  }) (control.no_frames used s p nothing_waits) (record { same = λ r. refl; waited = λ r i. i; moves = λ was. inl was })
 
 module _ (e : End) (ready : AreReady e.streams.sending.halves.live e.waiting.frames) (what : Listed) (was : listed_in what e.waiting.frames ≡ true) where
   -- it waits still, or stands in a frame

@@ -336,7 +336,7 @@ module _ (took : List Packet) where
     arrivals_owed e now n frames came takes none tracked h = record {
       ignored = λ reason. h;
       noted = λ state reason. h;
-      takes = λ words state new fine mark. draws words (after_taken n (asks_in (map Ok frames)) mark (arrived e now n frames).end) passes;
+      takes = λ words state new fine urged mark. draws words (after_taken n (asks_in (map Ok frames)) urged mark (arrived e now n frames).end) passes;
       drains = λ words state new close is. draws words (drained_at n close (arrived e now n frames).end) passes;
       refuses = λ words state new f is. draws words (closed_by (reason_of f) (arrived e now n frames).end) passes;
       exhausts = λ state. h;

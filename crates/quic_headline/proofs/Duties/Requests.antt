@@ -359,7 +359,7 @@ module _ (took : List Packet) (own : List Sent) (n : ℕ) (stands : Stands took 
   arrivals_requested e now number frames came takes i = record {
     ignored = λ reason. i;
     noted = λ state reason. record { below = i.below; stand = i.stand };
-    takes = λ words state new none mark. record { below = after.1.stand.below; stand = after.1.stand.stand };
+    takes = λ words state new none urged mark. record { below = after.1.stand.below; stand = after.1.stand.stand };
     drains = λ words state new close is. record { below = after.1.stand.below; stand = after.1.stand.stand };
     refuses = λ words state new f is. record { below = after.1.stand.below; stand = after.1.stand.stand };
     exhausts = λ state. record { below = i.below; stand = i.stand };

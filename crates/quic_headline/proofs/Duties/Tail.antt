@@ -96,7 +96,7 @@ received_stays greatest = by_received (Stays greatest) (record {
     apart = λ f x is i. apart_leaves (Stays greatest) f x is (λ c. i) (λ c most. i);
     message = λ m x i. i;
   });
-  takes = λ n asks mark x i. i;
+  takes = λ n asks urged mark x i. i;
   closes = λ reason x i. i;
   drains = λ close x i. i;
   asks_close = λ x i. i;

@@ -217,7 +217,7 @@ module _ (done : ℕ → Wrote) where
 
   -- each case of a delivery
   pub arrivals_fly : (e : End) (now n : ℕ) (frames : List FrameValue) (came : Intake) → ((f : FrameValue) → In f frames → IsSmallLimit f) → TrackedEnds e.tracking.packets → Fly done e → Arrivals e now n frames came (λ (o : Outcome) (j : Intake). Fly done o.end)
-  arrivals_fly e now n frames came small ends i = record { ignored = λ reason. i; noted = λ state reason. i; takes = λ words state new none mark. after; drains = λ words state new close is. after; refuses = λ words state new f is. after; exhausts = λ state. i }
+  arrivals_fly e now n frames came small ends i = record { ignored = λ reason. i; noted = λ state reason. i; takes = λ words state new none urged mark. after; drains = λ words state new close is. after; refuses = λ words state new f is. after; exhausts = λ state. i }
     where
       after : Fly done (arrived e now n frames).end
       after = frames_fly frames (begun e now n) small ends i

@@ -289,6 +289,7 @@ module _ (first : ℕ → ℕ) (id w : ℕ) where
     fresh = λ j limit f n. (nothing_lawful, λ same. (let none = n same in record { ready = refl; written = sym none; within = omega arith }));
     over = λ j h i ended same. over_not h.finished h.reset (h.end_acked && is_fully_acked h.buffer) (i.1 same).ready ended;
     blocked = λ j h b i. (i.0, λ same. (let k = i.1 same in record { ready = k.ready; written = k.written; within = k.within }));
+    noted = λ j h said i. (i.0, λ same. (let k = i.1 same in record { ready = k.ready; written = k.written; within = k.within }));
     placed = λ j h p i. (i.0, λ same. (let k = i.1 same in record { ready = k.ready; written = k.written; within = k.within }));
   }
 

@@ -114,7 +114,7 @@ module _ (e : End) (i : Intake) (n : ℕ) (told : Bool) (h : MailHolds n told e)
   mail_arrives now s alone = record {
     ignored = λ reason. none_more e i (none_new i) same;
     noted = λ state reason. none_more _ i (none_new i) (record { fewer = λ open_now. h.fewer open_now; waits = same.waits });
-    takes = λ words state new none mark. taken state none _ refl refl;
+    takes = λ words state new none urged mark. taken state none _ refl refl;
     drains = λ words state new close is. none_brought _ (closed_alone s.frames (begun e now s.number) close alone is) (record { fewer = λ open_now. cc; waits = λ some not. frames_tell s.frames (begun e now s.number) (same.waits some not) });
     refuses = λ words state new f fault. none_more _ (with_refused i s.number s.frames) (none_new i) (record { fewer = λ open_now. cc; waits = λ some not. frames_tell s.frames (begun e now s.number) (same.waits some not) });
     exhausts = λ state. none_more _ i (none_new i) (record { fewer = λ open_now. cc; waits = same.waits });

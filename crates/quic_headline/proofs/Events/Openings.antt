@@ -178,7 +178,7 @@ module _ (B : Way) (b : IsHearing B) (dir : Dir) (x y : Party) where
       arrives now s = record {
         ignored = λ reason is. (is, inl refl);
         noted = λ state reason is. (is, inl refl);
-        takes = λ words state new none mark is. ((all now s is).1, inr (state, (all now s is).0));
+        takes = λ words state new none urged mark is. ((all now s is).1, inr (state, (all now s is).0));
         drains = λ words state new close fault is. ((all now s is).1, inr (state, (all now s is).0));
         refuses = λ words state new f fault is. ((all now s is).1, inl refl);
         exhausts = λ state is. (is, inl refl);

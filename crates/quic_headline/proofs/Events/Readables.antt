@@ -501,7 +501,7 @@ module _ (B : Way) (b : IsReadying B) (id : ℕ) (x y : Party) (call : Call) (a 
   arrives now s alone = record {
     ignored = λ reason. quiet x.end came (none_new came) (λ has. has);
     noted = λ state reason. quiet (with_closing (with_numbers x.end (number_opened x.end.numbers s.number)) (close_asked x.end.closing)) came (none_new came) (λ has. has);
-    takes = λ words state new none mark. (frames_have id s.frames (begun x.end now s.number), λ is reads alive. taken state none is reads (alive (frames_open s.frames (begun x.end now s.number) state)), λ is reads. taken_reset state none is reads);
+    takes = λ words state new none urged mark. (frames_have id s.frames (begun x.end now s.number), λ is reads alive. taken state none is reads (alive (frames_open s.frames (begun x.end now s.number) state)), λ is reads. taken_reset state none is reads);
     drains = λ words state new close is. (frames_have id s.frames (begun x.end now s.number), (λ brought reads alive. absurd (both_ways _ (none_brought close is) brought)), λ reset reads. absurd (both_ways _ (none_reset close is) reset));
     refuses = λ words state new f fault. quiet (drawn words (closed_by (reason_of f) (frame_cases.passed s.frames (begun x.end now s.number)).end)) (with_refused came s.number s.frames) (none_new came) (frames_have id s.frames (begun x.end now s.number));
     exhausts = λ state. quiet (exhausted now x.end) came (none_new came) (λ has. has);

@@ -158,7 +158,7 @@ module _ (B : Way) (b : IsAwaiting B) (id : ℕ) (x y : Party) (call : Call) (a 
   arrives now s = record {
     ignored = λ reason. quiet x.end (λ still. still) (λ tells. tells);
     noted = λ state reason still. (let clash : states.Closing ≡ states.Open = sym state ∙ still in cc);
-    takes = λ words state new none mark still. (state, taken state none);
+    takes = λ words state new none urged mark still. (state, taken state none);
     drains = λ words state new close fault still. cc;
     refuses = λ words state new f fault still. cc;
     exhausts = λ state still. cc;

@@ -66,7 +66,7 @@ grown_call B w x y call a c i = by_coming x y a c.joined c.served (meets y x (w.
       record {
         ignored = λ reason. i;
         noted = λ state reason. i;
-        takes = λ words state new none mark. record { all = record { bytes = after.all.bytes; counts = after.all.counts }; each = after.each };
+        takes = λ words state new none urged mark. record { all = record { bytes = after.all.bytes; counts = after.all.counts }; each = after.each };
         drains = λ words state new close fault. record { all = record { bytes = after.all.bytes; counts = after.all.counts }; each = after.each };
         refuses = λ words state new f fault. record { all = record { bytes = after.all.bytes; counts = after.all.counts }; each = after.each };
         exhausts = λ state. i;

@@ -17,7 +17,7 @@ use Rattle.quic_streams_parts.specs.declared.answers.ClosedStream.{ClosedStream}
 use Rattle.quic_streams_parts.specs.declared.answers.Written.{Written}
 use Rattle.quic_streams_parts.specs.Dirs.{Counts, Flags, of}
 use Rattle.quic_streams_parts.specs.Events.{with_opened}
-use Rattle.quic_streams_parts.specs.SendHalf.{SendHalf, is_acked, half_acked}
+use Rattle.quic_streams_parts.specs.SendHalf.{SendHalf, was_said, is_acked, half_acked}
 use Rattle.quic_streams_parts.specs.RecvHalf.{RecvHalf, after_frame, after_reset_stream}
 use Rattle.quic_retransmits.specs.Retransmits.{Retransmits}
 use Rattle.quic_streams_state.specs.declared.state.StreamsState.{StreamsState}
@@ -101,7 +101,7 @@ module _ (K : Receiving → Counts → Counts → Counts → Bool → Flags → 
 
     blocked_keeps : (o : Option SendHalf) (s : StreamsState) (p : Retransmits) (id : ℕ) → Kept s p → KeptIn (blocked_at o s p id)
     blocked_keeps None s p id i = i
-    blocked_keeps (Some h) s p id i = either (room s.sending == 0) (blocked_by_all s p id h) (blocked_by_own s p id) (joined_keeps s p id h i) i
+    blocked_keeps (Some h) s p id i = either (room s.sending == 0) (blocked_by_all s p id h) (blocked_by_own s p id h) (joined_keeps s p id h i) (either (was_said h.said h.limit) _ _ i i)
 
     accepted_keeps : (o : Option SendHalf) (s : StreamsState) (p : Retransmits) (id : ℕ) (bytes : List ℕ) → Kept s p → Kept (accepted_at o s id bytes) p
     accepted_keeps None s p id bytes i = i

@@ -9,7 +9,7 @@ use Rattle.std.specs.Ordering.{nat_cmp}
 use Rattle.std.proofs.lemmas.Bool.{leb-true, or_cases, cases_eq}
 use Rattle.quic_wire_core.specs.declared.stream_id.Dir.{Dir}
 use Rattle.quic_wire_core.specs.declared.stream_id.Dir.TheVariants.{Bi, Uni}
-use Rattle.quic_wire.specs.Value.{FrameValue, max_data, max_stream_data, max_streams}
+use Rattle.quic_wire.specs.Value.{FrameValue, max_data, max_stream_data, max_streams, data_blocked, stream_data_blocked}
 use Rattle.quic_wire.specs.FrameView.{is_one_way}
 use Rattle.quic_assembler.specs.declared.assembler.Chunk.{Chunk}
 use Rattle.quic_streams_parts.specs.declared.answers.ReadError.{ReadError}
@@ -30,7 +30,7 @@ use Rattle.quic_streams_state.specs.Control as control
 use Rattle.quic_streams_laws.specs.KindLaws.{GoesFirst, first_others, flag_first, without_of}
 use Rattle.quic_streams_laws.specs.ControlWalk.{by_control}
 use Rattle.quic_streams_laws.specs.Quiet.{IsQuiet, IsSentWithin}
-use Rattle.quic_streams_laws.specs.QuietLaws.{is_quiet}
+use Rattle.quic_streams_laws.specs.QuietLaws.{is_quiet, by_told}
 use Rattle.quic_streams_laws.specs.KeepingLaws.{by_accept, by_read_begun, by_next, by_stop, by_received_reset, by_stream, by_reset_frame, by_frame}
 use Rattle.quic_streams_laws.specs.ContentLaws.{by_next_answer}
 use Rattle.quic_streams_laws.specs.LimitedLaws.{sum_with}
@@ -254,6 +254,10 @@ count_told Bi Uni o flags was grew = was Uni grew
 count_told Uni Bi o flags was grew = was Bi grew
 count_told Uni Uni o flags was grew = let past = leb-true (raised_count Uni o + least_growth o.configured.uni) (raised_count Uni o) grew in absurd (omega arith)
 
+-- that a limit is used up was told
+told_each : (c : control.Draft) (f : FrameValue) → Grown (IsListed c.pending.max_stream_data) c.state → Grown (IsListed c.pending.max_stream_data) (control.frame_told f c.state)
+told_each c f i = by_told (Grown (IsListed c.pending.max_stream_data)) (grown_kept (IsListed c.pending.max_stream_data)) f c.state i
+
 -- once a frame went: only those that tell a limit change what has to wait
 sends_wait : (c : control.Draft) (f : FrameValue) → control.Goes c.pending c.state f → Waits (streams_of c.state c.pending) → Waits (streams_of (control.frame_told f c.state) (without_of (control.kind_of f) c.pending))
 sends_wait c (max_data limit) goes w = record { all = record { bytes = none; counts = w.all.counts }; each = grown_kept (IsListed c.pending.max_stream_data) changes.tells c.state tt w.each }
@@ -278,6 +282,8 @@ sends_wait c (max_stream_data f) goes w =
       };
       each = told_once (IsListed ids) (IsListed (others_of ids)) c.state f.id (λ j ne listed. others_listed f.id (others_of ids) j ne (subst (λ l. IsListed l j) (first_others ids f.id goes.1) listed)) w.each;
     }
+sends_wait c (data_blocked limit) goes w = record { all = record { bytes = w.all.bytes; counts = w.all.counts }; each = told_each c (data_blocked limit) w.each }
+sends_wait c (stream_data_blocked f) goes w = record { all = record { bytes = w.all.bytes; counts = w.all.counts }; each = told_each c (stream_data_blocked f) w.each }
 sends_wait c f goes w = record { all = record { bytes = w.all.bytes; counts = w.all.counts }; each = w.each }
 
 -- what is due goes

@@ -7,7 +7,7 @@ use Rattle.quic_streams_parts.specs.declared.answers.WriteError.{WriteError}
 use Rattle.quic_streams_parts.specs.declared.answers.WriteError.TheVariants as write_errors
 use Rattle.quic_streams_parts.specs.declared.answers.Written.{Written}
 use Rattle.quic_streams_parts.specs.Dirs.{is_own}
-use Rattle.quic_streams_parts.specs.SendHalf.{SendHalf}
+use Rattle.quic_streams_parts.specs.SendHalf.{SendHalf, was_said}
 use Rattle.quic_streams_halves.specs.Halves.{is_done}
 use Rattle.quic_retransmits.specs.Retransmits.{Retransmits}
 use Rattle.quic_streams_state.specs.declared.state.StreamsState.{StreamsState}
@@ -71,7 +71,7 @@ small_kept c s may i = i
 
 small_blocked : (o : Option SendHalf) (s : StreamsState) (p : Retransmits) (id : ℕ) → HasSmallLimit s → HasSmallLimit (blocked_at o s p id).state
 small_blocked None s p id i = i
-small_blocked (Some h) s p id i = small_both (room s.sending == 0) (blocked_by_all s p id h) (blocked_by_own s p id) (small_joined s id h i) i
+small_blocked (Some h) s p id i = small_both (room s.sending == 0) (blocked_by_all s p id h) (blocked_by_own s p id h) (small_joined s id h i) (small_both (was_said h.said h.limit) _ _ i i)
 
 small_accepted : (o : Option SendHalf) (s : StreamsState) (id : ℕ) (bytes : List ℕ) → HasSmallLimit s → HasSmallLimit (accepted_at o s id bytes)
 small_accepted None s id bytes i = i
@@ -161,7 +161,7 @@ small_arrivals : (e : End) (now n : ℕ) (frames : List FrameValue) (came : Inta
 small_arrivals e now n frames came small i = record {
   ignored = λ reason. i;
   noted = λ state reason. i;
-  takes = λ words state new none mark. small_frames frames (begun e now n) small i;
+  takes = λ words state new none urged mark. small_frames frames (begun e now n) small i;
   drains = λ words state new close is. small_frames frames (begun e now n) small i;
   refuses = λ words state new f is. small_frames frames (begun e now n) small i;
   exhausts = λ state. i;

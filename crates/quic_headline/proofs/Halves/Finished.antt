@@ -128,7 +128,7 @@ module _ (took : List Packet) (sents : List Sent) (stands : Stands took sents) (
   -- so do all frames of a packet, taken or refused, whose ACK frames name packets that were taken
   pub finished_arrivals : (e : End) (now n : ℕ) (frames : List FrameValue) (came : Intake) → ((a : AckValue) → In (ack a) frames → NamesTaken took a) → ((f : FrameValue) → In f frames → IsSmallLimit f) → AreTracked sents e.tracking.packets → Holds e
       → Arrivals e now n frames came (λ (o : Outcome) (i : Intake). Holds o.end)
-  finished_arrivals e now n frames came names small tracked i = record { ignored = λ reason. i; noted = λ state reason. i; takes = λ words state new none mark. after; drains = λ words state new close is. after; refuses = λ words state new f is. after; exhausts = λ state. i }
+  finished_arrivals e now n frames came names small tracked i = record { ignored = λ reason. i; noted = λ state reason. i; takes = λ words state new none urged mark. after; drains = λ words state new close is. after; refuses = λ words state new f is. after; exhausts = λ state. i }
     where
       after : Holds (frames_arrived e now n frames).end
       after = frames_settle took sents stands frames Holds (record {

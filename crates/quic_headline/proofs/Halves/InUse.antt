@@ -139,6 +139,7 @@ module _ (r : ℕ × ℕ) where
     code = u.code;
   }
   in_use_kept (changes.joins id h) s is u = joined_kept s id h is u
+  in_use_kept (changes.notes_on id h said) s is u = with_kept s id h (record h { said = said }) is (λ some. refl) u
   in_use_kept (changes.passes id ids) s may u = unblocked_kept s.sending.halves.live id u
   in_use_kept (changes.ends_sending id h) s (is, over) u = done_same (not (is_own s.side id) && is_done (receiving_status s id)) id (without_send s id) (done_kept s id h is over u)
   in_use_kept (changes.ends_receiving id h) s may u = done_same (not (is_own s.side id) && (not (is_two_way (dir_of id)) || is_done (sending_status s id))) id _ u

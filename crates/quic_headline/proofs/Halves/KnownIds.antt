@@ -209,7 +209,7 @@ pub written_arrivals : (e : End) (now n : ℕ) (frames : List FrameValue) (came 
 written_arrivals e now n frames came small w = record {
   ignored = λ reason. w;
   noted = λ state reason. w;
-  takes = λ words state new none mark. after;
+  takes = λ words state new none urged mark. after;
   drains = λ words state new close is. after;
   refuses = λ words state new f is. after;
   exhausts = λ state. w;

@@ -14,7 +14,7 @@ use Rattle.quic_streams_parts.specs.declared.answers.ReadError.{ReadError}
 use Rattle.quic_streams_parts.specs.declared.answers.ReadError.TheVariants as read_errors
 use Rattle.quic_streams_parts.specs.declared.answers.ClosedStream.{ClosedStream}
 use Rattle.quic_streams_parts.specs.Table.{at}
-use Rattle.quic_streams_parts.specs.SendHalf.{SendHalf, written_on, is_ready, written_to, taken_unless, reset_now, requeued_at}
+use Rattle.quic_streams_parts.specs.SendHalf.{SendHalf, was_said, written_on, is_ready, written_to, taken_unless, reset_now, requeued_at}
 use Rattle.quic_streams_parts.specs.RecvHalf.{RecvHalf, new_recv_half}
 use Rattle.quic_retransmits.specs.Retransmits.{Retransmits}
 use Rattle.quic_streams_halves.specs.Halves.{half_of, status_from, has_place}
@@ -118,7 +118,8 @@ module _ (r : ℕ × ℕ) (s : StreamsState) (p : Retransmits) (bounded : (id : 
 module _ (s : StreamsState) (p : Retransmits) where
   blocked_same : (o : Option SendHalf) (id : ℕ) → SamePile p (blocked_at o s p id).pending
   blocked_same None id = same_pile p
-  blocked_same (Some h) id = both p (room s.sending == 0) _ _ (record { resets = refl; stops = refl; ids = refl; retired = refl; requests = refl }) (record { resets = refl; stops = refl; ids = refl; retired = refl; requests = refl })
+  blocked_same (Some h) id = both p (room s.sending == 0) _ _ (record { resets = refl; stops = refl; ids = refl; retired = refl; requests = refl })
+      (both p (was_said h.said h.limit) _ _ (same_pile p) (record { resets = refl; stops = refl; ids = refl; retired = refl; requests = refl }))
 
   written_same : (answer : Result ℕ WriteError) (id : ℕ) (bytes : List ℕ) → SamePile p (written_by answer s p id bytes).pending
   written_same (Ok n) id bytes = same_pile p

@@ -12,7 +12,6 @@ use Rattle.quic_wire.specs.Writing.{Fits}
 use Rattle.quic_streams_parts.specs.Table.{Table, put, added, without}
 use Rattle.quic_streams_parts.specs.SendHalf.{SendHalf, frame_of}
 use Rattle.quic_retransmits.specs.Retransmits.{Retransmits, first_of}
-use Rattle.quic_streams_state.specs.State.{Sending}
 use Rattle.quic_streams_state.specs.declared.state.StreamsState.{StreamsState}
 use Rattle.quic_streams_state.specs.Control.{without_first, told_id, issued_in, Goes}
 use Rattle.quic_streams_laws.specs.KeepingLaws.{by_frame}
@@ -23,7 +22,6 @@ use Rattle.quic_machine.specs.End.{End, with_closing, with_ping, with_immediate,
 use Rattle.quic_machine.specs.Acked.{again}
 use Rattle.quic_machine.specs.Poll.{Polled, Draft, packet_of, tracked, record_moved, polled, goes, draft_as, Leaving, request_of, after_request}
 use Rattle.quic_machine.specs.PollCases.{ready_at, draft_at, by_poll_to, composes, may_leave_at}
-use Rattle.quic_streams_laws.specs.QuietLaws.{told_sending}
 use Rattle.quic_machine.specs.DraftLaws.{Writing, by_leave, MayLeave}
 use Rattle.quic_machine.specs.Puts as puts
 use Rattle.quic_headline.specs.Runs.{In}
@@ -32,6 +30,7 @@ use Rattle.quic_headline.proofs.Packets.Closes.{by_closes}
 use Rattle.quic_headline.proofs.Packets.Carried.{carried_same}
 use Rattle.quic_headline.proofs.Packets.TrackedSteps.{in_sent, asking_packets}
 use Rattle.quic_headline.proofs.Packets.Probes.{in_put, by_ready, by_going, after_going, with_pacer}
+use Rattle.quic_headline.proofs.Packets.MayGo.{told_reset}
 use Rattle.quic_headline.proofs.Packets.Ascending.{Splits, put_splits, Ascends}
 use Rattle.quic_headline.proofs.Places.Told.{in_left, in_right, in_append}
 use Rattle.quic_headline.proofs.Halves.InUse.{InUse, in_use_kept}
@@ -114,9 +113,8 @@ module _ (resets : List (ℕ × ℕ)) (stops : List StopSendingValue) where
       keep (puts.control kind f) d is g =
           let w : Retransmits = d.end.waiting.frames in
           let m = goes_moves kind w d.end.streams f is in
-          let same = told_sending f d.end.streams in
           record {
-            pile = subst (λ (q : Sending). IsPile q.halves.live ((without_first kind w).reset_stream ++ (resets_in (d.frames ++ f ∷ []) ++ resets)) ((without_first kind w).stop_sending ++ (stops_in (d.frames ++ f ∷ []) ++ stops))) (sym same) (moved d (without_first kind w) f m g);
+            pile = (let now = moved d (without_first kind w) f m g in record { once = now.once; reset = λ r i. told_reset f d.end.streams r (now.reset r i); small = now.small });
             others = moved_else w (without_first kind w) f m g.others;
           }
       keep (puts.stream id h room) d (found, first, some, is, counts) g = other_frame d (stream (frame_of id h room)) _ refl refl (record {

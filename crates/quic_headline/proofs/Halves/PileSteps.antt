@@ -361,7 +361,7 @@ pub arrivals_hold : (e : End) (now n : ℕ) (frames : List FrameValue) (came : I
 arrivals_hold e now n frames came small w h = record {
   ignored = λ reason. h;
   noted = λ state reason. again_all e _ refl refl refl h;
-  takes = λ words state new none mark. (let x : End = after_taken n (asks_in (map Ok frames)) mark left in drawn_holds words x (again_all left x refl refl refl after));
+  takes = λ words state new none urged mark. (let x : End = after_taken n (asks_in (map Ok frames)) urged mark left in drawn_holds words x (again_all left x refl refl refl after));
   drains = λ words state new close is. (let x : End = drained_at n close left in drawn_holds words x (again_all left x refl refl refl after));
   refuses = λ words state new f is. (let x : End = closed_by (reason_of f) left in drawn_holds words x (again_all left x refl refl refl after));
   exhausts = λ state. again_all e _ refl refl refl h;

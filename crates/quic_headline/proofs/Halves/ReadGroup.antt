@@ -65,7 +65,7 @@ holds_arrivals : (side : Side) (done : ℕ → Wrote) (r : ℕ → Reads) (accep
 holds_arrivals side done r accepted e now n frames i says alone h = record {
   ignored = λ reason. h;
   noted = λ state reason. record { reads = h.reads; accepted_are = h.accepted_are; brought = h.brought };
-  takes = λ words state new none mark. record {
+  takes = λ words state new none urged mark. record {
     reads = frames_read done r frames (begun e now n) says h.reads;
     accepted_are = frames_accepted accepted frames (begun e now n) h.accepted_are;
     brought = frames_bring side (WasIn i.took) (WasIn (with_taken i n frames).took) frames (begun e now n) among none h.brought;
@@ -150,7 +150,7 @@ module _ (B : Way) (w : IsWriting B) where
         comes = λ delivery is s among. (let cases = holds_arrivals x.side (wrote y.told) (read x.told) (λ id. In id (accepts x.told)) x.end delivery.now s.number s.frames (came_to x y) (w.says y x c.takes s among) ((w.packets y x c.takes).alone s among) before in record {
           ignored = λ reason. at_once delivery _ _ is (cases.ignored reason);
           noted = λ closing reason. at_once delivery _ _ is (cases.noted closing reason);
-          takes = λ words open_there new none mark. at_once delivery _ _ is (cases.takes words open_there new none mark);
+          takes = λ words open_there new none urged mark. at_once delivery _ _ is (cases.takes words open_there new none urged mark);
           drains = λ words open_there new close fault. at_once delivery _ _ is (cases.drains words open_there new close fault);
           refuses = λ words open_there new f fault. at_once delivery _ _ is (cases.refuses words open_there new f fault);
           exhausts = λ open_there. at_once delivery _ _ is (cases.exhausts open_there);

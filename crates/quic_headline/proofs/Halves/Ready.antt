@@ -89,7 +89,7 @@ calls_ready x y call a c ready = by_coming x y a c.joined c.served (meets y x c.
         record {
           ignored = λ reason. (all.ignored reason, known.ignored reason);
           noted = λ state reason. (all.noted state reason, known.noted state reason);
-          takes = λ words state new none mark. (all.takes words state new none mark, known.takes words state new none mark);
+          takes = λ words state new none urged mark. (all.takes words state new none urged mark, known.takes words state new none urged mark);
           drains = λ words state new close is. (all.drains words state new close is, known.drains words state new close is);
           refuses = λ words state new f is. (all.refuses words state new f is, known.refuses words state new f is);
           exhausts = λ state. (all.exhausts state, known.exhausts state);

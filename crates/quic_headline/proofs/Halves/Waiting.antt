@@ -9,7 +9,7 @@ use Rattle.quic_streams_parts.specs.declared.answers.WriteError.TheVariants as w
 use Rattle.quic_streams_parts.specs.declared.answers.Written.{Written}
 use Rattle.quic_streams_parts.specs.declared.answers.Breach.{Breach}
 use Rattle.quic_streams_parts.specs.declared.answers.ClosedStream.{ClosedStream}
-use Rattle.quic_streams_parts.specs.SendHalf.{SendHalf, is_acked, half_acked}
+use Rattle.quic_streams_parts.specs.SendHalf.{SendHalf, was_said, is_acked, half_acked}
 use Rattle.quic_streams_parts.specs.RecvHalf.{RecvHalf}
 use Rattle.quic_retransmits.specs.Retransmits.{Retransmits}
 use Rattle.quic_streams_state.specs.declared.state.StreamsState.{StreamsState}
@@ -32,7 +32,7 @@ both p false x y on off = off
 module _ (s : StreamsState) (p : Retransmits) where
   blocked_same : (o : Option SendHalf) (id : ℕ) → SameResets p (blocked_at o s p id)
   blocked_same None id = refl
-  blocked_same (Some h) id = both p (room s.sending == 0) _ _ refl refl
+  blocked_same (Some h) id = both p (room s.sending == 0) _ _ refl (both p (was_said h.said h.limit) _ _ refl refl)
 
   written_same : (answer : Result ℕ WriteError) (id : ℕ) (bytes : List ℕ) → SameResets p (written_by answer s p id bytes)
   written_same (Ok n) id bytes = refl

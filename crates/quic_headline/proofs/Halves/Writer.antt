@@ -178,7 +178,7 @@ module _ (x y : Party) (p : PacketsHold x y) (back : PacketsHold y x) (say : Say
   arrivals_write now s among = record {
     ignored = λ reason. w;
     noted = λ state reason. w;
-    takes = λ words state new none mark. (let a = passed_writes in record { keeps = a.keeps; waits = a.waits });
+    takes = λ words state new none urged mark. (let a = passed_writes in record { keeps = a.keeps; waits = a.waits });
     drains = λ words state new close is. (let a = passed_writes in record { keeps = a.keeps; waits = a.waits });
     refuses = λ words state new f is. (let a = passed_writes in record { keeps = a.keeps; waits = a.waits });
     exhausts = λ state. w;

@@ -24,6 +24,7 @@ use Rattle.quic_headline.specs.Runs.{In, written, ended, reset}
 use Rattle.quic_headline.specs.Observer.{Sent, HoldsOffset, HoldsEnd}
 use Rattle.quic_headline.specs.InFlight.{offsets_in, all_offsets}
 use Rattle.quic_headline.specs.Duties.{Duty, Offset, Fin, AnyIn, Carries}
+use Rattle.quic_headline.proofs.Packets.Acked.{acks}
 use Rattle.quic_headline.proofs.Packets.Waited.{AreWaited}
 use Rattle.quic_headline.proofs.Packets.Sight.{Sight}
 use Rattle.quic_headline.proofs.Places.Parties.{Party, watch_of}
@@ -34,7 +35,7 @@ use Rattle.quic_headline.proofs.Duties.UnderWay.{InPackets}
 use Rattle.quic_headline.proofs.Duties.Group.{Flying}
 use Rattle.quic_headline.proofs.Duties.Ledger.{pending_queued, waiting_pending, not_reset}
 use Rattle.quic_headline.proofs.Settled.Carried.{waited_offsets}
-use Rattle.quic_headline.proofs.Settled.Group.{Settled, Open, acks, told_so}
+use Rattle.quic_headline.proofs.Settled.Group.{Settled, Open, told_so}
 
 -- ---- what stands in tracked packets stands in datagrams in flight
 

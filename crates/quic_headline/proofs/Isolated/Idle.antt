@@ -39,7 +39,7 @@ use Rattle.quic_machine.specs.Control.{Control, after_told}
 use Rattle.quic_machine.specs.Opens.{own_id_length, would_open}
 use Rattle.quic_machine.specs.Closing.{ticked}
 use Rattle.quic_wire.specs.Items.{items}
-use Rattle.quic_machine.specs.Receive.{Fault, dropped, asks_in, ends_as, take_payload, by_state, opened_to, opened_as, opening, headed, received_in, received, told_by_state, told_opened, told_opened_as, told_headed, told_received_in, told_received, broke, too_many_pieces, closed_by_peer, unopened_in, is_read, drawn_if}
+use Rattle.quic_machine.specs.Receive.{Fault, dropped, asks_in, is_urged, ends_as, take_payload, by_state, opened_to, opened_as, opening, headed, received_in, received, told_by_state, told_opened, told_opened_as, told_headed, told_received_in, told_received, broke, too_many_pieces, closed_by_peer, unopened_in, is_read, drawn_if}
 use Rattle.quic_machine.specs.Heard.{Heard}
 use Rattle.quic_machine.specs.Machine.{IsAnswer, IsDelivered, injected_if, after_call, after_delivered, told_delivered, tells, gives, fails, reads_window, end_left, IsLeft, IsTold, IsHeard, heard_by, World, Policies, policy_at, end_at, end_met, control_at, heard_at, given_by, changed, IsStep, says_last, after_injected_if}
 use Rattle.quic_machine.specs.declared.answers.Received.{Received}
@@ -63,17 +63,18 @@ reads states.Drained = false
 reads states.Failed = false
 
 -- what is taken, or refused, isn't dropped
-ends_taken : (fault : Option Fault) (asking : Bool) (n : ℕ) (mark : Option EcnCodepoint) (e : End) (reason : DropReason) → (ends_as fault asking n mark e).answer ≡ Dropped reason → ⊥
-ends_taken None asking n mark e reason is = cc
-ends_taken (Some (closed_by_peer close)) asking n mark e reason is = cc
-ends_taken (Some (broke error)) asking n mark e reason is = cc
-ends_taken (Some too_many_pieces) asking n mark e reason is = cc
+ends_taken : (fault : Option Fault) (asking urged : Bool) (n : ℕ) (mark : Option EcnCodepoint) (e : End) (reason : DropReason) → (ends_as fault asking urged n mark e).answer ≡ Dropped reason → ⊥
+ends_taken None asking urged n mark e reason is = cc
+ends_taken (Some (closed_by_peer close)) asking urged n mark e reason is = cc
+ends_taken (Some (broke error)) asking urged n mark e reason is = cc
+ends_taken (Some too_many_pieces) asking urged n mark e reason is = cc
 
 -- an end that reads what opens drops what is new only where it closes
 state_drops : (state : State) (o : Opening) (arrival : Arrival) (e : End) (reason : DropReason) → reads state ≡ true → (by_state state o arrival e).answer ≡ Dropped reason → drops_whole reason ≡ true → ⊥
 state_drops states.Open o arrival e reason reading is whole =
-    let p = take_payload o.first (items o.payload) (with_closing e (ticked e.closing arrival.now)) in
-    ends_taken p.fault (asks_in (items o.payload)) o.number arrival.mark p.end reason is
+    let begins : End = with_closing e (ticked e.closing arrival.now) in
+    let p = take_payload o.first (items o.payload) begins in
+    ends_taken p.fault (asks_in (items o.payload)) (is_urged arrival.mark (items o.payload) begins) o.number arrival.mark p.end reason is
 state_drops states.Closing o arrival e reason reading is whole =
     let same : reason ≡ drops.Closing = cc in
     let clash : ◌≡◌ {A = Bool} false true = subst (λ (x : DropReason). drops_whole x ≡ true) same whole in

@@ -31,7 +31,7 @@ use Rattle.quic_machine.specs.Closing.{ticked}
 use Rattle.quic_machine.specs.End.{End, with_closing, closed_by, with_numbers}
 use Rattle.quic_machine.specs.Control.{Control}
 use Rattle.quic_machine.specs.Opens.{own_id_length, in_phase, opens_behind}
-use Rattle.quic_machine.specs.Receive.{Fault, broke, too_many_pieces, closed_by_peer, Progress, Outcome, error_of, reason_of, violation, is_empty, asks_in, take_frame, take_items, take_payload, dropped, ends_as, by_state, is_read, drawn_if, with_ids_drawn, unopened_in, opened_as, opening, drop_of, headed, received_in, received}
+use Rattle.quic_machine.specs.Receive.{Fault, broke, too_many_pieces, closed_by_peer, Progress, Outcome, error_of, reason_of, violation, is_empty, asks_in, is_urged, take_frame, take_items, take_payload, dropped, ends_as, by_state, is_read, drawn_if, with_ids_drawn, unopened_in, opened_as, opening, drop_of, headed, received_in, received}
 use Rattle.quic_machine.specs.Poll.{Polled, Draft, polled, draft_as, lazied_as, Leaving, whole}
 use Rattle.quic_machine.specs.DraftLaws.{Writing, by_leave, MayLeave}
 use Rattle.quic_machine.specs.Puts as puts
@@ -173,9 +173,9 @@ expected_after (Some m) n x e = omega arith
 
 -- all frames were taken of a packet that is new to an open end, or the peer closed, or one was at
 -- fault: the end isn't open then
-ends_keeps : (fault : Option Fault) (asking : Bool) (mark : Option EcnCodepoint) (e x : End) (o : Opening) (i : Intake) → e.closing.state ≡ states.Open → Keeps e i → Begun e o.number x
-    → Keeps (ends_as fault asking o.number mark x).end (with_new o (answers.Deliver (ends_as fault asking o.number mark x).answer) i)
-ends_keeps fault asking mark e x o i is_open k b = go fault
+ends_keeps : (fault : Option Fault) (asking urged : Bool) (mark : Option EcnCodepoint) (e x : End) (o : Opening) (i : Intake) → e.closing.state ≡ states.Open → Keeps e i → Begun e o.number x
+    → Keeps (ends_as fault asking urged o.number mark x).end (with_new o (answers.Deliver (ends_as fault asking urged o.number mark x).answer) i)
+ends_keeps fault asking urged mark e x o i is_open k b = go fault
   where
     came : Intake
     came = with_new o (answers.Deliver receives.Taken) i
@@ -190,8 +190,8 @@ ends_keeps fault asking mark e x o i is_open k b = go fault
     refused : (f : Fault) → Keeps (closed_by (reason_of f) x) (with_new o (answers.Deliver (receives.Closed (error_of f))) i)
     refused f = record { seen = λ is. absurd cc; further = []; noted = noted; expected = ap (λ (t : Option ℕ). after_greatest t) b.taken_same ∙ k.expected }
 
-    go : (f : Option Fault) → Keeps (ends_as f asking o.number mark x).end (with_new o (answers.Deliver (ends_as f asking o.number mark x).answer) i)
-    go None = by_taken (λ (y : End). Keeps y came) o.number asking mark x (λ idle alive. record { seen = λ still. noted; further = []; noted = noted; expected = counts })
+    go : (f : Option Fault) → Keeps (ends_as f asking urged o.number mark x).end (with_new o (answers.Deliver (ends_as f asking urged o.number mark x).answer) i)
+    go None = by_taken (λ (y : End). Keeps y came) o.number asking urged mark x (λ idle alive. record { seen = λ still. noted; further = []; noted = noted; expected = counts })
     go (Some (closed_by_peer close)) = record { seen = λ is. absurd cc; further = []; noted = noted; expected = counts }
     go (Some (broke error)) = refused (broke error)
     go (Some too_many_pieces) = refused too_many_pieces
@@ -200,8 +200,9 @@ ends_keeps fault asking mark e x o i is_open k b = go fault
 state_keeps : (state : State) (o : Opening) (arrival : Arrival) (e : End) (i : Intake) → e.closing.state ≡ state → state ≡ states.Open → Keeps e i
     → Keeps (by_state state o arrival (with_numbers e (number_opened e.numbers o.number))).end (with_new o (answers.Deliver (by_state state o arrival (with_numbers e (number_opened e.numbers o.number))).answer) i)
 state_keeps states.Open o arrival e i here is_open k =
-    let p : Progress = take_payload o.first (items o.payload) (begun e arrival.now o.number) in
-    ends_keeps p.fault (asks_in (items o.payload)) arrival.mark e p.end o i here k (payload_begun e o.number arrival.now o.first (items o.payload))
+    let begins : End = begun e arrival.now o.number in
+    let p : Progress = take_payload o.first (items o.payload) begins in
+    ends_keeps p.fault (asks_in (items o.payload)) (is_urged arrival.mark (items o.payload) begins) arrival.mark e p.end o i here k (payload_begun e o.number arrival.now o.first (items o.payload))
 state_keeps states.Closing o arrival e i here is_open k = absurd cc
 state_keeps states.Drained o arrival e i here is_open k = absurd cc
 state_keeps states.Failed o arrival e i here is_open k = absurd cc

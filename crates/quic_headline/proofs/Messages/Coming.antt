@@ -123,7 +123,7 @@ comes_arrivals : (e : End) (now : ℕ) (s : Sent) (i : Intake) (sents : List Sen
 comes_arrivals e now s i sents told among before = record {
   ignored = λ reason. before;
   noted = λ state reason. record { most = before.most };
-  takes = λ words state new none mark. record { most = brought new };
+  takes = λ words state new none urged mark. record { most = brought new };
   drains = λ words state new close is. record { most = brought new };
   refuses = λ words state new f is. record { most = brought new };
   exhausts = λ state. record { most = before.most };

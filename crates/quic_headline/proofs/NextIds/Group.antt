@@ -117,7 +117,7 @@ holds_arrivals : (e : End) (now n : ℕ) (frames : List FrameValue) (i : Intake)
 holds_arrivals e now n frames i used asks h = record {
   ignored = λ reason. h;
   noted = λ state reason opened. (let clash : states.Closing ≡ states.Open = sym state ∙ opened in cc);
-  takes = λ words state new none mark opened. (
+  takes = λ words state new none urged mark opened. (
       let was = h state in
       let passes = packet_passes (brought i.took) used frames (begun e now n) none asks was.knows was.used_is in
       record { knows = passes.knows; used_is = passes.used_is });
@@ -134,7 +134,7 @@ reaches_arrivals e now n frames i used asks h =
     record {
       ignored = λ reason. h;
       noted = λ state reason. h;
-      takes = λ words state new none mark. passes;
+      takes = λ words state new none urged mark. passes;
       drains = λ words state new close is. passes;
       refuses = λ words state new f is. passes;
       exhausts = λ state. h;

@@ -3,7 +3,7 @@
 use Rattle.std.proofs.Common.{◌≡◌, ℕ, ◌^◌, ◌<◌, Bool, true, false, Option, Some, None, List, ◌∷◌, map, Ok, refl, sym, subst, inl, inr, arith}
 use Rattle.quic_wire_core.specs.declared.shared.EcnCodepoint.{EcnCodepoint}
 use Rattle.quic_wire_core.specs.declared.shared.EcnCodepoint.TheVariants.{Ect0, Ect1, Ce}
-use Rattle.quic_spaces.specs.Marks.{Counts, none_marked, after_mark, is_congested}
+use Rattle.quic_spaces.specs.Marks.{Counts, none_marked, after_mark}
 use Rattle.quic_sets.specs.Runs.{Run}
 use Rattle.quic_wire.specs.Value.{FrameValue}
 use Rattle.quic_recovery_core.specs.Duplicates.{Seen}
@@ -61,9 +61,9 @@ packet_runs p now n true seen = wait_runs (starts_wait (asking_counted p n seen)
 packet_runs p now n false seen = refl
 
 -- the number of a packet is one more to acknowledge
-acks_taken : (p : Pending) (came : Counts) (mark : Option EcnCodepoint) (n now : ℕ) (asking : Bool) (seen : Seen) → n < 2 ^ 62 → Acks p came → Acks (after_packet (with_due (is_congested mark) (after_insert p n now)) now n asking seen) (after_mark mark came)
-acks_taken p came mark n now asking seen lt acks =
-    let due : Pending = with_due (is_congested mark) (after_insert p n now) in
+acks_taken : (p : Pending) (came : Counts) (urged : Bool) (mark : Option EcnCodepoint) (n now : ℕ) (asking : Bool) (seen : Seen) → n < 2 ^ 62 → Acks p came → Acks (after_packet (with_due urged (after_insert p n now)) now n asking seen) (after_mark mark came)
+acks_taken p came urged mark n now asking seen lt acks =
+    let due : Pending = with_due urged (after_insert p n now) in
     acks_same (after_insert p n now) (after_packet due now n asking seen) (after_mark mark came) (packet_runs due now n asking seen) (record {
       runs = at_most_kept p.runs n acks.runs (omega arith);
       small = λ k h. elim (kept_numbers p.runs n k acks.runs.runs h) [ inl old ↦ acks.small k old | inr same ↦ omega arith ];
@@ -75,7 +75,7 @@ pub acks_arrivals : (e : End) (now n : ℕ) (frames : List FrameValue) (i : Inta
 acks_arrivals e now n frames i small acks = record {
   ignored = λ reason. acks;
   noted = λ state reason. acks;
-  takes = λ words state new none mark. acks_taken left.acknowledging left.marks.came mark n left.closing.clock (asks_in (map Ok frames)) left.numbers.opened small after;
+  takes = λ words state new none urged mark. acks_taken left.acknowledging left.marks.came urged mark n left.closing.clock (asks_in (map Ok frames)) left.numbers.opened small after;
   drains = λ words state new close is. after;
   refuses = λ words state new f is. after;
   exhausts = λ state. acks;
@@ -92,7 +92,7 @@ pub taken_arrivals : (e : End) (now n : ℕ) (frames : List FrameValue) (i : Int
 taken_arrivals e now n frames i acks before = record {
   ignored = λ reason. before;
   noted = λ state reason. before;
-  takes = λ words state new none mark. taken mark;
+  takes = λ words state new none urged mark. taken urged;
   drains = λ words state new close is k h. (let t = before k (keeps.fewer k h) in record { packet = t.packet; was_taken = inr t.was_taken; is = t.is });
   refuses = λ words state new f is k h. before k (keeps.fewer k h);
   exhausts = λ state. before;
@@ -104,9 +104,9 @@ taken_arrivals e now n frames i acks before = record {
     keeps : Keeps (begun e now n) left
     keeps = keeps_frames frames (begun e now n)
 
-    taken : (mark : Option EcnCodepoint) → AreTaken (after_packet (with_due (is_congested mark) (after_insert left.acknowledging n left.closing.clock)) left.closing.clock n (asks_in (map Ok frames)) left.numbers.opened).runs (record { number = n; frames = frames } ∷ i.took)
-    taken mark k h =
-        let same = packet_runs (with_due (is_congested mark) (after_insert left.acknowledging n left.closing.clock)) left.closing.clock n (asks_in (map Ok frames)) left.numbers.opened in
+    taken : (urged : Bool) → AreTaken (after_packet (with_due urged (after_insert left.acknowledging n left.closing.clock)) left.closing.clock n (asks_in (map Ok frames)) left.numbers.opened).runs (record { number = n; frames = frames } ∷ i.took)
+    taken urged k h =
+        let same = packet_runs (with_due urged (after_insert left.acknowledging n left.closing.clock)) left.closing.clock n (asks_in (map Ok frames)) left.numbers.opened in
         let after = keeps.acks acks in
         elim (kept_numbers left.acknowledging.runs n k after.runs.runs (rw same at h)) [
           | inl old ↦ (let t = before k (keeps.fewer k old) in record { packet = t.packet; was_taken = inr t.was_taken; is = t.is })

@@ -148,7 +148,7 @@ ascends_received = by_received Ascends (record {
     apart = λ f x is a. apart_leaves Ascends f x is (λ c. a) (λ c most. a);
     message = λ m x a. a;
   });
-  takes = λ n asks mark x a. a;
+  takes = λ n asks urged mark x a. a;
   closes = λ reason x a. a;
   drains = λ close x a. a;
   asks_close = λ x a. a;

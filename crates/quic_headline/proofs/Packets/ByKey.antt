@@ -21,7 +21,7 @@ use Rattle.quic_machine.specs.Ids.{known}
 use Rattle.quic_machine.specs.Policy.{Policy}
 use Rattle.quic_machine.specs.End.{End, with_closing, with_numbers}
 use Rattle.quic_machine.specs.Opens.{own_id_length, opens_behind, opens}
-use Rattle.quic_machine.specs.Receive.{Fault, asks_in, take_payload, dropped, ends_as, by_state, opened_as, opening, headed, broke, too_many_pieces, closed_by_peer, unopened_in}
+use Rattle.quic_machine.specs.Receive.{Fault, asks_in, is_urged, take_payload, dropped, ends_as, by_state, opened_as, opening, headed, broke, too_many_pieces, closed_by_peer, unopened_in}
 use Rattle.quic_headline.specs.Runs.{Packet, expected_behind, destination, opens_by_key, is_elsewhere, came_open}
 
 -- ---- the header
@@ -94,16 +94,17 @@ opens_by_id p ids x d = ap (λ (r : Result (List ℕ) HeaderError). opens_behind
 -- ---- what is answered
 
 -- a packet that opened, or didn't, isn't answered to be sent to another id
-ends_here : (fault : Option Fault) (asking : Bool) (n : ℕ) (mark : Option EcnCodepoint) (e : End) → is_elsewhere (answers.Deliver (ends_as fault asking n mark e).answer) ≡ false
-ends_here None asking n mark e = refl
-ends_here (Some (closed_by_peer close)) asking n mark e = refl
-ends_here (Some (broke error)) asking n mark e = refl
-ends_here (Some too_many_pieces) asking n mark e = refl
+ends_here : (fault : Option Fault) (asking urged : Bool) (n : ℕ) (mark : Option EcnCodepoint) (e : End) → is_elsewhere (answers.Deliver (ends_as fault asking urged n mark e).answer) ≡ false
+ends_here None asking urged n mark e = refl
+ends_here (Some (closed_by_peer close)) asking urged n mark e = refl
+ends_here (Some (broke error)) asking urged n mark e = refl
+ends_here (Some too_many_pieces) asking urged n mark e = refl
 
 state_here : (s : State) (o : Opening) (arrival : Arrival) (e : End) → is_elsewhere (answers.Deliver (by_state s o arrival e).answer) ≡ false
 state_here states.Open o arrival e =
-    let p = take_payload o.first (items o.payload) (with_closing e (ticked e.closing arrival.now)) in
-    ends_here p.fault (asks_in (items o.payload)) o.number arrival.mark p.end
+    let begins : End = with_closing e (ticked e.closing arrival.now) in
+    let p = take_payload o.first (items o.payload) begins in
+    ends_here p.fault (asks_in (items o.payload)) (is_urged arrival.mark (items o.payload) begins) o.number arrival.mark p.end
 state_here states.Closing o arrival e = refl
 state_here states.Drained o arrival e = refl
 state_here states.Failed o arrival e = refl

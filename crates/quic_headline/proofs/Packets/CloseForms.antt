@@ -271,7 +271,7 @@ pub owed_arrivals : (e : End) (now n : ℕ) (frames : List FrameValue) (i : Inta
 owed_arrivals e now n frames i owes = record {
   ignored = λ reason. owes;
   noted = λ state reason. owes;
-  takes = λ words state new none mark. after;
+  takes = λ words state new none urged mark. after;
   drains = λ words state new close is. after;
   refuses = λ words state new f is. error_well (reason_of f) (arrived e now n frames).end (subst SmallFault is (frames_small frames (begun e now n)));
   exhausts = λ state. error_well reasons.KeyLimit (with_closing e (ticked e.closing now)) (omega arith);

@@ -32,7 +32,7 @@ use Rattle.quic_recovery_core.specs.Duplicates.{is_duplicate}
 use Rattle.quic_recovery_core.specs.DuplicateRuns.{seen_after}
 use Rattle.quic_machine.specs.End.{End, closed_by, with_numbers, with_closing}
 use Rattle.quic_machine.specs.Opens.{own_id_length, in_phase, opens_behind, opens}
-use Rattle.quic_machine.specs.Receive.{Fault, Progress, Outcome, error_of, reason_of, take_payload, violation, asks_in, after_taken, dropped, ends_as, judged, processed, by_state, opened_to, opened_as, headed, received_in, received, broke, too_many_pieces, closed_by_peer, drained_at, exhausted, key_limit, unopened_in, with_ids_drawn}
+use Rattle.quic_machine.specs.Receive.{Fault, Progress, Outcome, error_of, reason_of, take_payload, violation, asks_in, is_urged, after_taken, dropped, ends_as, judged, processed, by_state, opened_to, opened_as, headed, received_in, received, broke, too_many_pieces, closed_by_peer, drained_at, exhausted, key_limit, unopened_in, with_ids_drawn}
 use Rattle.quic_headline.specs.Runs.{Intake, is_again, frames_of, is_refused, destination, opens_by_key, came_open, and_opened, and_handed}
 use Rattle.quic_machine.specs.Start.{IsLawful}
 use Rattle.quic_machine.specs.FrameCases.{passed, begun}
@@ -161,7 +161,7 @@ pub record Arrivals (e : End) (now n : ℕ) (frames : List FrameValue) (i : Inta
   pub noted : e.closing.state ≡ states.Closing → (reason : DropReason) → P (dropped reason (with_closing (with_numbers e (number_opened e.numbers n)) (close_asked e.closing))) i
   -- it is taken, and the ids are drawn that were issued for it
   pub takes : (words : ℕ → ℕ) → e.closing.state ≡ states.Open → is_again n i.opened ≡ false → (arrived e now n frames).fault ≡ None
-      → (mark : Option EcnCodepoint) → P (record { answer = Taken; end = drawn words (after_taken n (asks_in (map Ok frames)) mark (arrived e now n frames).end) }) (with_taken i n frames)
+      → (urged : Bool) (mark : Option EcnCodepoint) → P (record { answer = Taken; end = drawn words (after_taken n (asks_in (map Ok frames)) urged mark (arrived e now n frames).end) }) (with_taken i n frames)
   -- it is taken so far as the peer closes, and the end is drained
   pub drains : (words : ℕ → ℕ) → e.closing.state ≡ states.Open → is_again n i.opened ≡ false → (close : CloseValue) → (arrived e now n frames).fault ≡ Some (closed_by_peer close)
       → P (record { answer = Taken; end = drawn words (drained_at n close (arrived e now n frames).end) }) (with_taken i n frames)
@@ -176,7 +176,7 @@ pub record ArrivalsWith (mark : Option EcnCodepoint) (e : End) (now n : ℕ) (fr
   pub ignored : (reason : DropReason) → P (dropped reason e) i
   pub noted : e.closing.state ≡ states.Closing → (reason : DropReason) → P (dropped reason (with_closing (with_numbers e (number_opened e.numbers n)) (close_asked e.closing))) i
   pub takes : (words : ℕ → ℕ) → e.closing.state ≡ states.Open → is_again n i.opened ≡ false → (arrived e now n frames).fault ≡ None
-      → P (record { answer = Taken; end = drawn words (after_taken n (asks_in (map Ok frames)) mark (arrived e now n frames).end) }) (with_taken i n frames)
+      → P (record { answer = Taken; end = drawn words (after_taken n (asks_in (map Ok frames)) (is_urged mark (map Ok frames) (begun e now n)) mark (arrived e now n frames).end) }) (with_taken i n frames)
   pub drains : (words : ℕ → ℕ) → e.closing.state ≡ states.Open → is_again n i.opened ≡ false → (close : CloseValue) → (arrived e now n frames).fault ≡ Some (closed_by_peer close)
       → P (record { answer = Taken; end = drawn words (drained_at n close (arrived e now n frames).end) }) (with_taken i n frames)
   pub refuses : (words : ℕ → ℕ) → e.closing.state ≡ states.Open → is_again n i.opened ≡ false → (f : Fault) → (arrived e now n frames).fault ≡ Some f
@@ -188,7 +188,7 @@ pub of_any : (mark : Option EcnCodepoint) (e : End) (now n : ℕ) (frames : List
 of_any mark e now n frames i P c = record {
   ignored = c.ignored;
   noted = c.noted;
-  takes = λ words state new none. c.takes words state new none mark;
+  takes = λ words state new none. c.takes words state new none (is_urged mark (map Ok frames) (begun e now n)) mark;
   drains = c.drains;
   refuses = c.refuses;
   exhausts = c.exhausts;
@@ -219,10 +219,10 @@ came_tested n reference fs payload a i again is spells =
 
 -- what an open end makes of a packet that opened and is new
 processed_given : (n reference : ℕ) (frames : List FrameValue) (payload : List ℕ) (arrival : Arrival) (e : End) → n - reference < 2 ^ 31 → 0 < length frames → Payload frames payload
-    → processed (shown n reference payload) arrival (with_numbers e (number_opened e.numbers n)) ≡ judged (arrived e arrival.now n frames) (asks_in (map Ok frames)) n arrival.mark
+    → processed (shown n reference payload) arrival (with_numbers e (number_opened e.numbers n)) ≡ judged (arrived e arrival.now n frames) (asks_in (map Ok frames)) (is_urged arrival.mark (map Ok frames) (begun e arrival.now n)) n arrival.mark
 processed_given n reference frames payload arrival e near some spells =
-    ap (λ (x : Progress). judged x (asks_in (items payload)) n arrival.mark) (payload_taken (first_byte (truncated n reference).width) frames payload (begun e arrival.now n) (plain_number n reference near).1 some spells)
-    ∙ ap (λ (is : List (Result FrameValue InvalidFrame)). judged (arrived e arrival.now n frames) (asks_in is) n arrival.mark) (payload_items frames payload spells)
+    ap (λ (x : Progress). judged x (asks_in (items payload)) (is_urged arrival.mark (items payload) (begun e arrival.now n)) n arrival.mark) (payload_taken (first_byte (truncated n reference).width) frames payload (begun e arrival.now n) (plain_number n reference near).1 some spells)
+    ∙ ap (λ (is : List (Result FrameValue InvalidFrame)). judged (arrived e arrival.now n frames) (asks_in is) (is_urged arrival.mark is (begun e arrival.now n)) n arrival.mark) (payload_items frames payload spells)
 
 -- P of an outcome and of what came with it, where both are known
 moved : (P : Outcome → Intake → Type 0) (came : Outcome → Intake) (o o' : Outcome) (i : Intake) → o ≡ o' → came o' ≡ i → P o' i → P o (came o)
@@ -270,7 +270,7 @@ module _ (p q : Policy) (id : List ℕ) (n reference : ℕ) (frames : List Frame
   at_closing state = subst (λ (o : Outcome). P o i) (sym headed_given) (known_closing (is_known id (known e.ids)) state)
 
   taken_or_refused : e.closing.state ≡ states.Open → is_again n i.opened ≡ false → (f : Option Fault) → (arrived e arrival.now n frames).fault ≡ f
-      → P (with_ids_drawn q (ends_as f (asks_in (map Ok frames)) n arrival.mark (arrived e arrival.now n frames).end)) (came_by false n frames (answers.Deliver (ends_as f (asks_in (map Ok frames)) n arrival.mark (arrived e arrival.now n frames).end).answer) i)
+      → P (with_ids_drawn q (ends_as f (asks_in (map Ok frames)) (is_urged arrival.mark (map Ok frames) (begun e arrival.now n)) n arrival.mark (arrived e arrival.now n frames).end)) (came_by false n frames (answers.Deliver (ends_as f (asks_in (map Ok frames)) (is_urged arrival.mark (map Ok frames) (begun e arrival.now n)) n arrival.mark (arrived e arrival.now n frames).end).answer) i)
   taken_or_refused state new None is = cases.takes q.words state new is
   taken_or_refused state new (Some (closed_by_peer close)) is = cases.drains q.words state new close is
   taken_or_refused state new (Some (broke error)) is = cases.refuses q.words state new (broke error) is
@@ -290,7 +290,7 @@ module _ (p q : Policy) (id : List ℕ) (n reference : ℕ) (frames : List Frame
       (came_tested n reference frames g.payload (answers.Deliver (dropped drops.Duplicate e).answer) i true is g.spells)
       (cases.ignored drops.Duplicate)
   open_tested true false state w is =
-      let outcome = judged (arrived e arrival.now n frames) (asks_in (map Ok frames)) n arrival.mark in
+      let outcome = judged (arrived e arrival.now n frames) (asks_in (map Ok frames)) (is_urged arrival.mark (map Ok frames) (begun e arrival.now n)) n arrival.mark in
       moved (λ (x : Outcome) (j : Intake). P (with_ids_drawn q x) j) (λ (o : Outcome). and_opened (Some (shown n reference g.payload)) (answers.Deliver o.answer) i) (opened_to (shown n reference g.payload) arrival e) outcome (came_by false n frames (answers.Deliver outcome.answer) i)
       (opened_tested (shown n reference g.payload) arrival e false states.Open (plain_number n reference g.near).0 (is_duplicate-is i.opened e.numbers.opened n w ∙ is) state ∙ processed_given n reference frames g.payload arrival e g.near g.some g.spells)
       (came_tested n reference frames g.payload (answers.Deliver outcome.answer) i false is g.spells)

@@ -412,7 +412,7 @@ losses_fly P c t now f acked e w i =
     (c.loses f.flying acked gone (after_losses t now f).flying ps e (λ s j. in_filter (λ s. is_lost t delay now greatest s) s f.flying j) (λ s j. in_filter (λ s. not (is_lost t delay now greatest s)) s f.flying j) (apart_filter (λ s. is_lost t delay now greatest s) f.flying) (lost_waited t now f e w) i))
 
 -- the first frame, and then the others
-first_flight : (t : Terms) (now : ℕ) (f : FrameValue) (fs : List FrameValue) (x : Flight) → after_frames t now (f ∷ fs) x ≡ after_frames t now fs (after_frames t now (f ∷ []) x)
+pub first_flight : (t : Terms) (now : ℕ) (f : FrameValue) (fs : List FrameValue) (x : Flight) → after_frames t now (f ∷ fs) x ≡ after_frames t now fs (after_frames t now (f ∷ []) x)
 first_flight t now (ack a) fs x = refl
 first_flight t now f fs x = refl
 

@@ -158,7 +158,7 @@ takes_arrivals e now s i sents among small t =
     record {
       ignored = λ reason. t;
       noted = λ state reason. record { knows = knows.noted state reason; acks = acks.noted state reason; taken = taken.noted state reason; acking = acking.noted state reason };
-      takes = λ words state new none mark. record { knows = knows.takes words state new none mark; acks = acks.takes words state new none mark; taken = taken.takes words state new none mark; acking = acking.takes words state new none mark };
+      takes = λ words state new none urged mark. record { knows = knows.takes words state new none urged mark; acks = acks.takes words state new none urged mark; taken = taken.takes words state new none urged mark; acking = acking.takes words state new none urged mark };
       drains = λ words state new close is. record { knows = knows.drains words state new close is; acks = acks.drains words state new close is; taken = taken.drains words state new close is; acking = acking.drains words state new close is };
       refuses = λ words state new f is. record { knows = knows.refuses words state new f is; acks = acks.refuses words state new f is; taken = taken.refuses words state new f is; acking = acking.refuses words state new f is };
       exhausts = λ state. record { knows = knows.exhausts state; acks = acks.exhausts state; taken = taken.exhausts state; acking = acking.exhausts state };

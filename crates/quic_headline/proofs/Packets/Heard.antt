@@ -16,11 +16,11 @@ pub by_heard : (P : End → Type 0) (e : End) → ((idle alive : Option ℕ) →
 by_heard P e all = all (packet_heard e).timers.idle (packet_heard e).timers.keep_alive
 
 -- so it is of a packet that was taken
-pub by_taken : (P : End → Type 0) (n : ℕ) (asking : Bool) (mark : Option EcnCodepoint) (e : End)
-    → ((idle alive : Option ℕ) → P (with_loss_timer (with_times (number_noted n asking mark e) idle alive))) → P (after_taken n asking mark e)
-by_taken P n asking mark e all = by_heard (λ (x : End). P (with_loss_timer x)) (number_noted n asking mark e) all
+pub by_taken : (P : End → Type 0) (n : ℕ) (asking urged : Bool) (mark : Option EcnCodepoint) (e : End)
+    → ((idle alive : Option ℕ) → P (with_loss_timer (with_times (number_noted n asking urged mark e) idle alive))) → P (after_taken n asking urged mark e)
+by_taken P n asking urged mark e all = by_heard (λ (x : End). P (with_loss_timer x)) (number_noted n asking urged mark e) all
 
 -- so it is that end, with what its two timers are set to
-pub taken_is : (n : ℕ) (asking : Bool) (mark : Option EcnCodepoint) (e : End)
-    → (let x = after_taken n asking mark e in x ≡ with_loss_timer (with_times (number_noted n asking mark e) x.timers.idle x.timers.keep_alive))
-taken_is n asking mark e = by_taken (λ (x : End). x ≡ with_loss_timer (with_times (number_noted n asking mark e) x.timers.idle x.timers.keep_alive)) n asking mark e (λ idle alive. refl)
+pub taken_is : (n : ℕ) (asking urged : Bool) (mark : Option EcnCodepoint) (e : End)
+    → (let x = after_taken n asking urged mark e in x ≡ with_loss_timer (with_times (number_noted n asking urged mark e) x.timers.idle x.timers.keep_alive))
+taken_is n asking urged mark e = by_taken (λ (x : End). x ≡ with_loss_timer (with_times (number_noted n asking urged mark e) x.timers.idle x.timers.keep_alive)) n asking urged mark e (λ idle alive. refl)

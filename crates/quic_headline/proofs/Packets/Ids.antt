@@ -489,7 +489,7 @@ pub long_arrivals : (e : End) (now n : ℕ) (frames : List FrameValue) (i : Inta
 long_arrivals e now n frames i passed before = record {
   ignored = λ reason. before;
   noted = λ state reason. record { waits = before.waits; peer = before.peer };
-  takes = λ words state new none mark. drawn_long words (after_taken n (asks_in (map Ok frames)) mark (arrived e now n frames).end) (record { waits = passed.waits; peer = passed.peer });
+  takes = λ words state new none urged mark. drawn_long words (after_taken n (asks_in (map Ok frames)) urged mark (arrived e now n frames).end) (record { waits = passed.waits; peer = passed.peer });
   drains = λ words state new close is. drawn_long words (drained_at n close (arrived e now n frames).end) (record { waits = passed.waits; peer = passed.peer });
   refuses = λ words state new f is. drawn_long words (closed_by (reason_of f) (arrived e now n frames).end) (record { waits = passed.waits; peer = passed.peer });
   exhausts = λ state. record { waits = before.waits; peer = before.peer };

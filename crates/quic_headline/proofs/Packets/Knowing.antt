@@ -70,7 +70,7 @@ pub knows_arrivals : (e : End) (now n : ℕ) (frames : List FrameValue) (i : Int
 knows_arrivals e now n frames i k = record {
   ignored = λ reason. k;
   noted = λ state reason. knows_noted e.closing.state e.numbers n i state k;
-  takes = λ words state new none mark. taken none;
+  takes = λ words state new none urged mark. taken none;
   drains = λ words state new close is. drained;
   refuses = λ words state new f is. refused;
   exhausts = λ state. expects_in e.closing.state e.numbers i k;

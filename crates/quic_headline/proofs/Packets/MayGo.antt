@@ -21,7 +21,7 @@ use Rattle.quic_retransmits.specs.Retransmits.{Retransmits, first_of, others_of}
 use Rattle.quic_streams_state.specs.declared.state.StreamsState.{StreamsState}
 use Rattle.quic_retransmits.specs.declared.retransmits.ControlKind.{ControlKind}
 use Rattle.quic_retransmits.specs.declared.retransmits.ControlKind.TheVariants.{ResetStream, StopSending, NewConnectionId, RetireConnectionId}
-use Rattle.quic_streams_state.specs.State.{Streams, Sending}
+use Rattle.quic_streams_state.specs.State.{Streams}
 use Rattle.quic_streams_state.specs.Waiting.{can_send_stream_data}
 use Rattle.quic_streams_state.specs.Frames.{after_frame_sent}
 use Rattle.quic_streams_state.specs.Control.{reset_frame, without_first, told_id, frame_told}
@@ -29,7 +29,7 @@ use Rattle.quic_streams_laws.specs.Few.{AreFew}
 use Rattle.quic_streams_laws.specs.FewLaws.{few_kept}
 use Rattle.quic_streams_laws.specs.GoesLaws.{Holding, sending_small, goes_fits}
 use Rattle.quic_streams_laws.specs.KeepingLaws.{by_frame, polled_on}
-use Rattle.quic_streams_laws.specs.QuietLaws.{by_tells, by_told, told_sending}
+use Rattle.quic_streams_laws.specs.QuietLaws.{by_tells, by_told}
 use Rattle.quic_streams_laws.specs.Queued.{IsOrderly, place_of, standing_at}
 use Rattle.quic_streams_laws.specs.QueuedLaws.{queue_kept, half-apart}
 use Rattle.quic_streams_laws.specs.Written.{Wrote, IsSendHalf, HoldsWritten}
@@ -39,6 +39,7 @@ use Rattle.quic_streams_laws.specs.WrittenLaws.{holds_kept, live_holds}
 use Rattle.quic_headline.specs.Runs.{In}
 use Rattle.quic_headline.proofs.Packets.Composed.{Spelling}
 use Rattle.quic_headline.proofs.Packets.Going.{BringsFirst, Bringing}
+use Rattle.quic_headline.proofs.Packets.Told.{told_half}
 
 -- ---- what is known of streams
 
@@ -57,6 +58,22 @@ pub record AreReady (live : Table SendHalf) (p : Retransmits) : Type 0 where
   pub stops : (r : StopSendingValue) → In r p.stop_sending → (r.id < 2 ^ 62) × (r.code < 2 ^ 62)
   pub ids : (cid : IssuedCid) → In cid p.new_cids → Fits (new_connection_id (told_id cid))
   pub retired : (n : ℕ) → In n p.retire_cids → n < 2 ^ 62
+
+-- a half that was reset is so once a frame went
+abbrev HasSize : ℕ → Option SendHalf → Type 0
+HasSize size None = ⊥
+HasSize size (Some h) = h.reset ≡ Some size
+
+pub told_reset : (f : FrameValue) (s : StreamsState) (r : ℕ × ℕ) → WasReset s.sending.halves.live r → WasReset (frame_told f s).sending.halves.live r
+told_reset f s r was = go (at (frame_told f s).sending.halves.live r.0) refl (told_half (HasSize was.size) (λ h limit is. is) f s r.0 (subst (HasSize was.size) (sym was.found) was.reset))
+  where
+    go : (o : Option SendHalf) → at (frame_told f s).sending.halves.live r.0 ≡ o → HasSize was.size o → WasReset (frame_told f s).sending.halves.live r
+    go None is none = absurd none
+    go (Some h) is same = record { half = h; found = is; size = was.size; reset = same; code = was.code }
+
+-- so what may go may go still
+told_ready : (f : FrameValue) (s : StreamsState) (p : Retransmits) → AreReady s.sending.halves.live p → AreReady (frame_told f s).sending.halves.live p
+told_ready f s p a = record { resets = λ r i. told_reset f s r (a.resets r i); stops = a.stops; ids = a.ids; retired = a.retired }
 
 -- what streams have to send may go: they hold what was written on them, and what waits beside their
 -- bytes may go
@@ -175,7 +192,7 @@ module _ (wrote : ℕ → Wrote) (s : StreamsState) (g : Holding wrote s) where
     holds = by_told (HoldsWritten wrote) (holds_kept wrote) f s g.holds;
     orderly = by_told IsOrderly queue_kept f s g.orderly;
     few = by_told AreFew few_kept f s g.few;
-    limit = by_tells (λ t. t.sending.limit < 2 ^ 62) s g.limit g.limit (λ id. g.limit) (λ dir. g.limit) f;
+    limit = by_tells (λ t. t.sending.limit < 2 ^ 62) s g.limit g.limit (λ id. g.limit) (λ dir. g.limit) (λ limit. g.limit) (λ id limit. g.limit) f;
   }
 
   -- the frame of a half goes
@@ -241,7 +258,7 @@ may_go_spells = record {
     record {
       wrote = m.wrote;
       streams = told_holds m.wrote t.state m.streams f;
-      waits = subst (λ (q : Sending). AreReady q.halves.live (without_first kind t.pending)) (sym (told_sending f t.state)) (ready_without kind t.state.sending.halves.live t.pending m.waits);
+      waits = told_ready f t.state (without_first kind t.pending) (ready_without kind t.state.sending.halves.live t.pending m.waits);
     },
   );
   asked = λ t waits m. record { wrote = m.wrote; streams = m.streams; waits = (let w = m.waits in record { resets = w.resets; stops = w.stops; ids = w.ids; retired = w.retired }) };

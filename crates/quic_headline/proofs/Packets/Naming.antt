@@ -159,7 +159,7 @@ pub sent_arrivals : (e : End) (now n : ℕ) (frames : List FrameValue) (i : Inta
 sent_arrivals e now n frames i sents s is same before = record {
   ignored = λ reason. before;
   noted = λ state reason. before;
-  takes = λ words state new none mark. taken;
+  takes = λ words state new none urged mark. taken;
   drains = λ words state new close at. taken;
   refuses = λ words state new f at. before;
   exhausts = λ state. before;

@@ -99,7 +99,7 @@ module _ (most : ℕ) where
   cut_arrivals e now n frames i small before = record {
     ignored = λ reason. before;
     noted = λ state reason. before;
-    takes = λ words state new none mark. after;
+    takes = λ words state new none urged mark. after;
     drains = λ words state new close is. after;
     refuses = λ words state new f is. after;
     exhausts = λ state. before;

@@ -138,7 +138,7 @@ module _ (Q : Sizing → Type 0) (c : Searching Q) where
     notes = λ n x j. j;
     begins = λ time n x j. j;
     frame = λ f x j. taken_size f x (λ is. apart f x is j) j;
-    takes = λ n asks mark x j. j;
+    takes = λ n asks urged mark x j. j;
     closes = λ reason x j. j;
     drains = λ close x j. j;
     asks_close = λ x j. j;

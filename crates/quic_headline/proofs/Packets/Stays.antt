@@ -291,7 +291,7 @@ stays_received p e arrival d = by_received (Stays e) (record {
   notes = λ n x s. record { generation = s.generation; transport = s.transport; peer = s.peer; filter = s.filter; next = s.next; behind = s.behind };
   begins = λ now n x s. record { generation = s.generation; transport = s.transport; peer = s.peer; filter = s.filter; next = s.next; behind = s.behind };
   frame = stays_frame e;
-  takes = λ n asks mark x s. record { generation = s.generation; transport = s.transport; peer = s.peer; filter = s.filter; next = s.next; behind = s.behind };
+  takes = λ n asks urged mark x s. record { generation = s.generation; transport = s.transport; peer = s.peer; filter = s.filter; next = s.next; behind = s.behind };
   closes = λ reason x s. record { generation = s.generation; transport = s.transport; peer = s.peer; filter = s.filter; next = s.next; behind = s.behind };
   drains = λ close x s. record { generation = s.generation; transport = s.transport; peer = s.peer; filter = s.filter; next = s.next; behind = s.behind };
   asks_close = λ x s. record { generation = s.generation; transport = s.transport; peer = s.peer; filter = s.filter; next = s.next; behind = s.behind };

@@ -202,7 +202,7 @@ pub arrivals_watched : (t : Terms) (w : Watch) (e : End) (delivery : Delivery) (
 arrivals_watched t w e delivery n frames i = record {
   ignored = λ reason. subst (λ (v : Watch). IsWatched t v e) (sym (nothing_delivered t w e.closing.state delivery)) i;
   noted = λ state reason. closed_watched t (with_delivery t w e.closing.state delivery w.intake) (with_closing (with_numbers e (number_opened e.numbers n)) (close_asked e.closing)) i.path (λ opened. (let clash : states.Closing ≡ states.Open = sym state ∙ opened in cc));
-  takes = λ words state new none mark. taken words mark state none;
+  takes = λ words state new none urged mark. taken words urged mark state none;
   drains = λ words state new close is. closed_watched t _ _ path (λ opened. cc);
   refuses = λ words state new f is. closed_watched t _ _ path (λ opened. cc);
   exhausts = λ state. closed_watched t (with_delivery t w e.closing.state delivery w.intake) (exhausted delivery.now e) i.path (λ opened. cc);
@@ -214,9 +214,9 @@ arrivals_watched t w e delivery n frames i = record {
     path : after.path.generation ≡ 0
     path = (keeps_frames frames (begun e delivery.now n)).generation ∙ i.path
 
-    taken : (words : ℕ → ℕ) (mark : Option EcnCodepoint) → e.closing.state ≡ states.Open → (arrived e delivery.now n frames).fault ≡ None → IsWatched t (with_delivery t w e.closing.state delivery (with_taken w.intake n frames)) (drawn words (after_taken n (asks_in (map Ok frames)) mark after))
-    taken words mark opened none =
-        subst (λ (v : Watch). IsWatched t v (drawn words (after_taken n (asks_in (map Ok frames)) mark after))) (sym (packet_delivered t w e.closing.state delivery n frames opened)) (record {
+    taken : (words : ℕ → ℕ) (urged : Bool) (mark : Option EcnCodepoint) → e.closing.state ≡ states.Open → (arrived e delivery.now n frames).fault ≡ None → IsWatched t (with_delivery t w e.closing.state delivery (with_taken w.intake n frames)) (drawn words (after_taken n (asks_in (map Ok frames)) urged mark after))
+    taken words urged mark opened none =
+        subst (λ (v : Watch). IsWatched t v (drawn words (after_taken n (asks_in (map Ok frames)) urged mark after))) (sym (packet_delivered t w e.closing.state delivery n frames opened)) (record {
           path = path;
           flight = λ still.
               let begins : Waits t (max w.clock delivery.now) w.flight (held (begun e delivery.now n)) = ticked_waits t w.clock delivery.now w.flight (record (held e) { numbers = number_opened e.numbers n }) (numbers_wait t w.clock w.flight (held e) (number_opened e.numbers n) refl (i.flight opened)) in

@@ -171,7 +171,7 @@ module _ (Q : Sizing → Type 0) (c : Searching Q) where
   arrivals_size e now n frames came says k i = record {
     ignored = λ reason. i;
     noted = λ state reason. i;
-    takes = λ words state new none mark. after;
+    takes = λ words state new none urged mark. after;
     drains = λ words state new close is. after;
     refuses = λ words state new f is. after;
     exhausts = λ state. i;

@@ -118,7 +118,7 @@ module _ (G : Type 0) where
     notes = λ n x j. record { waits = j.waits; bear = j.bear };
     begins = λ now n x j. record { waits = j.waits; bear = j.bear };
     frame = frame_only;
-    takes = λ n asks mark x j. record { waits = j.waits; bear = j.bear };
+    takes = λ n asks urged mark x j. record { waits = j.waits; bear = j.bear };
     closes = λ reason x j. record { waits = j.waits; bear = j.bear };
     drains = λ close x j. record { waits = j.waits; bear = j.bear };
     asks_close = λ x j. record { waits = j.waits; bear = j.bear };

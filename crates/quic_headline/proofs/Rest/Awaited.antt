@@ -5,7 +5,6 @@ use Rattle.quic_wire.specs.Value.{FrameValue}
 use Rattle.std.specs.Prelude.{if◌then◌else◌, nat_lt, is_none}
 use Rattle.std.specs.Option.{is_some}
 use Rattle.std.proofs.lemmas.Bool.{and_parts, or_left, lt-ltb}
-use Rattle.quic_spaces.specs.Marks.{is_congested}
 use Rattle.quic_recovery_core.specs.Duplicates.{Seen}
 use Rattle.quic_recovery_core.specs.PendingAcks.{lazy_threshold, Pending, none_pending, is_filled, after_insert, asking_counted, starts_wait, after_packet}
 use Rattle.quic_time.specs.Timers.{Timers}
@@ -114,8 +113,8 @@ receives = record {
   notes = λ n e i. i;
   begins = λ now n e i. i;
   frame = frame_keeps IsAwaited (record { ack = λ rises a e i. acked_keeps IsAwaited settling rises a (named a e) i; on_streams = λ f e on i. frame_leaves IsAwaited f e on (λ t. i); apart = apart_awaited; message = λ m e i. i });
-  takes = λ n asks mark e i. by_taken IsAwaited n asks mark e (λ idle alive opened.
-      packet_comes e.frequency.own_delay asks e.timers (with_due (is_congested mark) (after_insert e.acknowledging n e.closing.clock)) e.closing.clock n e.numbers.opened (more_due (is_congested mark) e.acknowledging e.timers.max_ack_delay (i opened)));
+  takes = λ n asks urged mark e i. by_taken IsAwaited n asks urged mark e (λ idle alive opened.
+      packet_comes e.frequency.own_delay asks e.timers (with_due urged (after_insert e.acknowledging n e.closing.clock)) e.closing.clock n e.numbers.opened (more_due urged e.acknowledging e.timers.max_ack_delay (i opened)));
   closes = λ reason e i. closed_awaited reason e;
   drains = λ close e i opened. cc;
   asks_close = λ e i. i;

@@ -8,7 +8,6 @@ use Rattle.quic_wire.specs.Value.{FrameValue, AckValue, ack, asks}
 use Rattle.quic_sets.specs.Runs.{Run, AreRuns}
 use Rattle.quic_recovery_core.specs.Duplicates.{Seen}
 use Rattle.quic_recovery_core.specs.PendingAcks.{Pending, with_one, at_most, after_insert, asking_counted, starts_wait, after_packet}
-use Rattle.quic_spaces.specs.Marks.{is_congested}
 use Rattle.quic_spaces.specs.Acknowledging.{with_due}
 use Rattle.quic_machine.specs.declared.answers.State.TheVariants as states
 use Rattle.quic_machine.specs.declared.run.Call.{Call}
@@ -94,11 +93,11 @@ module _ (e : End) (now n : ℕ) (frames : List FrameValue) (i : Intake) (sents 
   left = (arrived e now n frames).end
 
   -- the end once it is taken, with a mark or with none
-  abbrev due : Option EcnCodepoint → Pending
-  due mark = with_due (is_congested mark) (after_insert left.acknowledging n left.closing.clock)
+  abbrev due : Bool → Pending
+  due urged = with_due urged (after_insert left.acknowledging n left.closing.clock)
 
-  abbrev after : (ℕ → ℕ) → Option EcnCodepoint → End
-  after words mark = drawn words (after_taken n (asks_in (map Ok frames)) mark left)
+  abbrev after : (ℕ → ℕ) → Bool → Option EcnCodepoint → End
+  after words urged mark = drawn words (after_taken n (asks_in (map Ok frames)) urged mark left)
 
   runs : AreRuns left.acknowledging.runs
   runs = ((keeps_frames frames (begun e now n)).acks acks).runs.runs
@@ -111,36 +110,36 @@ module _ (e : End) (now n : ℕ) (frames : List FrameValue) (i : Intake) (sents 
   passed_on number was = frames_reached sents taken number frames named_here (begun e now n) tracked
       (elim was [ inl known ↦ inl (known_on sents sents i.took taken number (λ s j. j) (λ p j. inr j) known) | inr reached ↦ inr reached ])
 
-  after_runs : (words : ℕ → ℕ) (mark : Option EcnCodepoint) → (after words mark).acknowledging.runs ≡ at_most (with_one left.acknowledging.runs n)
-  after_runs words mark = packet_runs (due mark) left.closing.clock n (asks_in (map Ok frames)) left.numbers.opened
+  after_runs : (words : ℕ → ℕ) (urged : Bool) (mark : Option EcnCodepoint) → (after words urged mark).acknowledging.runs ≡ at_most (with_one left.acknowledging.runs n)
+  after_runs words urged mark = packet_runs (due urged) left.closing.clock n (asks_in (map Ok frames)) left.numbers.opened
 
-  counts : (words : ℕ → ℕ) (mark : Option EcnCodepoint) → (asks_in (map Ok frames) ≡ true → 0 < (after words mark).acknowledging.asking) × (0 < left.acknowledging.asking → 0 < (after words mark).acknowledging.asking)
-  counts words mark = taken_counts (asks_in (map Ok frames)) (due mark) left.closing.clock n left.numbers.opened
+  counts : (words : ℕ → ℕ) (urged : Bool) (mark : Option EcnCodepoint) → (asks_in (map Ok frames) ≡ true → 0 < (after words urged mark).acknowledging.asking) × (0 < left.acknowledging.asking → 0 < (after words urged mark).acknowledging.asking)
+  counts words urged mark = taken_counts (asks_in (map Ok frames)) (due urged) left.closing.clock n left.numbers.opened
 
   -- the packet itself
-  newest : (words : ℕ → ℕ) (mark : Option EcnCodepoint) (p : Packet) → (list_any asks frames ≡ true) × (p.number ≡ n) → Owes sents taken (after words mark) p.number
-  newest words mark p is = record {
-    counted = (counts words mark).0 (asks_same frames ∙ is.0);
-    reached = inr (subst (λ (k : ℕ). Reaches (after words mark).acknowledging.runs k) (sym is.1) (subst (λ (rs : List Run). Reaches rs n) (sym (after_runs words mark)) (one_reached n left.acknowledging.runs runs)));
+  newest : (words : ℕ → ℕ) (urged : Bool) (mark : Option EcnCodepoint) (p : Packet) → (list_any asks frames ≡ true) × (p.number ≡ n) → Owes sents taken (after words urged mark) p.number
+  newest words urged mark p is = record {
+    counted = (counts words urged mark).0 (asks_same frames ∙ is.0);
+    reached = inr (subst (λ (k : ℕ). Reaches (after words urged mark).acknowledging.runs k) (sym is.1) (subst (λ (rs : List Run). Reaches rs n) (sym (after_runs words urged mark)) (one_reached n left.acknowledging.runs runs)));
   }
 
   -- one that was owed before
-  older : (words : ℕ → ℕ) (mark : Option EcnCodepoint) (p : Packet) → Owes sents i.took e p.number → Owes sents taken (after words mark) p.number
-  older words mark p owes = record {
-    counted = (counts words mark).1 (subst (λ (k : ℕ). 0 < k) (sym (frames_acks frames (begun e now n)).asking) owes.counted);
+  older : (words : ℕ → ℕ) (urged : Bool) (mark : Option EcnCodepoint) (p : Packet) → Owes sents i.took e p.number → Owes sents taken (after words urged mark) p.number
+  older words urged mark p owes = record {
+    counted = (counts words urged mark).1 (subst (λ (k : ℕ). 0 < k) (sym (frames_acks frames (begun e now n)).asking) owes.counted);
     reached = elim (passed_on p.number owes.reached) [
       | inl known ↦ inl known
-      | inr reached ↦ inr (subst (λ (rs : List Run). Reaches rs p.number) (sym (after_runs words mark)) (more_reached n p.number left.acknowledging.runs runs reached))
+      | inr reached ↦ inr (subst (λ (rs : List Run). Reaches rs p.number) (sym (after_runs words urged mark)) (more_reached n p.number left.acknowledging.runs runs reached))
     ];
   }
 
-  taken_owes : (words : ℕ → ℕ) (mark : Option EcnCodepoint) → OwesAll sents i.took e ps → OwesAll sents taken (after words mark) (asking_among (news i (with_taken i n frames)) ++ ps)
-  taken_owes words mark owes = subst (λ (qs : List Packet). OwesAll sents taken (after words mark) (asking_among qs ++ ps)) (sym (one_new i n frames)) all
+  taken_owes : (words : ℕ → ℕ) (urged : Bool) (mark : Option EcnCodepoint) → OwesAll sents i.took e ps → OwesAll sents taken (after words urged mark) (asking_among (news i (with_taken i n frames)) ++ ps)
+  taken_owes words urged mark owes = subst (λ (qs : List Packet). OwesAll sents taken (after words urged mark) (asking_among qs ++ ps)) (sym (one_new i n frames)) all
     where
-      all : OwesAll sents taken (after words mark) (asking_among (packet ∷ []) ++ ps)
+      all : OwesAll sents taken (after words urged mark) (asking_among (packet ∷ []) ++ ps)
       all p among = elim (in_append p (asking_among (packet ∷ [])) ps among) [
-        | inl new ↦ newest words mark p (asking_one packet p new)
-        | inr old ↦ older words mark p (owes p old)
+        | inl new ↦ newest words urged mark p (asking_one packet p new)
+        | inr old ↦ older words urged mark p (owes p old)
       ]
 
   -- each case of a delivery
@@ -148,7 +147,7 @@ module _ (e : End) (now n : ℕ) (frames : List FrameValue) (i : Intake) (sents 
   arrivals_owe owes = record {
     ignored = λ reason opened. none_more sents i ps e (owes opened) opened;
     noted = λ state reason opened. absurd (let clash : states.Closing ≡ states.Open = sym state ∙ opened in cc);
-    takes = λ words state new none mark opened. taken_owes words mark (owes state);
+    takes = λ words state new none urged mark opened. taken_owes words urged mark (owes state);
     drains = λ words state new close is opened. absurd cc;
     refuses = λ words state new f is opened. absurd cc;
     exhausts = λ state opened. absurd cc;

@@ -46,7 +46,8 @@ use Rattle.quic_headline.proofs.Settled.Half.{Known, Tells, UnusedSettles, HalfS
 use Rattle.quic_headline.proofs.Settled.Acked.{telling}
 use Rattle.quic_headline.proofs.Settled.Words.{is_reset}
 use Rattle.quic_headline.proofs.Settled.Carried.{known_of}
-use Rattle.quic_headline.proofs.Settled.Group.{Settled, Open, acks, told_so, settled_group}
+use Rattle.quic_headline.proofs.Packets.Acked.{acks}
+use Rattle.quic_headline.proofs.Settled.Group.{Settled, Open, told_so, settled_group}
 
 -- ---- nothing is left to tell
 

@@ -20,7 +20,6 @@ use Rattle.quic_streams_laws.specs.Keeping.{finishes_in}
 use Rattle.quic_streams_laws.specs.Written.{Wrote, IsStreamOf}
 use Rattle.quic_machine.specs.declared.answers.LostReason.{LostReason}
 use Rattle.quic_machine.specs.declared.answers.Event.TheVariants as events
-use Rattle.quic_machine.specs.declared.answers.State.{State}
 use Rattle.quic_machine.specs.declared.answers.State.TheVariants as states
 use Rattle.quic_machine.specs.declared.run.Call.{Call}
 use Rattle.quic_machine.specs.declared.run.Call.TheVariants as calls
@@ -41,25 +40,23 @@ use Rattle.quic_machine.specs.Machine.{IsAnswer, after_call, gave}
 use Rattle.quic_machine.specs.CallCases.{is_delivery, is_poll, asks_event, by_call}
 use Rattle.quic_machine.specs.LeaveCases.{by_expired}
 use Rattle.quic_machine.specs.FrameCases.{begun, apart_leaves}
-use Rattle.quic_packet.specs.Datagram.{opened_packet}
-use Rattle.quic_machine.specs.Opens.{own_id_length}
 use Rattle.quic_machine.specs.declared.answers.Event.{Event}
 use Rattle.quic_machine.specs.Steps as steps
-use Rattle.quic_headline.specs.Runs.{Told, Packet, Intake, In, acknowledged, and_told, finish_told_by, finishes_told}
-use Rattle.quic_headline.specs.Observer.{Sent, next_number, Terms, Flight, HoldsOffset, HoldsEnd, Watch, Lens, first_watch, has_opened, moment_of, clock_behind, after_packets, after_frames, and_sent, and_flying, closes_of, and_all_sent, loss_due, is_past, expired_for, sent_as, watch_sent, watch_given, is_timely, watch_moment, watch_came, watch_told}
+use Rattle.quic_headline.specs.Runs.{Told, Packet, Intake, In, and_told, finish_told_by, finishes_told}
+use Rattle.quic_headline.specs.Observer.{Sent, HoldsOffset, HoldsEnd, Watch}
 use Rattle.quic_headline.specs.InFlight.{all_offsets}
 use Rattle.quic_headline.proofs.Packets.Apart.{by_waits, by_next_id}
 use Rattle.quic_headline.proofs.Packets.Invariant.{IsSent, AreTracked, WereSent, carried_stream}
 use Rattle.quic_headline.proofs.Packets.Growth.{step_of}
-use Rattle.quic_headline.proofs.Packets.Intakes.{folded_more}
 use Rattle.quic_headline.proofs.Packets.Carried.{carried_same}
 use Rattle.quic_headline.proofs.Packets.Delivered.{Arrivals, arrived, with_taken}
 use Rattle.quic_headline.proofs.Packets.Named.{WasCarried, SettlesOn, frames_settle}
 use Rattle.quic_headline.proofs.Packets.Losses.{Losing, expiry_stays}
 use Rattle.quic_headline.proofs.Packets.Waited.{IsWaited, AreWaited, waited_there}
 use Rattle.quic_headline.proofs.Packets.Flying.{Waits, held, Loses, Flies, frames_fly, ticked_waits, numbers_wait}
-use Rattle.quic_headline.proofs.Packets.Watching.{came_with, timed_with, watched_intake, none_new, none_comes, packet_delivered}
+use Rattle.quic_headline.proofs.Packets.Watching.{none_comes}
 use Rattle.quic_headline.proofs.Packets.Searches.{search_keeps}
+use Rattle.quic_headline.proofs.Packets.Acked.{acked_with, acks, acks_behind, acked_here, acked_then}
 use Rattle.quic_headline.proofs.Packets.Group.{PacketsHold, meets}
 use Rattle.quic_headline.proofs.Packets.Sight.{Sight}
 use Rattle.quic_headline.proofs.Places.Told.{in_right}
@@ -157,73 +154,7 @@ told_event id None c = go (loss_to_tell c)
     go None = refl
     go (Some reason) = refl
 
--- ---- what the observer counts
-
--- those that were acknowledged in flight, once this came by a call
-abbrev pub acked_with : Terms → State → Call → Watch → Intake → List Sent
-acked_with t state call w i = (watch_came t i (clock_behind w.clock (moment_of state (has_opened w.intake i) call)) w).flight.acked
-
-abbrev pub acks : Party → Party → List Sent
-acks x y = (watch_of x y).flight.acked
-
-sent_acked : (ss : List Sent) (f : Flight) → (and_all_sent ss f).acked ≡ f.acked
-sent_acked [] f = refl
-sent_acked (s ∷ ss) f = sent_acked ss (and_sent s f) ∙ go (closes_of s)
-  where
-    go : (b : Bool) → (if b then f else and_flying s f).acked ≡ f.acked
-    go true = refl
-    go false = refl
-
-datagram_acked : (taker : Policy) (ds : List (List ℕ)) (w : Watch) → (watch_sent taker ds w).flight.acked ≡ w.flight.acked
-datagram_acked taker [] w = refl
-datagram_acked taker (d ∷ ds) w = sent_acked (sent_as (opened_packet taker.header taker.packet (own_id_length + 1) (next_number w.own) d) (acknowledged w.intake.took) w.clock d) w.flight
-
-given_acked : (b : Bool) (l : Lens) (w : Watch) → (watch_given b l w).flight.acked ≡ w.flight.acked
-given_acked false l w = refl
-given_acked true l w = datagram_acked l.taker w.left w
-
--- a moment acknowledges nothing
-expired_acked : (o : Option ℕ) (t : Terms) (clock : ℕ) (f : Flight) → (expired_for o t clock f).acked ≡ f.acked
-expired_acked None t clock f = refl
-expired_acked (Some moment) t clock f = refl
-
-moment_acked : (b : Bool) (t : Terms) (w : Watch) → (watch_moment b t w).flight.acked ≡ w.flight.acked
-moment_acked false t w = refl
-moment_acked true t w = go (is_past (loss_due w.flight) w.clock)
-  where
-    go : (b : Bool) → (if b then expired_for w.flight.loss_time t w.clock w.flight else w.flight).acked ≡ w.flight.acked
-    go true = expired_acked w.flight.loss_time t w.clock w.flight
-    go false = refl
-
-module _ (x y : Party) where
-  abbrev seen : Watch
-  seen = watch_of x y
-
-  seen_intake : seen.intake ≡ came_to x y
-  seen_intake = watched_intake (lens x y) x.told (first_watch x.final x.began x.initial_rtt x.initial_delay)
-
-  -- behind a call
-  pub acks_behind : (call : Call) (a : Answer) → acks (called x y.given call a) y ≡ acked_with x.terms x.end.closing.state call seen (came_to (called x y.given call a) y)
-  acks_behind call a =
-      let t : Told = told_of call a x.end.closing.state in
-      ap (λ (w : Watch). w.flight.acked) (folded_more (watch_told (lens x y)) x.told t (first_watch x.final x.began x.initial_rtt x.initial_delay))
-      ∙ given_acked (gave a) (lens x y) (timed_with (lens x y) t seen)
-      ∙ moment_acked (is_timely t.state call) x.terms (came_with (lens x y) t seen)
-      ∙ ap (λ (i : Intake). acked_with x.terms x.end.closing.state call seen i) (ap (λ (i : Intake). and_told x.policy y.final t i) seen_intake ∙ sym (came_more x y call a))
-
-  -- where nothing came
-  pub acked_here : (call : Call) → acked_with x.terms x.end.closing.state call seen (came_to x y) ≡ acks x y
-  acked_here call =
-      ap (λ (i : Intake). acked_with x.terms x.end.closing.state call seen i) (sym seen_intake)
-      ∙ ap (λ (ps : List Packet). (after_packets x.terms (clock_behind seen.clock (moment_of x.end.closing.state (has_opened seen.intake seen.intake) call)) ps seen.flight).acked) (none_new seen.intake)
-
-  -- where an open end took a packet
-  pub acked_then : (call : Call) (delivery : Delivery) → call ≡ calls.Deliver delivery → x.end.closing.state ≡ states.Open → (n : ℕ) (frames : List FrameValue)
-      → acked_with x.terms x.end.closing.state call seen (with_taken (came_to x y) n frames) ≡ (after_frames x.terms (max seen.clock delivery.now) frames seen.flight).acked
-  acked_then call delivery is opened n frames =
-      ap (λ (c : Call). acked_with x.terms x.end.closing.state c seen (with_taken (came_to x y) n frames)) is
-      ∙ ap (λ (i : Intake). acked_with x.terms x.end.closing.state (calls.Deliver delivery) seen (with_taken i n frames)) (sym seen_intake)
-      ∙ ap (λ (w : Watch). w.flight.acked) (packet_delivered x.terms seen x.end.closing.state delivery n frames opened)
+-- ---- what an open end knows
 
 -- what an open end knows that sent these, of which these were acknowledged
 abbrev pub Open : List Sent → (ℕ → Wrote) → (ℕ → ℕ) → List Sent → End → Type 0
@@ -394,7 +325,7 @@ module _ (B : Way) (b : SettlesOver B) (x y : Party) (call : Call) (a : Answer) 
 
   -- each case of a delivery, whether the packet is taken or refused
   always_arrives : (now : ℕ) (d : Sent) → In d y.sents → Arrivals x.end now d.number d.frames (came_to x y) (λ (o : Outcome) (i : Intake). Always (told_so x) (wrote x.told) o.end)
-  always_arrives now d among = record { ignored = λ reason. s.always; noted = λ state reason. s.always; takes = λ words state new none mark. after; drains = λ words state new close is. after; refuses = λ words state new f is. after; exhausts = λ state. s.always }
+  always_arrives now d among = record { ignored = λ reason. s.always; noted = λ state reason. s.always; takes = λ words state new none urged mark. after; drains = λ words state new close is. after; refuses = λ words state new f is. after; exhausts = λ state. s.always }
     where
       took : List Packet
       took = (came_to y x).took
@@ -414,7 +345,7 @@ module _ (B : Way) (b : SettlesOver B) (x y : Party) (call : Call) (a : Answer) 
   still_arrives delivery is d among = record {
     ignored = λ reason still. before still;
     noted = λ state reason still. (let clash : states.Closing ≡ states.Open = sym state ∙ still in cc);
-    takes = λ words state new none mark still. taken state none;
+    takes = λ words state new none urged mark still. taken state none;
     drains = λ words state new close is still. cc;
     refuses = λ words state new f is still. cc;
     exhausts = λ state still. cc;

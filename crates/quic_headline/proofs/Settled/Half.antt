@@ -103,6 +103,7 @@ module _ (k : Known) (t : Tells) where
       | inr acked ↦ absurd (both_ways (is_acked h) q.1 acked)
     ];
     blocked = λ id h b q. q;
+    noted = λ id h said q. q;
     placed = λ id h p q. q;
   }
 

@@ -23,7 +23,7 @@ use Rattle.quic_streams_parts.specs.declared.answers.Written.{Written}
 use Rattle.quic_streams_parts.specs.Dirs.{of, is_own, is_two_way}
 use Rattle.quic_streams_parts.specs.Events.{with_event}
 use Rattle.quic_streams_parts.specs.Table.{at}
-use Rattle.quic_streams_parts.specs.SendHalf.{SendHalf}
+use Rattle.quic_streams_parts.specs.SendHalf.{SendHalf, was_said}
 use Rattle.quic_streams_parts.specs.RecvHalf.{RecvHalf, after_frame, after_reset_stream}
 use Rattle.quic_streams_halves.specs.Halves.{is_done, without_half}
 use Rattle.quic_retransmits.specs.Retransmits.{Retransmits}
@@ -85,7 +85,8 @@ accepted_queue (Some h) s id bytes = cond_both (length bytes == 0) s _ (λ (t : 
 
 blocked_queue : (o : Option SendHalf) (s : StreamsState) (p : Retransmits) (id : ℕ) → (blocked_at o s p id).state.events.queue ≡ s.events.queue
 blocked_queue None s p id = refl
-blocked_queue (Some h) s p id = cond_both {A = Streams} (room s.sending == 0) _ _ (λ (t : Streams). t.state.events.queue ≡ s.events.queue) (λ e. joined_queue s id h) (λ e. refl)
+blocked_queue (Some h) s p id = cond_both {A = Streams} (room s.sending == 0) _ _ (λ (t : Streams). t.state.events.queue ≡ s.events.queue) (λ e. joined_queue s id h)
+    (λ e. cond_both {A = Streams} (was_said h.said h.limit) _ _ (λ (t : Streams). t.state.events.queue ≡ s.events.queue) (λ f. refl) (λ f. refl))
 
 written_queue : (answer : Result ℕ WriteError) (s : StreamsState) (p : Retransmits) (id : ℕ) (bytes : List ℕ) → (written_by answer s p id bytes).state.events.queue ≡ s.events.queue
 written_queue (Ok n) s p id bytes = accepted_queue (sending_half s id) s id (take n bytes)
@@ -279,4 +280,4 @@ reset_acked_queue s p id = go (at s.sending.halves.live id)
 -- ---- frames that go
 
 pub told_queue : (f : FrameValue) (s : StreamsState) → (frame_told f s).events.queue ≡ s.events.queue
-told_queue f s = by_tells (λ (t : StreamsState). t.events.queue ≡ s.events.queue) s refl refl (λ id. refl) (λ dir. refl) f
+told_queue f s = by_tells (λ (t : StreamsState). t.events.queue ≡ s.events.queue) s refl refl (λ id. refl) (λ dir. refl) (λ limit. refl) (λ id limit. refl) f

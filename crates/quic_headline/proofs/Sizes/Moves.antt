@@ -33,6 +33,7 @@ use Rattle.quic_headline.specs.Observer.{Sent, Watch}
 use Rattle.quic_headline.specs.Headline.{IsHonest, IsRun}
 use Rattle.quic_headline.specs.Polls.{mtu_in, IsMade}
 use Rattle.quic_headline.specs.Sizes.{WasProbed, SizesMove}
+use Rattle.quic_headline.proofs.Packets.Acked.{acked_with, acks_behind, acked_then}
 use Rattle.quic_headline.proofs.Packets.Apart.{by_waits, by_next_id}
 use Rattle.quic_headline.proofs.Packets.Searches.{losses_search}
 use Rattle.quic_headline.proofs.Packets.Sizes.{polled_search}
@@ -47,7 +48,6 @@ use Rattle.quic_headline.proofs.Places.Moments.{last_view, state_shown}
 use Rattle.quic_headline.proofs.Places.Placed.{party_at, placed}
 use Rattle.quic_headline.proofs.Timers.Quiet.{Unnamed}
 use Rattle.quic_headline.proofs.Held.Behind.{last_step}
-use Rattle.quic_headline.proofs.Settled.Group.{acked_with, acks_behind, acked_then}
 use Rattle.quic_headline.proofs.Steps.Made.{made_served, made_end, served_before, calling, CallHolds, call_holds}
 use Rattle.quic_headline.proofs.Steps.Resized.{reads_search, size_there}
 use Rattle.quic_headline.proofs.Sizes.Search.{lost_falls}
@@ -164,7 +164,7 @@ module _ (G : Way) (g : Group Nothing G) (packets : (x y : Party) → G x y → 
     arrives s = record {
       ignored = λ reason still. inl refl;
       noted = λ state reason still. (let clash : states.Closing ≡ states.Open = sym state ∙ still in cc);
-      takes = λ words state new none mark still. taken state none;
+      takes = λ words state new none urged mark still. taken state none;
       drains = λ words state new close is still. cc;
       refuses = λ words state new f is still. cc;
       exhausts = λ state still. cc;

@@ -87,7 +87,7 @@ receives_same e = record {
     apart = λ f x is i. apart_leaves (SamePacer e) f x is (λ c. i) (λ c most. i);
     message = λ m x i. i;
   });
-  takes = λ n asks mark x i. by_taken (SamePacer e) n asks mark x (λ idle alive. i);
+  takes = λ n asks urged mark x i. by_taken (SamePacer e) n asks urged mark x (λ idle alive. i);
   closes = λ reason x i. i;
   drains = λ close x i. i;
   asks_close = λ x i. i;

@@ -47,7 +47,7 @@ use Rattle.quic_machine.specs.End.{End, with_closing, with_numbers}
 use Rattle.quic_machine.specs.Control.{Control, flies, told_sent, told_packet, told_acks_ended, last_sent}
 use Rattle.quic_machine.specs.Sizes.{is_resized, told_if_resized, told_size, with_acked, search_acked, told_packets, others_of, after_lost, is_persistent, told_congested, told_losses}
 use Rattle.quic_machine.specs.Acked.{packet_acked, packets_acked, losses_detected, after_named, verdict, told_detected, told_grown, told_taken, told_seen, told_marks, told_of_losses, told_named, told_acked, counts_answer, sampled, measured, without_acked, losses_taken, request_acked}
-use Rattle.quic_machine.specs.Receive.{Fault, violation, Progress, message_judged, take_frame, unless_fault, take_items, take_payload, ends_as, asks_in, dropped, by_state, opened_to, opened_as, headed, received_in, is_above, names_ungiven, is_empty, take_item, told_ack, told_item, told_unless, told_items, told_payload, told_by_state, told_opened, told_opened_as, told_headed, told_received_in, opening, broke, too_many_pieces, closed_by_peer, unopened_in, is_read, drawn_if}
+use Rattle.quic_machine.specs.Receive.{Fault, violation, Progress, message_judged, take_frame, unless_fault, take_items, take_payload, ends_as, asks_in, is_urged, dropped, by_state, opened_to, opened_as, headed, received_in, is_above, names_ungiven, is_empty, take_item, told_ack, told_item, told_unless, told_items, told_payload, told_by_state, told_opened, told_opened_as, told_headed, told_received_in, opening, broke, too_many_pieces, closed_by_peer, unopened_in, is_read, drawn_if}
 use Rattle.quic_machine.specs.Poll.{Ready, polled, ready, goes, asking, datagram_size, draft_of, told_if, told_polled_in}
 use Rattle.quic_machine.specs.Poll as poll
 use Rattle.quic_machine.specs.End.{number_of}
@@ -287,17 +287,17 @@ payload_tells first is e = go (not (reserved_bits first == 0) || is_empty is)
     go true = still e.path.discovery [] tt
     go false = items_tell is e
 
-ends_tell : (fault : Option Fault) (asks : Bool) (n : ℕ) (mark : Option EcnCodepoint) (d : Discovery) (ts : List Told) (e : End) → Tells d ts e.path.discovery → Tells d ts (ends_as fault asks n mark e).end.path.discovery
-ends_tell None asks n mark d ts e t = t
-ends_tell (Some (closed_by_peer close)) asks n mark d ts e t = t
-ends_tell (Some (broke error)) asks n mark d ts e t = t
-ends_tell (Some too_many_pieces) asks n mark d ts e t = t
+ends_tell : (fault : Option Fault) (asks urged : Bool) (n : ℕ) (mark : Option EcnCodepoint) (d : Discovery) (ts : List Told) (e : End) → Tells d ts e.path.discovery → Tells d ts (ends_as fault asks urged n mark e).end.path.discovery
+ends_tell None asks urged n mark d ts e t = t
+ends_tell (Some (closed_by_peer close)) asks urged n mark d ts e t = t
+ends_tell (Some (broke error)) asks urged n mark d ts e t = t
+ends_tell (Some too_many_pieces) asks urged n mark d ts e t = t
 
 by_state_tells : (s : State) (o : Opening) (arrival : Arrival) (e : End) → Tells e.path.discovery (told_by_state s o arrival.now e) (by_state s o arrival e).end.path.discovery
 by_state_tells states.Open o arrival e =
     let begins : End = with_closing e (ticked e.closing arrival.now) in
     let taken : Progress = take_payload o.first (items o.payload) begins in
-    ends_tell taken.fault (asks_in (items o.payload)) o.number arrival.mark e.path.discovery (told_payload o.first (items o.payload) begins) taken.end (payload_tells o.first (items o.payload) begins)
+    ends_tell taken.fault (asks_in (items o.payload)) (is_urged arrival.mark (items o.payload) begins) o.number arrival.mark e.path.discovery (told_payload o.first (items o.payload) begins) taken.end (payload_tells o.first (items o.payload) begins)
 by_state_tells states.Closing o arrival e = still e.path.discovery [] tt
 by_state_tells states.Drained o arrival e = still e.path.discovery [] tt
 by_state_tells states.Failed o arrival e = still e.path.discovery [] tt

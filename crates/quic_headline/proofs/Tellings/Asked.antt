@@ -12,7 +12,6 @@ use Rattle.std.specs.Prelude.{if◌then◌else◌}
 use Rattle.quic_recovery_core.specs.Duplicates.{Seen}
 use Rattle.quic_recovery_core.specs.PendingAcks.{Pending, after_insert, packet_starts_wait}
 use Rattle.quic_spaces.specs.Acknowledging.{ack_due, with_due}
-use Rattle.quic_spaces.specs.Marks.{is_congested}
 use Rattle.quic_ids.specs.CidState.{retirement_answer}
 use Rattle.quic_ids.specs.CidQueue.{insert_answer}
 use Rattle.quic_ids.specs.declared.cid_queue.InsertError.{InsertError}
@@ -127,7 +126,7 @@ receives = record {
   notes = λ n e i. i;
   begins = λ now n e i. i;
   frame = frame_unasked;
-  takes = λ n asks mark e i. by_taken IsUnasked n asks mark e (λ idle alive. (i.0, noted_unasked e.frequency.own_delay e.timers (with_due (is_congested mark) (after_insert e.acknowledging n e.closing.clock)) e.closing.clock n asks e.numbers.opened i.1));
+  takes = λ n asks urged mark e i. by_taken IsUnasked n asks urged mark e (λ idle alive. (i.0, noted_unasked e.frequency.own_delay e.timers (with_due urged (after_insert e.acknowledging n e.closing.clock)) e.closing.clock n asks e.numbers.opened i.1));
   closes = λ reason e i. (i.0, refl);
   drains = λ close e i. (i.0, refl);
   asks_close = λ e i. i;

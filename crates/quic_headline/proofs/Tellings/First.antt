@@ -67,7 +67,7 @@ call_measured p e theirs call a apart = by_plain_call p e theirs (λ (x : End). 
 pub delivered_set : (j : Judging) (p : Policy) (e : End) (arrival : Arrival) (o : Option (List ℕ)) → IsSet j e → IsSet j (after_delivered p e arrival o)
 delivered_set j p e arrival None i = i
 delivered_set j p e arrival (Some d) i =
-    by_received (IsSet j) (record { notes = λ n x k. k; begins = λ now n x k. k; frame = λ f x k. frame_set j f x k; takes = λ n asks mark x k. by_taken (IsSet j) n asks mark x (λ idle alive. k); closes = λ reason x k. k; drains = λ close x k. k; asks_close = λ x k. k; exhausts = λ now x k. k; draws = λ words x k. k }) p e arrival d i
+    by_received (IsSet j) (record { notes = λ n x k. k; begins = λ now n x k. k; frame = λ f x k. frame_set j f x k; takes = λ n asks urged mark x k. by_taken (IsSet j) n asks urged mark x (λ idle alive. k); closes = λ reason x k. k; drains = λ close x k. k; asks_close = λ x k. k; exhausts = λ now x k. k; draws = λ words x k. k }) p e arrival d i
 
 -- ---- what is known of it
 

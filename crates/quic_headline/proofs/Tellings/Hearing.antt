@@ -23,7 +23,7 @@ use Rattle.quic_machine.specs.Ids.{known}
 use Rattle.quic_machine.specs.Policy.{Policy}
 use Rattle.quic_machine.specs.Opens.{own_id_length, in_phase, opens_behind}
 use Rattle.quic_machine.specs.End.{End, with_numbers}
-use Rattle.quic_machine.specs.Receive.{Fault, Progress, Outcome, error_of, violation, asks_in, is_empty, take_items, dropped, ends_as, by_state, headed, opened_as, received_in, received, opening, told_items, told_by_state, told_opened_as, told_headed, told_received_in, told_received, broke, too_many_pieces, closed_by_peer}
+use Rattle.quic_machine.specs.Receive.{Fault, Progress, Outcome, error_of, violation, asks_in, is_urged, is_empty, take_items, dropped, ends_as, by_state, headed, opened_as, received_in, received, opening, told_items, told_by_state, told_opened_as, told_headed, told_received_in, told_received, broke, too_many_pieces, closed_by_peer}
 use Rattle.quic_machine.specs.FrameCases.{begun}
 use Rattle.quic_wire.specs.Close.{CloseValue}
 use Rattle.quic_headline.specs.Runs.{Intake, frames_of, is_again, is_refused, packet_of, came_open, and_opened, and_handed}
@@ -81,8 +81,8 @@ module _ (q : Policy) (e : End) (arrival : Arrival) (i : Intake) (d : List ℕ) 
     outcome phase again s = if phase then dropped drops.KeyPhase e else (if again then dropped drops.Duplicate e else by_state s o arrival noted)
 
     faults : (f : Option Fault) → (take_items (items o.payload) (begun e arrival.now o.number)).fault ≡ f
-        → P (answers.Deliver (ends_as f (asks_in (items o.payload)) o.number arrival.mark (take_items (items o.payload) (begun e arrival.now o.number)).end).answer) (told_items (items o.payload) (begun e arrival.now o.number))
-        (came_new (answers.Deliver (ends_as f (asks_in (items o.payload)) o.number arrival.mark (take_items (items o.payload) (begun e arrival.now o.number)).end).answer))
+        → P (answers.Deliver (ends_as f (asks_in (items o.payload)) (is_urged arrival.mark (items o.payload) (begun e arrival.now o.number)) o.number arrival.mark (take_items (items o.payload) (begun e arrival.now o.number)).end).answer) (told_items (items o.payload) (begun e arrival.now o.number))
+        (came_new (answers.Deliver (ends_as f (asks_in (items o.payload)) (is_urged arrival.mark (items o.payload) (begun e arrival.now o.number)) o.number arrival.mark (take_items (items o.payload) (begun e arrival.now o.number)).end).answer))
     faults None none = cases.takes o.number (items o.payload) none
     faults (Some (closed_by_peer close)) some = cases.drains close o.number (items o.payload) from some
     faults (Some (broke error)) some = cases.refuses (broke error) o.number (items o.payload)
@@ -92,8 +92,8 @@ module _ (q : Policy) (e : End) (arrival : Arrival) (i : Intake) (d : List ℕ) 
     abbrev payload_if : Bool → Progress
     payload_if b = if b then record { end = begun e arrival.now o.number; fault = Some violation } else take_items (items o.payload) (begun e arrival.now o.number)
 
-    payload : (b : Bool) → P (answers.Deliver (ends_as (payload_if b).fault (asks_in (items o.payload)) o.number arrival.mark (payload_if b).end).answer) (if b then [] else told_items (items o.payload) (begun e arrival.now o.number))
-        (came_new (answers.Deliver (ends_as (payload_if b).fault (asks_in (items o.payload)) o.number arrival.mark (payload_if b).end).answer))
+    payload : (b : Bool) → P (answers.Deliver (ends_as (payload_if b).fault (asks_in (items o.payload)) (is_urged arrival.mark (items o.payload) (begun e arrival.now o.number)) o.number arrival.mark (payload_if b).end).answer) (if b then [] else told_items (items o.payload) (begun e arrival.now o.number))
+        (came_new (answers.Deliver (ends_as (payload_if b).fault (asks_in (items o.payload)) (is_urged arrival.mark (items o.payload) (begun e arrival.now o.number)) o.number arrival.mark (payload_if b).end).answer))
     payload true = cases.whole violation o.number (frames_of (items o.payload))
     payload false = faults (take_items (items o.payload) (begun e arrival.now o.number)).fault refl
 

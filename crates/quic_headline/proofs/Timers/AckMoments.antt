@@ -6,7 +6,6 @@ use Rattle.std.specs.Option.{is_none}
 use Rattle.std.specs.List.{list_any}
 use Rattle.std.proofs.lemmas.Bool.{and_parts, or_parts}
 use Rattle.quic_wire_core.specs.declared.shared.EcnCodepoint.{EcnCodepoint}
-use Rattle.quic_spaces.specs.Marks.{is_congested}
 use Rattle.quic_wire.specs.Value.{FrameValue, ack, asks, padding}
 use Rattle.quic_recovery_core.specs.PendingAcks.{Pending, most_ack_runs, joined, with_one, at_most, is_filled, can_send, after_insert, starts_wait, asking_counted, after_acks_sent}
 use Rattle.quic_sets.specs.Runs.{Run}
@@ -250,13 +249,13 @@ none_due true false some none = cc
 none_due false filled some none = refl
 
 -- the timer starts where none was waited for, and no acknowledgement was due
-starts_anew : (mark : Bool) (p : Pending) (now n : ℕ) (s : Seen) → starts_wait (asking_counted (with_due mark (after_insert p n now)) n s) ≡ true → (is_none p.since ≡ true) × (p.due ≡ false)
-starts_anew mark p now n s starts =
-    let noted : Pending = with_due mark (after_insert p n now) in
+starts_anew : (urged : Bool) (p : Pending) (now n : ℕ) (s : Seen) → starts_wait (asking_counted (with_due urged (after_insert p n now)) n s) ≡ true → (is_none p.since ≡ true) × (p.due ≡ false)
+starts_anew urged p now n s starts =
+    let noted : Pending = with_due urged (after_insert p n now) in
     let counted : Pending = asking_counted noted n s in
     let parts = and_parts (is_none p.since) (not (can_send counted)) starts in
     let quiet = none_due counted.due (is_filled counted.runs) (most_filled (with_one p.runs n) (one_filled p.runs n)) parts.1 in
-    (parts.0, (or_parts p.due mark (or_parts noted.due _ quiet).0).0)
+    (parts.0, (or_parts p.due urged (or_parts noted.due _ quiet).0).0)
 
 -- what isn't so then wasn't before
 was_not : (before after : Bool) → (before ≡ true → after ≡ true) → after ≡ false → before ≡ false
@@ -264,16 +263,16 @@ was_not true after stays none = (let clash : true ≡ false = sym (stays refl) �
 was_not false after stays none = refl
 
 -- a packet sets it only where it asks, and starts it so
-taken_set : (e f : End) (n : ℕ) (asking : Bool) (mark : Option EcnCodepoint) → f.timers.max_ack_delay ≡ e.timers.max_ack_delay → CountsOn e f → (moment : ℕ) → (after_taken n asking mark f).timers.max_ack_delay ≡ Some moment
+taken_set : (e f : End) (n : ℕ) (asking urged : Bool) (mark : Option EcnCodepoint) → f.timers.max_ack_delay ≡ e.timers.max_ack_delay → CountsOn e f → (moment : ℕ) → (after_taken n asking urged mark f).timers.max_ack_delay ≡ Some moment
     → (e.timers.max_ack_delay ≡ Some moment) ⊎ ((moment ≡ ack_due f.frequency.own_delay f.closing.clock) × (asking ≡ true) × (is_none e.acknowledging.since ≡ true) × (e.acknowledging.due ≡ false))
-taken_set e f n false mark same counts moment set = inl (sym same ∙ set)
-taken_set e f n true mark same counts moment set = go (starts_wait (asking_counted (with_due (is_congested mark) (after_insert f.acknowledging n f.closing.clock)) n f.numbers.opened)) refl set
+taken_set e f n false urged mark same counts moment set = inl (sym same ∙ set)
+taken_set e f n true urged mark same counts moment set = go (starts_wait (asking_counted (with_due urged (after_insert f.acknowledging n f.closing.clock)) n f.numbers.opened)) refl set
   where
-    go : (b : Bool) → starts_wait (asking_counted (with_due (is_congested mark) (after_insert f.acknowledging n f.closing.clock)) n f.numbers.opened) ≡ b → (if b then with_ack_timer f.timers (Some (ack_due f.frequency.own_delay f.closing.clock)) else f.timers).max_ack_delay ≡ Some moment
+    go : (b : Bool) → starts_wait (asking_counted (with_due urged (after_insert f.acknowledging n f.closing.clock)) n f.numbers.opened) ≡ b → (if b then with_ack_timer f.timers (Some (ack_due f.frequency.own_delay f.closing.clock)) else f.timers).max_ack_delay ≡ Some moment
         → (e.timers.max_ack_delay ≡ Some moment) ⊎ ((moment ≡ ack_due f.frequency.own_delay f.closing.clock) × (true ≡ true) × (is_none e.acknowledging.since ≡ true) × (e.acknowledging.due ≡ false))
     go true starts is =
         let due : ack_due f.frequency.own_delay f.closing.clock ≡ moment = cc in
-        let anew = starts_anew (is_congested mark) f.acknowledging f.closing.clock n f.numbers.opened starts in
+        let anew = starts_anew urged f.acknowledging f.closing.clock n f.numbers.opened starts in
         inr (sym due, refl, ap (λ (o : Option ℕ). is_none o) (sym counts.since) ∙ anew.0, was_not e.acknowledging.due f.acknowledging.due counts.due anew.1)
     go false starts is = inl (sym same ∙ is)
 
@@ -286,7 +285,7 @@ arrivals_set : (e : End) (now n : ℕ) (frames : List FrameValue) (i : Intake) �
 arrivals_set e now n frames i = record {
   ignored = λ reason moment set. inl set;
   noted = λ state reason moment set. inl set;
-  takes = λ words state new none mark moment set. taken moment (taken_set e (arrived e now n frames).end n (asks_in (map Ok frames)) mark (frames_timer frames (begun e now n)) (frames_acks frames (begun e now n)) moment set);
+  takes = λ words state new none urged mark moment set. taken moment (taken_set e (arrived e now n frames).end n (asks_in (map Ok frames)) urged mark (frames_timer frames (begun e now n)) (frames_acks frames (begun e now n)) moment set);
   drains = λ words state new close is moment set. cc;
   refuses = λ words state new f is moment set. cc;
   exhausts = λ state moment set. cc;

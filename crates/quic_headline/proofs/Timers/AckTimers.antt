@@ -3,7 +3,6 @@
 use Rattle.std.proofs.Common.{◌≡◌, ℕ, ◌+◌, ◌-◌, ◌^◌, ◌<◌, Bool, true, false, cond, min, List, Option, Some, None, refl, sym, ap, ◌∙◌, subst, arith}
 use Rattle.quic_wire.specs.Value.{FrameValue}
 use Rattle.std.specs.Option.{is_some}
-use Rattle.quic_spaces.specs.Marks.{is_congested}
 use Rattle.quic_recovery_core.specs.Duplicates.{Seen}
 use Rattle.quic_recovery_core.specs.PendingAcks.{Pending, after_insert, asking_counted, starts_wait, after_packet}
 use Rattle.quic_time.specs.Timers.{Timers}
@@ -78,7 +77,7 @@ receives = record {
   notes = λ n e i. i;
   begins = λ now n e i. i;
   frame = frame_keeps AckTimerFollows (record { ack = λ rises a e i. acked_keeps AckTimerFollows settling rises a (named a e) i; on_streams = λ f e on i. frame_leaves AckTimerFollows f e on (λ t. i); apart = apart_follows; message = λ m e i. i });
-  takes = λ n asks mark e i. by_taken AckTimerFollows n asks mark e (λ idle alive opened. packet_counts e.frequency.own_delay asks e.timers (with_due (is_congested mark) (after_insert e.acknowledging n e.closing.clock)) e.closing.clock n e.numbers.opened (i opened));
+  takes = λ n asks urged mark e i. by_taken AckTimerFollows n asks urged mark e (λ idle alive opened. packet_counts e.frequency.own_delay asks e.timers (with_due urged (after_insert e.acknowledging n e.closing.clock)) e.closing.clock n e.numbers.opened (i opened));
   closes = λ reason e i. closed_follows reason e;
   drains = λ close e i opened. cc;
   asks_close = λ e i. i;

@@ -44,7 +44,7 @@ use Rattle.quic_machine.specs.MessageCalls.{most_message}
 use Rattle.quic_machine.specs.IdFrames.{retiring, next_id_taken, end_on_next_id}
 use Rattle.quic_machine.specs.End.{End, with_closing, with_numbers, with_ids, with_window, with_loss_timer, three_timeouts, closed_by}
 use Rattle.quic_machine.specs.Opens.{own_id_length, would_open}
-use Rattle.quic_machine.specs.Receive.{Fault, broke, too_many_pieces, closed_by_peer, reason_of, violation, is_empty, asks_in, take_frame, take_items, take_payload, dropped, ends_as, by_state, opened_to, opened_as, opening, headed, received_in, is_read, drawn_if, unopened_in}
+use Rattle.quic_machine.specs.Receive.{Fault, broke, too_many_pieces, closed_by_peer, reason_of, violation, is_empty, asks_in, is_urged, take_frame, take_items, take_payload, dropped, ends_as, by_state, opened_to, opened_as, opening, headed, received_in, is_read, drawn_if, unopened_in}
 use Rattle.quic_machine.specs.Poll.{Polled, polled_in, polled, draft_as}
 use Rattle.quic_machine.specs.Timeouts.{expiry_at, loss_judged, close_expired, timed_out_in, timed_out}
 use Rattle.quic_machine.specs.Calls.{closed_in}
@@ -156,11 +156,11 @@ module _ (e : End) (arrival : Arrival) where
       go false = items_keep (HasTicked e arrival.now) frame_reads is x i
 
   -- all frames were taken, the peer closed, or one was at fault
-  ends_goes : e.closing.state ≡ states.Open → (fault : Option Fault) (asking : Bool) (n : ℕ) (mark : Option EcnCodepoint) (x : End) → Reads x → Comes (ends_as fault asking n mark x).end
-  ends_goes here None asking n mark x i = by_taken (λ (y : End). Goes (Some arrival.now) e y) n asking mark x (λ idle alive. (ticked_clock e arrival.now x i, stays_open here (ap (λ (c : Closing). c.state) i ∙ here)))
-  ends_goes here (Some (closed_by_peer close)) asking n mark x i = (ticked_clock e arrival.now x i, drained_now here refl refl)
-  ends_goes here (Some (broke error)) asking n mark x i = closes_for e arrival.now here (reason_of (broke error)) (λ own. own) x i
-  ends_goes here (Some too_many_pieces) asking n mark x i = closes_for e arrival.now here (reason_of too_many_pieces) (λ own. own) x i
+  ends_goes : e.closing.state ≡ states.Open → (fault : Option Fault) (asking urged : Bool) (n : ℕ) (mark : Option EcnCodepoint) (x : End) → Reads x → Comes (ends_as fault asking urged n mark x).end
+  ends_goes here None asking urged n mark x i = by_taken (λ (y : End). Goes (Some arrival.now) e y) n asking urged mark x (λ idle alive. (ticked_clock e arrival.now x i, stays_open here (ap (λ (c : Closing). c.state) i ∙ here)))
+  ends_goes here (Some (closed_by_peer close)) asking urged n mark x i = (ticked_clock e arrival.now x i, drained_now here refl refl)
+  ends_goes here (Some (broke error)) asking urged n mark x i = closes_for e arrival.now here (reason_of (broke error)) (λ own. own) x i
+  ends_goes here (Some too_many_pieces) asking urged n mark x i = closes_for e arrival.now here (reason_of too_many_pieces) (λ own. own) x i
 
   -- a packet whose number is new
   abbrev noted : Opening → End
@@ -170,7 +170,7 @@ module _ (e : End) (arrival : Arrival) where
   state_goes states.Open o here =
       let begins : End = with_closing (noted o) (ticked (noted o).closing arrival.now) in
       let taken = take_payload o.first (items o.payload) begins in
-      ends_goes here taken.fault (asks_in (items o.payload)) o.number arrival.mark taken.end (payload_reads o.first (items o.payload) begins refl)
+      ends_goes here taken.fault (asks_in (items o.payload)) (is_urged arrival.mark (items o.payload) begins) o.number arrival.mark taken.end (payload_reads o.first (items o.payload) begins refl)
   state_goes states.Closing o here = (clock_kept e.closing.clock (Some arrival.now), stays_so refl refl)
   state_goes states.Drained o here = (clock_kept e.closing.clock (Some arrival.now), stays_so refl refl)
   state_goes states.Failed o here = (clock_kept e.closing.clock (Some arrival.now), stays_so refl refl)

@@ -14,7 +14,6 @@ use Rattle.quic_parameters.specs.Parameters.{ParameterValues}
 use Rattle.quic_config.specs.Transport.{TransportSettings, told_timeout}
 use Rattle.quic_recovery_core.specs.PendingAcks.{Pending, after_insert, packet_starts_wait}
 use Rattle.quic_spaces.specs.Acknowledging.{ack_due, with_due}
-use Rattle.quic_spaces.specs.Marks.{is_congested}
 use Rattle.quic_machine.specs.declared.answers.State.TheVariants as states
 use Rattle.quic_machine.specs.declared.run.Call.{Call}
 use Rattle.quic_machine.specs.declared.run.Call.TheVariants as calls
@@ -147,18 +146,18 @@ noted_idle : (b : Bool) (t : Timers) (moment : Option ℕ) → (if b then with_a
 noted_idle true t moment = refl
 noted_idle false t moment = refl
 
-taken_restarts : (n : ℕ) (asks : Bool) (mark : Option EcnCodepoint) (e : End) → Restarts (idling e) true false (after_taken n asks mark e)
-taken_restarts n asks mark e = record { over = set; armed = refl }
+taken_restarts : (n : ℕ) (asks urged : Bool) (mark : Option EcnCodepoint) (e : End) → Restarts (idling e) true false (after_taken n asks urged mark e)
+taken_restarts n asks urged mark e = record { over = set; armed = refl }
   where
     agreed : Option ℕ
     agreed = agreed_timeout e.transport e.peer_params
 
     pending : Pending
-    pending = with_due (is_congested mark) (after_insert e.acknowledging n e.closing.clock)
+    pending = with_due urged (after_insert e.acknowledging n e.closing.clock)
 
-    set : (after_taken n asks mark e).timers.idle ≡ idle_again agreed e.closing.clock (three_timeouts e) e.timers.idle
+    set : (after_taken n asks urged mark e).timers.idle ≡ idle_again agreed e.closing.clock (three_timeouts e) e.timers.idle
     set =
-        moment_is agreed (record (number_noted n asks mark e) { idle_armed = true })
+        moment_is agreed (record (number_noted n asks urged mark e) { idle_armed = true })
         ∙ ap (λ (o : Option ℕ). idle_again agreed e.closing.clock (three_timeouts e) o) (noted_idle (packet_starts_wait pending n asks e.numbers.opened) e.timers (Some (ack_due e.frequency.own_delay e.closing.clock)))
 
 -- by a datagram that is given
@@ -251,9 +250,9 @@ arrivals_set : (e : End) (now n : ℕ) (frames : List FrameValue) (i : Intake) �
 arrivals_set e now n frames i = record {
   ignored = λ reason. none_set e i;
   noted = λ state reason opened. absurd (let clash : states.Closing ≡ states.Open = sym state ∙ opened in cc);
-  takes = λ words state new none mark opened. (
-      let taken : End = after_taken n (asks_in (map Ok frames)) mark left in
-      let r : Restarts (idling e) true false taken = subst (λ (b : Idling). Restarts b true false taken) (frames_idling frames (begun e now n)) (taken_restarts n (asks_in (map Ok frames)) mark left) in
+  takes = λ words state new none urged mark opened. (
+      let taken : End = after_taken n (asks_in (map Ok frames)) urged mark left in
+      let r : Restarts (idling e) true false taken = subst (λ (b : Idling). Restarts b true false taken) (frames_idling frames (begun e now n)) (taken_restarts n (asks_in (map Ok frames)) urged mark left) in
       subst (λ (ps : List Packet). Restarts (idling e) (nat_lt 0 (length ps)) false (drawn words taken)) (sym (one_new i n frames)) (record { over = r.over; armed = r.armed }));
   drains = λ words state new close is opened. absurd cc;
   refuses = λ words state new f is opened. absurd cc;

@@ -37,7 +37,7 @@ use Rattle.quic_spaces.specs.Numbers.{Numbers, number_opened}
 use Rattle.quic_machine.specs.Tracking.{after_answered, Tracking, TrackedPacket, asks_any, without_record, is_behind, tail_of, forgets, forgotten, oldest, without_packet, asking_sent, after_sent, Verdict, is_lost, kept_by, loss_moment, moment_or, probe_moment, after_detection, acked_by, not_acked_by, names}
 use Rattle.quic_machine.specs.End.{End, with_closing, closed_by, with_numbers, number_of, with_ping, with_immediate, probe_timeout, with_window}
 use Rattle.quic_machine.specs.Acked.{verdict, losses_detected, measured, sampled, without_acked, after_named, after_acked, losses_taken}
-use Rattle.quic_machine.specs.Receive.{Fault, broke, too_many_pieces, closed_by_peer, drained_at, exhausted, unopened_in, is_read, drawn_if, violation, reason_of, take_frame, take_items, take_payload, is_empty, asks_in, after_taken, dropped, ends_as, by_state, opened_to, opened_as, opening, headed, received_in, received}
+use Rattle.quic_machine.specs.Receive.{Fault, broke, too_many_pieces, closed_by_peer, drained_at, exhausted, unopened_in, is_read, drawn_if, violation, reason_of, take_frame, take_items, take_payload, is_empty, asks_in, is_urged, after_taken, dropped, ends_as, by_state, opened_to, opened_as, opening, headed, received_in, received}
 use Rattle.quic_machine.specs.Poll.{Polled, Draft, packet_of, after_given, record_moved, draft_as, polled, Leaving, Ready}
 use Rattle.quic_machine.specs.Timeouts.{Expiry, loss_judged}
 use Rattle.quic_machine.specs.Machine.{World, Policies, after_call, Follows}
@@ -73,7 +73,7 @@ pub record Hears (P Q : End → Type 0) : Type 0 where
   pub notes : (n : ℕ) (e : End) → P e → P (with_numbers e (number_opened e.numbers n))
   pub begins : (now n : ℕ) (e : End) → P e → Q (begun e now n)
   pub frame : (f : FrameValue) (e : End) → Q e → Q (take_frame f e).end
-  pub takes : (n : ℕ) (asks : Bool) (mark : Option EcnCodepoint) (e : End) → Q e → P (after_taken n asks mark e)
+  pub takes : (n : ℕ) (asks urged : Bool) (mark : Option EcnCodepoint) (e : End) → Q e → P (after_taken n asks urged mark e)
   pub closes : (reason : LostReason) (e : End) → Q e → P (closed_by reason e)
   pub drains : (close : ℕ × CloseValue) (e : End) → Q e → P (drained_at close.0 close.1 e)
   pub asks_close : (e : End) → P e → P (with_closing e (close_asked e.closing))
@@ -90,17 +90,18 @@ module _ (P Q : End → Type 0) (c : Hears P Q) where
       go false = items_keep Q c.frame is e i
 
   -- all frames were taken, or one was at fault
-  ends_hear : (fault : Option Fault) (asks : Bool) (n : ℕ) (mark : Option EcnCodepoint) (e : End) → Q e → P (ends_as fault asks n mark e).end
-  ends_hear None asks n mark e i = c.takes n asks mark e i
-  ends_hear (Some (closed_by_peer close)) asks n mark e i = c.drains (n, close) e i
-  ends_hear (Some (broke error)) asks n mark e i = c.closes (reason_of (broke error)) e i
-  ends_hear (Some too_many_pieces) asks n mark e i = c.closes (reason_of too_many_pieces) e i
+  ends_hear : (fault : Option Fault) (asks urged : Bool) (n : ℕ) (mark : Option EcnCodepoint) (e : End) → Q e → P (ends_as fault asks urged n mark e).end
+  ends_hear None asks urged n mark e i = c.takes n asks urged mark e i
+  ends_hear (Some (closed_by_peer close)) asks urged n mark e i = c.drains (n, close) e i
+  ends_hear (Some (broke error)) asks urged n mark e i = c.closes (reason_of (broke error)) e i
+  ends_hear (Some too_many_pieces) asks urged n mark e i = c.closes (reason_of too_many_pieces) e i
 
   -- a packet whose number is new
   state_hears : (state : State) (o : Opening) (arrival : Arrival) (e : End) → P e → P (by_state state o arrival (with_numbers e (number_opened e.numbers o.number))).end
   state_hears states.Open o arrival e i =
-      let taken = take_payload o.first (items o.payload) (begun e arrival.now o.number) in
-      ends_hear taken.fault (asks_in (items o.payload)) o.number arrival.mark taken.end (payload_hears o.first (items o.payload) (begun e arrival.now o.number) (c.begins arrival.now o.number e i))
+      let begins = begun e arrival.now o.number in
+      let taken = take_payload o.first (items o.payload) begins in
+      ends_hear taken.fault (asks_in (items o.payload)) (is_urged arrival.mark (items o.payload) begins) o.number arrival.mark taken.end (payload_hears o.first (items o.payload) begins (c.begins arrival.now o.number e i))
   state_hears states.Closing o arrival e i = c.asks_close (with_numbers e (number_opened e.numbers o.number)) (c.notes o.number e i)
   state_hears states.Drained o arrival e i = c.notes o.number e i
   state_hears states.Failed o arrival e i = c.notes o.number e i
@@ -303,7 +304,7 @@ hears = record {
   notes = λ n e i opened. (let s = i opened in record { stands = record { lies = s.stands.lies; asked = s.stands.asked; late = s.stands.late }; set = s.set });
   begins = λ now n e i opened. (i opened).stands;
   frame = frame_keeps FrameStands (record { ack = ack_stands; on_streams = λ f e on i. frame_leaves FrameStands f e on (λ t. i); apart = λ f e is i. apart_leaves FrameStands f e is (λ c. i) (λ c most. i); message = λ m e i. i });
-  takes = λ n asks mark e i. by_taken LossStands n asks mark e (λ idle alive opened. record { stands = i opened; set = refl });
+  takes = λ n asks urged mark e i. by_taken LossStands n asks urged mark e (λ idle alive opened. record { stands = i opened; set = refl });
   closes = λ reason e i. closed_stands reason e;
   drains = λ close e i opened. cc;
   asks_close = λ e i opened. (let s = i opened in record { stands = record { lies = s.stands.lies; asked = s.stands.asked; late = s.stands.late }; set = s.set });

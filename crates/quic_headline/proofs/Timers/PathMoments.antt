@@ -102,7 +102,7 @@ module _ (n : ℕ) (o : Option ℕ) where
   arrivals_due e now k frames i was = record {
     ignored = λ reason opened. was;
     noted = λ state reason opened. absurd (let clash : states.Closing ≡ states.Open = sym state ∙ opened in cc);
-    takes = λ words state new none mark opened. taken_stands (λ (s : Standing). DueSo n o s) k (asks_in (map Ok frames)) mark (arrived e now k frames).end (frames_due frames (begun e now k) none was);
+    takes = λ words state new none urged mark opened. taken_stands (λ (s : Standing). DueSo n o s) k (asks_in (map Ok frames)) urged mark (arrived e now k frames).end (frames_due frames (begun e now k) none was);
     drains = λ words state new close is opened. absurd cc;
     refuses = λ words state new f is opened. absurd cc;
     exhausts = λ state opened. absurd cc;

@@ -34,7 +34,7 @@ opened_receives e = record {
     apart = λ f g is i. apart_leaves (WasOpen e) f g is (λ c. i) (λ c most. i);
     message = λ m f i. i;
   });
-  takes = λ n asks mark f i. by_taken (WasOpen e) n asks mark f (λ idle alive. i);
+  takes = λ n asks urged mark f i. by_taken (WasOpen e) n asks urged mark f (λ idle alive. i);
   closes = λ reason f i opened. cc;
   drains = λ close f i. λ opened. cc;
   asks_close = λ f i. i;

@@ -56,7 +56,7 @@ module _ (done : ℕ → Wrote) (before : StreamsState) (taken : FrameValue → 
       keep : Writing (λ (d : Draft). Both d.end.streams)
       keep (puts.control kind f) d may j = (
         by_told (Stays before) (stays_kept before) f d.end.streams j.0,
-        by_tells (Of (Consumes done taken)) d.end.streams j.1 (record { final = j.1.final; sum = j.1.sum; each = j.1.each }) (λ id. limit_consumes done before taken d.end.streams id j.0 j.1) (λ dir. record { final = j.1.final; sum = j.1.sum; each = j.1.each }) f,
+        by_tells (Of (Consumes done taken)) d.end.streams j.1 (record { final = j.1.final; sum = j.1.sum; each = j.1.each }) (λ id. limit_consumes done before taken d.end.streams id j.0 j.1) (λ dir. record { final = j.1.final; sum = j.1.sum; each = j.1.each }) (λ limit. j.1) (λ id limit. j.1) f,
       )
       keep (puts.stream id h room) d (found, first, some, is, counts) j = (by_frame (Stays before) (stays_kept before) d.end.transport.send_fairness d.end.streams id room h found tt j.0, j.1)
       keep p d may j = j
@@ -88,7 +88,7 @@ module _ (B : Way) (w : IsWriting B) (within : (x y : Party) → B x y → Withi
   arrivals now n frames says alone = record {
     ignored = λ reason. i.known;
     noted = λ state reason. i.known;
-    takes = λ words state new none mark. frames_take done before (WasIn (came_to x y).took) (WasIn (with_taken (came_to x y) n frames).took) frames (begun x.end now n) among says none here i.known;
+    takes = λ words state new none urged mark. frames_take done before (WasIn (came_to x y).took) (WasIn (with_taken (came_to x y) n frames).took) frames (begun x.end now n) among says none here i.known;
     drains = λ words state new close is. (
         let s : StreamsState = (passed frames (begun x.end now n)).end.streams in
         consumes_fewer done (WasIn (came_to x y).took) (WasIn (with_taken (came_to x y) n frames).took) s.side s.receiving s.opening.announced s.opening.configured

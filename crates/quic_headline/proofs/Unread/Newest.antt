@@ -352,7 +352,7 @@ module _ (B : Way) (w : IsWriting B) (x y : Party) (call : Call) (a : Answer) (c
           record {
             ignored = λ reason. more x.end.streams i.says;
             noted = λ state reason. more x.end.streams i.says;
-            takes = λ words state new none mark. more (passed s.frames (begun x.end delivery.now s.number)).end.streams after;
+            takes = λ words state new none urged mark. more (passed s.frames (begun x.end delivery.now s.number)).end.streams after;
             drains = λ words state new close fault. more (passed s.frames (begun x.end delivery.now s.number)).end.streams after;
             refuses = λ words state new f fault. more (passed s.frames (begun x.end delivery.now s.number)).end.streams after;
             exhausts = λ state. more x.end.streams i.says;

@@ -273,6 +273,7 @@ done_counted (changes.queues id old new b) s (is, on, same) i = record { shape =
 done_counted (changes.turns id old new) s (is, on, same) i = record { shape = shape_any (changes.turns id old new) s (is, tt, same) i.shape; counted = sends_counted s s id old (turned_at old.place s.sending.queue id new).half is i.shape i.counted }
 done_counted (changes.writes id n old new) s (is, on, same) i = record { shape = shape_any (changes.writes id n old new) s (is, tt, same) i.shape; counted = sends_counted s s id old (requeued_at old.place true s.sending.queue id new).half is i.shape i.counted }
 done_counted (changes.joins id h) s is i = joined_off s id h is i
+done_counted (changes.notes_on id h said) s is i = record { shape = shape_any (changes.notes_on id h said) s is i.shape; counted = sends_counted s s id h (record h { said = said }) is i.shape i.counted }
 done_counted (changes.passes id ids) s is i = record {
   shape = shape_any (changes.passes id ids) s is i.shape;
   counted = counted_same s.side s.receiving.halves s.receiving.halves s.sending.halves (record s.sending.halves { live = unblocked_at (at s.sending.halves.live id) s.sending.halves.live id }) s.opening.done (λ q. refl) (passed_counted s id) i.counted;

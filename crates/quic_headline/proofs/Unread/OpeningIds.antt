@@ -163,7 +163,7 @@ module _ (B : Way) (w : IsWriting B) (x y : Party) (call : Call) (a : Answer) (c
           record {
             ignored = λ reason. quiet call x.end.streams (ap opens_one is) refl;
             noted = λ closing reason. quiet call x.end.streams (ap opens_one is) refl;
-            takes = λ words open_there new fine mark. quiet call (passed s.frames before).end.streams (ap opens_one is) after;
+            takes = λ words open_there new fine urged mark. quiet call (passed s.frames before).end.streams (ap opens_one is) after;
             drains = λ words open_there new close fault. quiet call (passed s.frames before).end.streams (ap opens_one is) after;
             refuses = λ words open_there new f fault. quiet call (passed s.frames before).end.streams (ap opens_one is) after;
             exhausts = λ open_there. quiet call x.end.streams (ap opens_one is) refl;

@@ -50,7 +50,7 @@ module _ (B : Way) (w : IsWriting B) (x y : Party) (call : Call) (a : Answer) (c
     none = λ delivery is. here;
     comes = λ delivery is s among. (
         let all : P (passed s.frames (begun x.end delivery.now s.number)).end.streams = frames_keep (λ (e : End). P e.streams) l.frame s.frames (begun x.end delivery.now s.number) here in
-        record { ignored = λ reason. here; noted = λ state reason. here; takes = λ words state new none mark. all; drains = λ words state new close fault. all; refuses = λ words state new f fault. all; exhausts = λ state. here });
+        record { ignored = λ reason. here; noted = λ state reason. here; takes = λ words state new none urged mark. all; drains = λ words state new close fault. all; refuses = λ words state new f fault. all; exhausts = λ state. here });
   })
 
 -- ---- it holds always
@@ -115,7 +115,7 @@ module _ (I : StreamsState → Type 0) (E : FrameValue → StreamsState → Type
       arrivals now n frames alone = record {
         ignored = λ reason. i.each;
         noted = λ state reason. i.each;
-        takes = λ words state new none mark f was. go none f was.packet was.was_taken was.carried;
+        takes = λ words state new none urged mark f was. go none f was.packet was.was_taken was.carried;
         drains = λ words state new close fault f was. shut (closed_alone frames (begun x.end now n) close alone fault) f was.packet was.was_taken was.carried;
         refuses = λ words state new g fault f was. still f (i.each f was);
         exhausts = λ state. i.each;

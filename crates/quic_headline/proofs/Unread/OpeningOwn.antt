@@ -20,7 +20,7 @@ use Rattle.quic_streams_parts.specs.declared.answers.FinishError.{FinishError}
 use Rattle.quic_streams_parts.specs.declared.answers.ClosedStream.{ClosedStream}
 use Rattle.quic_streams_parts.specs.declared.answers.Written.{Written}
 use Rattle.quic_streams_parts.specs.Dirs.{Counts, of, is_own, is_two_way}
-use Rattle.quic_streams_parts.specs.SendHalf.{SendHalf, is_acked, half_acked}
+use Rattle.quic_streams_parts.specs.SendHalf.{SendHalf, was_said, is_acked, half_acked}
 use Rattle.quic_streams_parts.specs.RecvHalf.{RecvHalf, stopped_now, after_frame, after_reset_stream}
 use Rattle.quic_streams_halves.specs.Halves.{is_done}
 use Rattle.quic_retransmits.specs.Retransmits.{Retransmits}
@@ -109,7 +109,7 @@ module _ (P : Counts → Counts → Type 0) where
 
   blocked_own : (o : Option SendHalf) (s : StreamsState) (p : Retransmits) (id : ℕ) → Own s → Own (blocked_at o s p id).state
   blocked_own None s p id i = i
-  blocked_own (Some h) s p id i = either_streams (room s.sending == 0) (blocked_by_all s p id h) (blocked_by_own s p id) (joined_own s id h i) i
+  blocked_own (Some h) s p id i = either_streams (room s.sending == 0) (blocked_by_all s p id h) (blocked_by_own s p id h) (joined_own s id h i) (either_streams (was_said h.said h.limit) _ _ i i)
 
   accepted_own : (o : Option SendHalf) (s : StreamsState) (id : ℕ) (bytes : List ℕ) → Own s → Own (accepted_at o s id bytes)
   accepted_own None s id bytes i = i
@@ -259,7 +259,7 @@ module _ (P : Counts → Counts → Type 0) where
   composed_own e i = by_writing (λ (d : poll.Draft). Own d.end.streams) keep e i
     where
       keep : Writing (λ (d : poll.Draft). Own d.end.streams)
-      keep (puts.control kind f) d may j = by_tells Own d.end.streams j j (λ id. j) (λ dir. j) f
+      keep (puts.control kind f) d may j = by_tells Own d.end.streams j j (λ id. j) (λ dir. j) (λ limit. j) (λ id limit. j) f
       keep p d may j = j
 
   -- any call but a delivery, and one that opens a stream

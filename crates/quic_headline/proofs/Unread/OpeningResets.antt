@@ -142,7 +142,7 @@ module _ (id : ℕ) where
   SendsNoMore s = EachSends (λ j limit. Unit {0}) (λ j. (j ≡ id → ⊥)) (λ j h. (j ≡ id → ⊥)) (λ j. Unit {0}) s
 
   ends_of_halves : AreOfHalves (λ j limit. Unit {0}) (λ j. (j ≡ id → ⊥)) (λ j h. (j ≡ id → ⊥)) (λ j. Unit {0})
-  ends_of_halves = record { fresh = λ j limit f ne. ne; over = λ j h ne over. tt; blocked = λ j h b ne. ne; placed = λ j h p ne. ne }
+  ends_of_halves = record { fresh = λ j limit f ne. ne; over = λ j h ne over. tt; blocked = λ j h b ne. ne; noted = λ j h said ne. ne; placed = λ j h p ne. ne }
 
   ends_kept : KeepsBy (λ r j old new. Unit {0}) (λ s j old new. Unit {0}) (λ s j n old new. Unit {0}) SendsNoMore
   ends_kept = keeps_fewer (λ r j old new x. x) (λ s j old new x ne. ne) (λ s j n old new x ne. ne) (each_kept (λ j limit. Unit {0}) (λ j. (j ≡ id → ⊥)) (λ j h. (j ≡ id → ⊥)) (λ j. Unit {0}) ends_of_halves)
@@ -446,7 +446,7 @@ module _ (B : Way) (b : IsResetting B) (x y : Party) (call : Call) (a : Answer) 
         let before : End = begun x.end delivery.now s.number in
         let first : Goes id before = goes_same id x.end before refl refl refl (goes_first id now) in
         let after : Now id (passed s.frames before).end = goes_last id (passed s.frames before).end (frames_keep (Goes id) (frame_goes id) s.frames before first) in
-        record { ignored = λ reason. now; noted = λ state reason. now; takes = λ words state fresh none mark. after; drains = λ words state fresh close fault. after; refuses = λ words state fresh f fault. after; exhausts = λ state. now });
+        record { ignored = λ reason. now; noted = λ state reason. now; takes = λ words state fresh none urged mark. after; drains = λ words state fresh close fault. after; refuses = λ words state fresh f fault. after; exhausts = λ state. now });
   })
     where
       other : is_delivery call ≡ false → Now id x.end → Now id (after_call x.policy x.end y.given call a)

@@ -23,7 +23,7 @@ use Rattle.quic_streams_parts.specs.declared.answers.ClosedStream.{ClosedStream}
 use Rattle.quic_streams_parts.specs.declared.answers.Written.{Written}
 use Rattle.quic_streams_parts.specs.Dirs.{Counts, of, is_own}
 use Rattle.quic_streams_parts.specs.Table.{at}
-use Rattle.quic_streams_parts.specs.SendHalf.{SendHalf, is_acked, half_acked}
+use Rattle.quic_streams_parts.specs.SendHalf.{SendHalf, was_said, is_acked, half_acked}
 use Rattle.quic_streams_parts.specs.RecvHalf.{RecvHalf, new_recv_half, next_of, begun, read_on, stopped_now, after_frame, after_reset_stream, end_of, is_read_up, at_end, chunk_or_end, next_unless}
 use Rattle.quic_streams_halves.specs.Halves.{is_done}
 use Rattle.quic_retransmits.specs.Retransmits.{Retransmits}
@@ -113,7 +113,7 @@ module _ (K : Side → Receiving → Counts → Counts → Type 0) where
 
   blocked_left : (o : Option SendHalf) (s : StreamsState) (p : Retransmits) (id : ℕ) → Of s → Of (blocked_at o s p id).state
   blocked_left None s p id i = i
-  blocked_left (Some h) s p id i = either_streams (room s.sending == 0) (blocked_by_all s p id h) (blocked_by_own s p id) (joined_left s id h i) i
+  blocked_left (Some h) s p id i = either_streams (room s.sending == 0) (blocked_by_all s p id h) (blocked_by_own s p id h) (joined_left s id h i) (either_streams (was_said h.said h.limit) _ _ i i)
 
   accepted_left : (o : Option SendHalf) (s : StreamsState) (id : ℕ) (bytes : List ℕ) → Of s → Of (accepted_at o s id bytes)
   accepted_left None s id bytes i = i

@@ -138,7 +138,7 @@ arrivals_answered : (e : End) (now n : ℕ) (frames : List FrameValue) (i : Inta
 arrivals_answered e now n frames i fits = record {
   ignored = λ reason opened. none_answered e.validation.challenge e.path.validated i e refl;
   noted = λ state reason opened. absurd (let clash : states.Closing ≡ states.Open = sym state ∙ opened in cc);
-  takes = λ words state new none mark opened. record {
+  takes = λ words state new none urged mark opened. record {
     by = λ unvalidated is. (let found = validates frames (begun e now n) none unvalidated is in record {
       token = found.0;
       packet = packet;

@@ -126,7 +126,7 @@ module _ (latest : Option (List ℕ)) (renewed : Bool) where
   arrivals_ask e now n frames i was = record {
     ignored = λ reason opened. was;
     noted = λ state reason opened. absurd (let clash : states.Closing ≡ states.Open = sym state ∙ opened in cc);
-    takes = λ words state new none mark opened. taken_stands (λ (s : Standing). AsksSo latest renewed s) n (asks_in (map Ok frames)) mark (arrived e now n frames).end (frames_ask frames (begun e now n) none was);
+    takes = λ words state new none urged mark opened. taken_stands (λ (s : Standing). AsksSo latest renewed s) n (asks_in (map Ok frames)) urged mark (arrived e now n frames).end (frames_ask frames (begun e now n) none was);
     drains = λ words state new close is opened. absurd cc;
     refuses = λ words state new f is opened. absurd cc;
     exhausts = λ state opened. absurd cc;
@@ -203,7 +203,7 @@ arrivals_small : (e : End) (now n : ℕ) (frames : List FrameValue) (i : Intake)
 arrivals_small e now n frames i was = record {
   ignored = λ reason opened. was;
   noted = λ state reason opened. was;
-  takes = λ words state new none mark opened. frames_stand (λ (left : List FrameValue) (s : Standing). SmallAsked s) (λ token left s j. answered_small (is_asked s.asked.validation.challenge (word_of token)) s j) (λ f left s other j. j) frames (begun e now n) none was;
+  takes = λ words state new none urged mark opened. frames_stand (λ (left : List FrameValue) (s : Standing). SmallAsked s) (λ token left s j. answered_small (is_asked s.asked.validation.challenge (word_of token)) s j) (λ f left s other j. j) frames (begun e now n) none was;
   drains = λ words state new close is opened. absurd cc;
   refuses = λ words state new f is opened. absurd cc;
   exhausts = λ state opened. was;

@@ -14,7 +14,6 @@ use Rattle.quic_paths.specs.Paths.{is_asked}
 use Rattle.quic_retransmits.specs.Retransmits.{can_retire}
 use Rattle.quic_recovery_core.specs.PendingAcks.{after_insert, packet_starts_wait}
 use Rattle.quic_spaces.specs.Acknowledging.{ack_due, with_due}
-use Rattle.quic_spaces.specs.Marks.{is_congested}
 use Rattle.quic_machine.specs.declared.run.Call.{Call}
 use Rattle.quic_machine.specs.declared.run.Answer.{Answer}
 use Rattle.quic_machine.specs.declared.run.Answer.TheVariants as answers
@@ -127,8 +126,8 @@ module _ (Q : Standing → Type 0) where
   next_stands e a i = i
 
   -- a packet that was taken leaves it, whether or not it starts a wait for an acknowledgement
-  pub taken_stands : (n : ℕ) (asking : Bool) (mark : Option EcnCodepoint) (e : End) → Of e → Of (after_taken n asking mark e)
-  taken_stands n asking mark e i = go (packet_starts_wait (with_due (is_congested mark) (after_insert e.acknowledging n e.closing.clock)) n asking e.numbers.opened)
+  pub taken_stands : (n : ℕ) (asking urged : Bool) (mark : Option EcnCodepoint) (e : End) → Of e → Of (after_taken n asking urged mark e)
+  taken_stands n asking urged mark e i = go (packet_starts_wait (with_due urged (after_insert e.acknowledging n e.closing.clock)) n asking e.numbers.opened)
     where
       go : (b : Bool) → Q (record (standing e) { due = (if b then with_ack_timer e.timers (Some (ack_due e.frequency.own_delay e.closing.clock)) else e.timers).path_validation })
       go true = i

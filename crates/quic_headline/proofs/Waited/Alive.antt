@@ -10,7 +10,6 @@ use Rattle.quic_congestion.specs.Pacer.{Pacing}
 use Rattle.quic_config.specs.Transport.{TransportSettings}
 use Rattle.quic_recovery_core.specs.PendingAcks.{Pending, after_insert, packet_starts_wait}
 use Rattle.quic_spaces.specs.Acknowledging.{ack_due, with_due}
-use Rattle.quic_spaces.specs.Marks.{is_congested}
 use Rattle.quic_machine.specs.declared.answers.State.{State}
 use Rattle.quic_machine.specs.declared.answers.State.TheVariants as states
 use Rattle.quic_machine.specs.declared.run.Call.{Call}
@@ -71,10 +70,10 @@ noted_alive : (b : Bool) (t : Timers) (moment : Option ℕ) → (if b then with_
 noted_alive true t moment = refl
 noted_alive false t moment = refl
 
-pub taken_alive : (n : ℕ) (asks : Bool) (mark : Option EcnCodepoint) (e : End) → (after_taken n asks mark e).timers.keep_alive ≡ alive_again e.transport.keep_alive_interval e.closing.clock e.timers.keep_alive
-taken_alive n asks mark e =
-    let pending : Pending = with_due (is_congested mark) (after_insert e.acknowledging n e.closing.clock) in
-    moment_is e.transport.keep_alive_interval (idle_reset (record (number_noted n asks mark e) { idle_armed = true }))
+pub taken_alive : (n : ℕ) (asks urged : Bool) (mark : Option EcnCodepoint) (e : End) → (after_taken n asks urged mark e).timers.keep_alive ≡ alive_again e.transport.keep_alive_interval e.closing.clock e.timers.keep_alive
+taken_alive n asks urged mark e =
+    let pending : Pending = with_due urged (after_insert e.acknowledging n e.closing.clock) in
+    moment_is e.transport.keep_alive_interval (idle_reset (record (number_noted n asks urged mark e) { idle_armed = true }))
     ∙ ap (λ (o : Option ℕ). alive_again e.transport.keep_alive_interval e.closing.clock o) (noted_alive (packet_starts_wait pending n asks e.numbers.opened) e.timers (Some (ack_due e.frequency.own_delay e.closing.clock)))
 
 -- by a datagram that is given
@@ -236,8 +235,8 @@ pub arrivals_set : (e : End) (now n : ℕ) (frames : List FrameValue) (i : Intak
 arrivals_set e now n frames i = record {
   ignored = λ reason. none_set e i e refl;
   noted = λ state reason opened. absurd (let clash : states.Closing ≡ states.Open = sym state ∙ opened in cc);
-  takes = λ words state new none mark opened.
-      taken_alive n (asks_in (map Ok frames)) mark left
+  takes = λ words state new none urged mark opened.
+      taken_alive n (asks_in (map Ok frames)) urged mark left
       ∙ ap (λ (t : TransportSettings). alive_again t.keep_alive_interval left.closing.clock left.timers.keep_alive) (keeps_frames frames (begun e now n)).transport
       ∙ ap (λ (o : Option ℕ). alive_again e.transport.keep_alive_interval left.closing.clock o) left_alive
       ∙ ap (λ (ps : List Packet). if nat_lt 0 (length ps) then alive_again e.transport.keep_alive_interval left.closing.clock e.timers.keep_alive else e.timers.keep_alive) (sym (one_new i n frames));

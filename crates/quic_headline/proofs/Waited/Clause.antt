@@ -24,6 +24,7 @@ use Rattle.quic_headline.specs.Polls.{GaveOne}
 use Rattle.quic_headline.specs.Waited.{count_silent, may_come, stands, Wants, wants, FrameWaited, HasWaited, as_size_probe, as_loss_probe, as_ack, as_frames, as_close, EachWaited}
 use Rattle.quic_headline.specs.InFlight.{is_max_streams, is_ack_frequency}
 use Rattle.quic_headline.specs.Requests.{Asking, asking_at, count_requests, wants_anew}
+use Rattle.quic_headline.proofs.Packets.Acked.{acks}
 use Rattle.quic_headline.proofs.Packets.Flying.{asking_padded}
 use Rattle.quic_headline.proofs.Packets.Group.{PacketsHold}
 use Rattle.quic_headline.proofs.Packets.Searches.{ready_room}
@@ -45,7 +46,7 @@ use Rattle.quic_headline.proofs.Steps.Probing.{IsGiving, closing_alone, probe_go
 use Rattle.quic_headline.proofs.Steps.Probing as probing
 use Rattle.quic_headline.proofs.Settled.Words.{Settling}
 use Rattle.quic_headline.proofs.Settled.Carried.{known_of}
-use Rattle.quic_headline.proofs.Settled.Group.{Open, acks, told_so}
+use Rattle.quic_headline.proofs.Settled.Group.{Open, told_so}
 use Rattle.quic_headline.proofs.Settled.Clause.{Held, held}
 use Rattle.quic_headline.proofs.Waited.Flags.{Flag, all, counts, blocked, challenge, response, says, flag, draft_said, asked_flag}
 use Rattle.quic_headline.proofs.Waited.Pings.{ready_still}

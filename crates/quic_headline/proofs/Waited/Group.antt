@@ -11,7 +11,6 @@ use Rattle.quic_wire_core.specs.declared.shared.EcnCodepoint.{EcnCodepoint}
 use Rattle.quic_wire.specs.Value.{FrameValue, asks}
 use Rattle.quic_recovery_core.specs.Duplicates.{Seen}
 use Rattle.quic_recovery_core.specs.PendingAcks.{Pending, after_insert, asking_counted, starts_wait, after_packet}
-use Rattle.quic_spaces.specs.Marks.{is_congested}
 use Rattle.quic_spaces.specs.Acknowledging.{with_due}
 use Rattle.quic_time.specs.Timers.{has_come}
 use Rattle.quic_config.specs.Transport.{TransportSettings}
@@ -92,7 +91,7 @@ arrivals_count : (e : End) (now n : ℕ) (frames : List FrameValue) (i : Intake)
 arrivals_count e now n frames i packets was = record {
   ignored = λ reason opened. none_counts packets i e (was opened) opened;
   noted = λ state reason opened. absurd (let clash : states.Closing ≡ states.Open = sym state ∙ opened in cc);
-  takes = λ words state new none mark opened. takes mark (was state);
+  takes = λ words state new none urged mark opened. takes urged mark (was state);
   drains = λ words state new close is opened. absurd cc;
   refuses = λ words state new f is opened. absurd cc;
   exhausts = λ state opened. absurd cc;
@@ -101,13 +100,13 @@ arrivals_count e now n frames i packets was = record {
     left : End
     left = (arrived e now n frames).end
 
-    after : Option EcnCodepoint → Pending
-    after mark = (after_taken n (asks_in (map Ok frames)) mark left).acknowledging
+    after : Bool → Option EcnCodepoint → Pending
+    after urged mark = (after_taken n (asks_in (map Ok frames)) urged mark left).acknowledging
 
-    takes : (mark : Option EcnCodepoint) → e.acknowledging.silent ≤ count_silent packets → (after mark).silent ≤ count_silent (news i (with_taken i n frames) ++ packets)
-    takes mark old =
-        subst (λ (qs : List Packet). (after mark).silent ≤ count_silent (qs ++ packets)) (sym (one_new i n frames))
-        (packet_counts (asks_in (map Ok frames)) (with_due (is_congested mark) (after_insert left.acknowledging n left.closing.clock)) left.closing.clock n left.numbers.opened packets (record { number = n; frames = frames }) (sym (asks_same frames))
+    takes : (urged : Bool) (mark : Option EcnCodepoint) → e.acknowledging.silent ≤ count_silent packets → (after urged mark).silent ≤ count_silent (news i (with_taken i n frames) ++ packets)
+    takes urged mark old =
+        subst (λ (qs : List Packet). (after urged mark).silent ≤ count_silent (qs ++ packets)) (sym (one_new i n frames))
+        (packet_counts (asks_in (map Ok frames)) (with_due urged (after_insert left.acknowledging n left.closing.clock)) left.closing.clock n left.numbers.opened packets (record { number = n; frames = frames }) (sym (asks_same frames))
         (subst (λ (k : ℕ). k ≤ count_silent packets) (sym (frames_acks frames (begun e now n)).silent) old))
 
 -- ---- a poll

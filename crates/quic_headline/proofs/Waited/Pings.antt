@@ -253,7 +253,7 @@ receives_same b e = record {
     apart = λ f x is i. apart_same b f e x is i;
     message = λ m x i. i;
   });
-  takes = λ n asks mark x i. by_taken (SameBare b e) n asks mark x (λ idle alive. i);
+  takes = λ n asks urged mark x i. by_taken (SameBare b e) n asks urged mark x (λ idle alive. i);
   closes = λ reason x i. i;
   drains = λ close x i. i;
   asks_close = λ x i. i;

@@ -1,7 +1,7 @@
 -- An acknowledgement is due at an open end only where its observer finds an ACK frame wanted: one
--- is due for packets that ask, a packet bore the mark of congestion, or many came that don't ask.
+-- is due for packets that ask, a packet was urged by its mark, or many came that don't ask.
 -- Each call keeps that.
-use Rattle.std.proofs.Common.{◌≡◌, ℕ, ◌≤◌, ◌⊎◌, max, Bool, true, false, ◌||◌, ◌&&◌, List, [], ◌++◌, Option, refl, sym, ap, ◌∙◌, subst, inl, inr, arith}
+use Rattle.std.proofs.Common.{◌≡◌, ℕ, ◌≤◌, ◌⊎◌, max, Bool, true, false, ◌||◌, ◌&&◌, List, [], ◌++◌, Option, refl, sym, ap, ◌∙◌, inl, inr, arith}
 use Rattle.std.specs.Prelude.{if◌then◌else◌, nat_lt}
 use Rattle.std.proofs.lemmas.Bool.{and_parts, and_from, or_cases, or_left, or_right, both_ways, lt-ltb, ltb-true}
 use Rattle.quic_recovery_core.specs.PendingAcks.{Pending, lazy_threshold}
@@ -10,11 +10,9 @@ use Rattle.quic_machine.specs.declared.answers.State.TheVariants as states
 use Rattle.quic_machine.specs.declared.run.Call.{Call}
 use Rattle.quic_machine.specs.declared.run.Call.TheVariants as calls
 use Rattle.quic_machine.specs.declared.run.Answer.{Answer}
-use Rattle.quic_machine.specs.declared.run.Answer.TheVariants as answers
 use Rattle.quic_machine.specs.Closing.{Closing}
 use Rattle.quic_machine.specs.Calls.{closed_in}
 use Rattle.quic_machine.specs.End.{End}
-use Rattle.quic_machine.specs.Receive.{Outcome}
 use Rattle.quic_machine.specs.CallCases.{is_delivery, is_poll}
 use Rattle.quic_machine.specs.InjectionCases.{by_injection}
 use Rattle.quic_machine.specs.LeaveCases.{by_event}
@@ -23,10 +21,9 @@ use Rattle.quic_headline.specs.Runs.{Told, Packet, Intake}
 use Rattle.quic_headline.specs.Observer.{news, is_past, is_timely}
 use Rattle.quic_headline.specs.Moments.{acknowledges, deadlines_of, first_deadline}
 use Rattle.quic_headline.specs.Rest.{asking_among}
-use Rattle.quic_headline.specs.AcksDue.{one_hastens, takes_marked, are_some, waits_out, Haste}
+use Rattle.quic_headline.specs.AcksDue.{one_hastens, takes_urged, are_some, waits_out, Haste}
 use Rattle.quic_headline.specs.Waited.{count_silent, may_come, Wants}
 use Rattle.quic_headline.proofs.Packets.Apart.{next_acks}
-use Rattle.quic_headline.proofs.Packets.Delivered.{ArrivalsWith}
 use Rattle.quic_headline.proofs.Packets.Intakes.{none_handed}
 use Rattle.quic_headline.proofs.Packets.Watching.{none_new}
 use Rattle.quic_headline.proofs.Packets.Group.{meets}
@@ -34,15 +31,16 @@ use Rattle.quic_headline.proofs.Places.Parties.{sents_by, told_of, Party, called
 use Rattle.quic_headline.proofs.Places.Groups.{Way, And, Calls, Group, both, beside, less_calls}
 use Rattle.quic_headline.proofs.Places.Coming.{came_same, by_coming_with}
 use Rattle.quic_headline.proofs.Timers.Still.{was_open}
-use Rattle.quic_headline.proofs.Timers.Watched.{Observed}
+use Rattle.quic_headline.proofs.Timers.Watched.{Observed, watch_behind}
 use Rattle.quic_headline.proofs.Timers.AckMoments.{call_answered, debt_of}
 use Rattle.quic_headline.proofs.Timers.FirstDue.{Indebted, debt_group}
 use Rattle.quic_headline.proofs.Rest.Unanswered.{unanswered_of, packets_told, Answers, answers_group}
+use Rattle.quic_headline.proofs.AcksDue.Urging.{urged_by, urged_told, urged_taken}
 use Rattle.quic_headline.proofs.AcksDue.Arrivals.{DueOf, arrivals_due}
 use Rattle.quic_headline.proofs.AcksDue.Waits.{deadlines_if, deadlines_told}
-use Rattle.quic_headline.proofs.AcksDue.Group.{Waiting, haste_of, due_if, due_told, clock_there, after, Hastes, pressing, hastes_group}
+use Rattle.quic_headline.proofs.AcksDue.Group.{Waiting, haste_of, due_if, urged, due_told, clock_there, after, Hastes, pressing, hastes_group}
 use Rattle.quic_headline.proofs.Waited.Alive.{timed}
-use Rattle.quic_headline.proofs.Waited.Group.{silent_more, wants_of, wants_next, Wanting, wanting_group}
+use Rattle.quic_headline.proofs.Waited.Group.{silent_more, wants_of, wants_watch, wants_next, Wanting, wanting_group}
 use Rattle.quic_headline.proofs.Begins.Acks.{timeout_due, polled_due}
 
 -- what isn't answered, what is due for it, and what is wanted
@@ -93,11 +91,11 @@ module _ (x y : Party) (call : Call) (a : Answer) (c : Calls Urging x y call a) 
 
   -- what the observer finds due anew
   abbrev anew : Bool
-  anew = one_hastens acked i j packets || ((takes_marked call a && are_some packets) || waits_out t deadlines clock)
+  anew = one_hastens acked i j packets || ((urged x y call a waiting && are_some packets) || waits_out t deadlines clock)
 
   -- it finds one due behind a call that gives no ACK frame where it did, or does anew
   haste_then : acknowledges (sents_by x.policy x.end call a) ≡ false → ((haste_of x y).due || anew) ≡ true → (haste_of next y).due ≡ true
-  haste_then none is = due_told x y call a waiting ∙ ap (λ (b : Bool). due_if t b (haste_of x y).due acked i j packets deadlines clock) none ∙ is
+  haste_then none is = due_told x y call a waiting ∙ ap (λ (b : Bool). due_if t b (haste_of x y).due (urged x y call a waiting) acked i j packets deadlines clock) none ∙ is
 
   -- the packets that wait
   packets_then : acknowledges (sents_by x.policy x.end call a) ≡ false → packets ≡ asking_among (news i j) ++ ps
@@ -107,9 +105,17 @@ module _ (x y : Party) (call : Call) (a : Answer) (c : Calls Urging x y call a) 
     was : x.end.closing.state ≡ states.Open
     was = was_open x.policy x.end y.given call a opened
 
-    -- a packet bore the mark where one did, or does
-    marked_then : acknowledges (sents_by x.policy x.end call a) ≡ false → (takes_marked call a || (wants_of x y).marked) ≡ true → (wants_of next y).marked ≡ true
-    marked_then none is = ap (λ (w : Wants). w.marked) (wants_next x y call a observed opened (c.gives.1.1.wanted was)) ∙ ap (λ (b : Bool). if b then false else takes_marked call a || (wants_of x y).marked) none ∙ is
+    -- a packet was urged by its mark where one was, or is
+    marked_then : acknowledges (sents_by x.policy x.end call a) ≡ false → (urged_by x y call a j || (wants_of x y).marked) ≡ true → (wants_of next y).marked ≡ true
+    marked_then none is =
+        ap (λ (w : Wants). w.marked) (wants_next x y call a observed opened (c.gives.1.1.wanted was))
+        ∙ ap (λ (b : Bool). if b then false else urged_here || (wants_of x y).marked) none
+        ∙ ap (λ (b : Bool). b || (wants_of x y).marked) (urged_told x y call a observed (wants_of x y).watch (wants_watch x y))
+        ∙ is
+      where
+        -- as it is found within what is wanted
+        urged_here : Bool
+        urged_here = takes_urged t (wants_of x y).watch (watch_behind x y call a observed (wants_of x y).watch (wants_watch x y))
 
     -- and as many came that don't ask, or more
     silent_then : acknowledges (sents_by x.policy x.end call a) ≡ false → count_silent (wants_of x y).packets ≤ count_silent (wants_of next y).packets
@@ -119,8 +125,8 @@ module _ (x y : Party) (call : Call) (a : Answer) (c : Calls Urging x y call a) 
         let counts : count_silent (wants_of next y).packets ≡ count_silent (news i j ++ (wants_of x y).packets) = ap count_silent same in
         omega arith
 
--- what makes one due behind a call: the observer finds one due, or a packet bore the mark, or a
--- poll met many packets that don't ask
+-- what makes one due behind a call: the observer finds one due, or a packet was urged by its mark,
+-- or a poll met many packets that don't ask
 abbrev pub makes_due : Party → Party → Call → Answer → Bool
 makes_due x y call a = (haste_of (called x y.given call a) y).due || ((wants_of (called x y.given call a) y).marked || (is_poll call && nat_lt may_come (count_silent (wants_of x y).packets)))
 
@@ -134,7 +140,7 @@ delivered_urges x y call a c none comes opened due = elim (caused opened due) [
   | inl before ↦ inl before
   | inr other ↦ inr (elim other [
     | inl hastens ↦ or_left (haste_of next y).due _ (haste_then x y call a c none (or_right (haste_of x y).due _ (or_left (one_hastens acked i j (unanswered_of next y).packets) _ (ap (λ (qs : List Packet). one_hastens acked i j qs) (packets_then x y call a c none) ∙ hastens))))
-    | inr marked ↦ or_right (haste_of next y).due _ (or_left (wants_of next y).marked _ (marked_then x y call a c opened none (or_left (takes_marked call a) (wants_of x y).marked marked)))
+    | inr marked ↦ or_right (haste_of next y).due _ (or_left (wants_of next y).marked _ (marked_then x y call a c opened none (or_left (urged_by x y call a j) (wants_of x y).marked marked)))
   ])
 ]
   where
@@ -154,14 +160,13 @@ delivered_urges x y call a c none comes opened due = elim (caused opened due) [
     ps = (unanswered_of x y).packets
 
     Caused : Answer → End → Intake → Type 0
-    Caused b e k = e.closing.state ≡ states.Open → DueOf x.end.acknowledging acked i ps (takes_marked call b) e.acknowledging k
+    Caused b e k = e.closing.state ≡ states.Open → DueOf x.end.acknowledging acked i ps (urged_by x y call b k) e.acknowledging k
 
     caused : Caused a next.end j
     caused = by_coming_with x y a c.joined c.served (meets y x c.takes.0.0) Caused call c.answer (record {
       apart = λ apart. absurd (both_ways (is_delivery call) apart comes);
       none = λ delivery is opened due. inl due;
-      comes = λ delivery is s among. subst (λ (k : Call). ArrivalsWith delivery.ecn x.end delivery.now s.number s.frames i (λ (o : Outcome) (j : Intake). o.end.closing.state ≡ states.Open → DueOf x.end.acknowledging acked i ps (takes_marked k (answers.Deliver o.answer)) o.end.acknowledging j)) (sym is)
-          (arrivals_due x.end delivery s.number s.frames i ps acked (pressing x y (c.gives.0, c.gives.1.0.0) (c.takes.0, c.takes.1.0.0) c.gives.1.0.1));
+      comes = λ delivery is s among. arrivals_due x.end delivery s.number s.frames i ps acked (pressing x y (c.gives.0, c.gives.1.0.0) (c.takes.0, c.takes.1.0.0) c.gives.1.0.1) (urged_by x y call) (λ state none. urged_taken x y call c.gives.0.1 delivery is state s.number s.frames none);
     })
 
 -- no packet has a deadline where none came
@@ -172,7 +177,7 @@ none_more came delay moment rest none = ap (λ (qs : List Packet). deadlines_of 
 timed_urges : (x y : Party) (now : ℕ) (a : Answer) (c : Calls Urging x y (calls.Timeout now) a) → (called x y.given (calls.Timeout now) a).end.closing.state ≡ states.Open → (called x y.given (calls.Timeout now) a).end.acknowledging.due ≡ true → DueThen x y (calls.Timeout now) a
 timed_urges x y now a c opened due = elim (timeout_due x.policy x.end now (debt_of x y).deadlines open_before (c.gives.1.0.0.1.1.owes open_before) due) [
   | inl before ↦ inl before
-  | inr late ↦ inr (or_left (haste_of next y).due _ (haste_then x y call a c refl (or_right (haste_of x y).due _ (or_right (one_hastens (haste_of x y).acked (came_to x y) (came_to next y) (unanswered_of next y).packets) _ (or_right (takes_marked call a && are_some (unanswered_of next y).packets) _ (out late))))))
+  | inr late ↦ inr (or_left (haste_of next y).due _ (haste_then x y call a c refl (or_right (haste_of x y).due _ (or_right (one_hastens (haste_of x y).acked (came_to x y) (came_to next y) (unanswered_of next y).packets) _ (or_right (urged x y call a (waiting x y call a c) && are_some (unanswered_of next y).packets) _ (out late))))))
 ]
   where
     call : Call
@@ -260,7 +265,7 @@ urged_step x y call a c u = record { due = λ opened due. due_then opened (unles
     due_then opened none (inl before) = elim (or_cases (haste_of x y).due _ (u.due (was_open x.policy x.end y.given call a opened) before)) [
       | inl is ↦ or_left h.due _ (haste_then x y call a c none (or_left (haste_of x y).due _ is))
       | inr other ↦ elim (or_cases (wants_of x y).marked _ other) [
-        | inl marked ↦ or_right h.due _ (or_left w.marked _ (marked_then x y call a c opened none (or_right (takes_marked call a) (wants_of x y).marked marked)))
+        | inl marked ↦ or_right h.due _ (or_left w.marked _ (marked_then x y call a c opened none (or_right (urged_by x y call a (came_to next y)) (wants_of x y).marked marked)))
         | inr many ↦ by_many opened none many
       ]
     ]

@@ -1,7 +1,7 @@
 use Rattle.std.proofs.Common.{◌≡◌, ◌||◌}
 use Rattle.quic_wire.specs.Items.{items, without_padding}
 use Rattle.quic_congestion.specs.Congestion.{after_calls}
-use Rattle.quic_machine.specs.Receive.{take_items, told_items, asks_in}
+use Rattle.quic_machine.specs.Receive.{take_items, told_items, asks_in, is_urged}
 use Rattle.quic_connection_parts.specs.Faults.{AllHaveForm}
 use Rattle.quic_connection_parts.specs.Telling.{KeepsRest}
 use Rattle.quic_connection_core.proofs.connection.Connection.take_frames.Given as goal
@@ -10,7 +10,8 @@ abbrev pub invariant-loop-item : goal.invariant-loop-item
 invariant-loop-item g l = record {
   takes : take_items (without_padding (items l.item-iterator)) l.self.end ≡ take_items (items l.payload) l.initial.self.end;
   told : after_calls g.C.Controller.steps l.self.control (told_items (without_padding (items l.item-iterator)) l.self.end) ≡ after_calls g.C.Controller.steps l.initial.self.control (told_items (items l.payload) l.initial.self.end);
-  asks : (l.asks || asks_in (without_padding (items l.item-iterator))) ≡ asks_in (items l.payload);
+  asks : (l.demand.asks || asks_in (without_padding (items l.item-iterator))) ≡ asks_in (items l.payload);
+  urged : (l.demand.urged || is_urged l.ecn (without_padding (items l.item-iterator)) l.self.end) ≡ is_urged l.ecn (items l.payload) l.initial.self.end;
   form : AllHaveForm (without_padding (items l.item-iterator));
   others : KeepsRest l.initial.self l.self;
 }

@@ -4,5 +4,5 @@ use Rattle.quic_streams_state.proofs.sending.Sending.retransmit.Goals as goal
 
 pub returns-clause-ok : goal.returns-clause-ok
 returns-clause-ok c =
-    let s : Sending = record { halves = c.self.inside.send; accepted = c.self.inside.data_sent; limit = c.self.inside.max_data; window = c.self.inside.send_window; first_own = c.self.inside.initial_max_own; first_remote = c.self.inside.initial_max_remote; queue = c.self.inside.pending; blocked = c.self.inside.connection_blocked.items } in
+    let s : Sending = record { halves = c.self.inside.send; accepted = c.self.inside.data_sent; limit = c.self.inside.max_data; window = c.self.inside.send_window; first_own = c.self.inside.initial_max_own; first_remote = c.self.inside.initial_max_remote; queue = c.self.inside.pending; blocked = c.self.inside.connection_blocked.items; said = c.self.inside.said_limit } in
     rw (← c.self.view_is) (on_both c.retransmit.result c.retransmit.ensures.ok c.retransmit.ensures.queue (λ e g. lost_is s c.args.frame.now c.retransmit.new.self c.retransmit.new.queue e g))

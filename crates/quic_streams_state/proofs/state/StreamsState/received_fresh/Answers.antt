@@ -22,3 +22,11 @@ returns-clause-pending c =
     let allowed : refusal s f.id (end_of f) f.fin ≡ None = refused_on s f.id (end_of f) f.fin (Some c.in-Some.half) c.requires.lawful c.in-Some.ensures.part ∙ sym c.breach_on.ensures ∙ c.in_default-breach_on.is in
     let kept = went c.keep_fresh.result (sym c.is_err.ensures.value ∙ c.if-is_err.false) c.keep_fresh.ensures.ok in
     (is_taken_first s c.args.pending.now f c.keep_fresh.new.self c.open_by.new.self c.decide.new.pending c.in-Some.half (first_window s.receiving) c.in-Some.ensures.fresh allowed (sym c.in-Some.ensures.part) kept c.open_by.ensures c.decide.ensures).pending
+
+pub returns-clause-answer : goal.returns-clause-answer
+returns-clause-answer c =
+    let f = stream_view c.args.frame.now in
+    let s = c.args.self.now in
+    let allowed : refusal s f.id (end_of f) f.fin ≡ None = refused_on s f.id (end_of f) f.fin (Some c.in-Some.half) c.requires.lawful c.in-Some.ensures.part ∙ sym c.breach_on.ensures ∙ c.in_default-breach_on.is in
+    let kept = went c.keep_fresh.result (sym c.is_err.ensures.value ∙ c.if-is_err.false) c.keep_fresh.ensures.ok in
+    (is_taken_first s c.args.pending.now f c.keep_fresh.new.self c.open_by.new.self c.decide.new.pending c.in-Some.half (first_window s.receiving) c.in-Some.ensures.fresh allowed (sym c.in-Some.ensures.part) kept c.open_by.ensures c.decide.ensures).answer
