@@ -1,5 +1,5 @@
 //! Calls at one end, one behind another, whatever datagrams its peer hands to it.
-ghost use Rattle.std.specs.Prelude.{◌≡◌, ◌++◌, ◌+◌, ◌*◌, ◌<◌, ◌≤◌, take, drop, length, sum_by, vec_len, vec_capacity, IfOk, OnOk, OnErr, true, false};
+ghost use Rattle.std.specs.Prelude.{◌≡◌, ◌++◌, ◌+◌, ◌*◌, ◌<◌, ◌≤◌, [], take, drop, length, sum_by, vec_len, vec_capacity, IfOk, OnOk, OnErr, true, false};
 ghost use Rattle.quic_machine.specs.End.{policy_of};
 ghost use Rattle.std.specs.List.{list_any};
 ghost use Rattle.quic_machine.specs.Machine.{gives, reads_window, fails};
@@ -10,6 +10,7 @@ ghost use Rattle.quic_headline.specs.Amplification.{BeginsAlone, bytes_in};
 ghost use Rattle.quic_headline.specs.LoneCloses.{ClosedForCause, DrainedForCause};
 ghost use Rattle.quic_headline.specs.FewCloses.{IsClosing, CloseFew};
 ghost use Rattle.quic_headline.specs.Nonces.{SealedOnce};
+ghost use Rattle.quic_headline.specs.LoneAcks.{AcksTaken};
 ghost use Rattle.quic_connection_parts.specs.Telling.{windows_of};
 ghost use Rattle.quic_connection_parts.specs.Drawn.{words_of};
 ghost use Rattle.quic_connection.specs.Ends.{GoesOn};
@@ -61,7 +62,9 @@ pub struct Alone {
 ///
 /// Whoever the peer is, and also where memory runs out, such an endpoint seals each datagram under
 /// a packet number above those before, and no more than [`PacketKey::confidentiality_limit`] lets
-/// it: no nonce is used twice (RFC 9000, section 12.3; RFC 9001, sections 5.3 and 6.6).
+/// it: no nonce is used twice (RFC 9000, section 12.3; RFC 9001, sections 5.3 and 6.6). Each number
+/// that an ACK frame of such a datagram names is that of a packet that a call before it handed in,
+/// and that was answered `Received::Taken` (RFC 9000, section 13.1).
 pub fn run_alone<H: HeaderKey + Drop, K: PacketKey + Drop, R: Rng + Drop, C: Controller>(
     alloc: Global,
     end: &mut Connection<H, K, R, C>,
@@ -100,6 +103,10 @@ pub fn run_alone<H: HeaderKey + Drop, K: PacketKey + Drop, R: Rng + Drop, C: Con
     ensures seals_once { IsNew end.old.end
         → SealedOnce (policy_of H.protection K.aead K.seal_limit K.refusal_limit (words_of R.stream) end.old)
         (drop (length given.old.items) given.new.items) }
+    ensures acks_only_taken { IsNew end.old.end
+        → AcksTaken (policy_of H.protection K.aead K.seal_limit K.refusal_limit (words_of R.stream) end.old) theirs.now []
+        (take (length result.answers.items) calls.now) result.answers.items
+        (drop (length given.old.items) given.new.items) }
 {
     // What the machine keeps at one end alone: laws, which do nothing.
     headline::bytes_come();
@@ -111,6 +118,7 @@ pub fn run_alone<H: HeaderKey + Drop, K: PacketKey + Drop, R: Rng + Drop, C: Con
     headline::drained_for_cause();
     headline::closes_few();
     headline::seals_once();
+    headline::acks_only_taken();
     make_calls(alloc, end, given, theirs, calls)
 }
 

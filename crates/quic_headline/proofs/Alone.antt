@@ -26,3 +26,5 @@ pub mod Amplified
 pub mod Shut
 pub mod Closed
 pub mod FewCloses
+pub mod Written
+pub mod Acked

@@ -14,6 +14,7 @@ ghost use Rattle.quic_headline.specs.Alone.{Lone, IsNew, FollowsAlone, BytesCame
 ghost use Rattle.quic_headline.specs.Keeping.{StaysWithin};
 ghost use Rattle.quic_headline.specs.FewEvents.{TellsFew};
 ghost use Rattle.quic_headline.specs.Nonces.{SealsOnce};
+ghost use Rattle.quic_headline.specs.LoneAcks.{AcksOnlyTaken};
 ghost use Rattle.quic_headline.specs.Amplification.{StaysThreefold};
 ghost use Rattle.quic_headline.specs.LoneCloses.{ClosedForCause, DrainedForCause};
 ghost use Rattle.quic_headline.specs.FewCloses.{IsClosing, CloseFew};
@@ -77,6 +78,14 @@ pub fn tells_few()
 /// of the keys.
 pub fn seals_once()
     ensures { (p : Policy) (theirs : List (List ℕ)) (x left : Lone) (calls : List Call) (told : List Answer) (given : List (List ℕ)) → SealsOnce p theirs x calls told given left }
+{}
+
+/// Whatever datagrams are handed to an end, and where memory lacks too, the ACK frames of each
+/// datagram that it gives name only packets that it took before: each number is that of a
+/// delivery that opened and was answered so (RFC 9000, section 13.1). The frames are those as
+/// whose bytes its payload was written. It wants nothing of the keys.
+pub fn acks_only_taken()
+    ensures { (p : Policy) (theirs : List (List ℕ)) (x left : Lone) (calls : List Call) (told : List Answer) (given : List (List ℕ)) → AcksOnlyTaken p theirs x calls told given left }
 {}
 
 /// While an end shows the address of its peer as one that isn't validated, it gave no more than

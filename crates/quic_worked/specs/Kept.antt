@@ -1,8 +1,9 @@
 -- Ends that keep more of what came than they may: each took `hello`, and has settings that let less
 -- come, or one thing changed so that it keeps too much. What they tell too often, and what they seal
--- as they may or mayn't.
-use Rattle.std.specs.Prelude.{ℕ, ◌+◌, ◌*◌, List, [], ◌∷◌, map, Some, None, Ok}
+-- and acknowledge as they may or mayn't.
+use Rattle.std.specs.Prelude.{ℕ, ◌+◌, ◌*◌, List, [], ◌∷◌, ◌++◌, length, map, Some, None, Ok}
 use Rattle.std.specs.List.{range_with_len}
+use Rattle.quic_packet.specs.Datagram.{sent}
 use Rattle.quic_config.specs.Transport.{Settings}
 use Rattle.quic_streams_parts.specs.declared.answers.StreamEvent.TheVariants.{Finished}
 use Rattle.quic_machine.specs.declared.answers.Event.TheVariants as events
@@ -18,7 +19,7 @@ use Rattle.quic_machine.specs.declared.run.Answer.TheVariants as answers
 use Rattle.quic_machine.specs.End.{End}
 use Rattle.quic_machine.specs.Policy.{Policy}
 use Rattle.quic_worked.specs.Settings.{plain_settings}
-use Rattle.quic_worked.specs.Worked.{worked_policies, once_taken, issued, delivery}
+use Rattle.quic_worked.specs.Worked.{worked_policies, client_id, once_taken, issued, delivery}
 use Rattle.quic_worked.specs.Acknowledged.{client_datagram}
 
 -- an end that took five bytes of a stream, and its FIN
@@ -161,3 +162,30 @@ polls_between now = calls.Poll now ∷ calls.Deliver delivery ∷ polls_once now
 
 abbrev pub gave_between : Transmit → List Answer
 gave_between t = answers.Poll (Ok (Some t)) ∷ answers.Deliver (receives.Dropped drops.Closing) ∷ answers.Poll (Ok (Some t)) ∷ []
+
+-- ---- what an end acknowledges
+
+-- the server, whose key writes behind each payload how long it is, so that a datagram shows its
+-- payload
+abbrev pub shows_payload : Policy
+shows_payload = let p : Policy = worked_policies.server in record p { packet = record p.packet { seal = λ n header payload. payload ++ length payload ∷ [] } }
+
+-- its first datagram with this payload
+abbrev pub shows_it : List ℕ → List (List ℕ)
+shows_it payload = sent shows_payload.header shows_payload.packet 0 0 client_id payload ∷ []
+
+-- one poll, which gives a datagram
+abbrev pub gave_one : Transmit → List Answer
+gave_one t = answers.Poll (Ok (Some t)) ∷ []
+
+-- a datagram is handed in before it
+abbrev pub hands_and_polls : ℕ → List Call
+hands_and_polls now = calls.Deliver delivery ∷ polls_once now
+
+-- and is taken
+abbrev pub taken_and_gave : Transmit → List Answer
+taken_and_gave t = answers.Deliver receives.Taken ∷ gave_one t
+
+-- or is dropped
+abbrev pub dropped_and_gave : Transmit → List Answer
+dropped_and_gave t = answers.Deliver (receives.Dropped drops.KeyPhase) ∷ gave_one t
