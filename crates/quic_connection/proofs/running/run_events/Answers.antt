@@ -11,8 +11,12 @@ use Rattle.quic_connection.proofs.running.run_events.Goals.{else-loop-event-test
 
 pub loop-event-init : goal.loop-event-init
 loop-event-init g c = record {
-  follows = rw (c.new-answers.ensures.items, c.new-views.ensures.items, c.new-given.ensures.client, c.new-given.ensures.server) refl;
-  count = rw c.new-answers.ensures.items refl;
+  follows = rw (c.make_room.ensures.answers, c.make_room.ensures.views, c.new-answers.ensures.items, c.new-views.ensures.items, c.new-given.ensures.client, c.new-given.ensures.server) refl;
+  count = rw (c.make_room.ensures.answers, c.new-answers.ensures.items) refl;
+  answers_len = c.make_room.ensures.answers_len;
+  views_len = c.make_room.ensures.views_len;
+  answer_room = ?;
+  view_room = ?;
   is_whole = refl;
   goes_on = go_same _ _;
 }
@@ -38,6 +42,10 @@ loop-event-preserved g c =
           (search rules)
           (let seen = c.view.ensures c.step.new.given in cc (seen, c.push_reserved-in-loop-event.ensures.items));
       count = grind (arith, common_steps);
+      answers_len = grind (arith, common_steps);
+      views_len = grind (arith, common_steps);
+      answer_room = grind (arith, common_steps);
+      view_room = grind (arith, common_steps);
       is_whole = inv.is_whole;
       goes_on = go_then stream c.args.ends c.loop-event.ends c.step.new.ends inv.goes_on c.step.ensures.goes_on;
     }
@@ -51,7 +59,7 @@ view-requires-clause-client_room g c =
     let openings = g.K.PacketKey.refusal_limit in
     let own = policies_of protection aead seals openings stream c.args.ends in
     let keys = c.args.ends.client.keys in
-    let rooms = rw c.in-Ok.is at c.make_room-made.ensures.client_room in
+    let rooms = rw c.in-Ok.is at c.rooms_behind.ensures.client_room in
     rooms own (g.met.H.HeaderKey.shows_length keys.header.remote) (g.met.K.PacketKey.opens_no_more keys.packet.remote) c.in-Ok-step.answer
     (world_of (windows_of g.C.Controller.steps g.C.Controller.window_of) c.step.new.ends c.step.new.given)
     (c.in-Ok-step.ensures.step own
@@ -66,7 +74,7 @@ view-requires-clause-server_room g c =
     let openings = g.K.PacketKey.refusal_limit in
     let own = policies_of protection aead seals openings stream c.args.ends in
     let keys = c.args.ends.server.keys in
-    let rooms = rw c.in-Ok.is at c.make_room-made.ensures.server_room in
+    let rooms = rw c.in-Ok.is at c.rooms_behind.ensures.server_room in
     rooms own (g.met.H.HeaderKey.shows_length keys.header.remote) (g.met.K.PacketKey.opens_no_more keys.packet.remote) c.in-Ok-step.answer
     (world_of (windows_of g.C.Controller.steps g.C.Controller.window_of) c.step.new.ends c.step.new.given)
     (c.in-Ok-step.ensures.step own
