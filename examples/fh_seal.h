@@ -16,9 +16,11 @@
 #ifndef FH_SEAL_H
 #define FH_SEAL_H
 
+#include <openssl/core_names.h>
 #include <openssl/crypto.h>
 #include <openssl/evp.h>
 #include <openssl/hmac.h>
+#include <openssl/params.h>
 #include <stdbool.h>
 #include <stddef.h>
 #include <stdint.h>
@@ -54,6 +56,7 @@ enum { FH_SEAL_TAG = 16, FH_SEAL_SAMPLE = 16 };
 /* The keys of one direction, at the endpoint that seals with them or at the one that opens. */
 typedef struct fh_seal {
     EVP_CIPHER_CTX *packet, *header;
+    OSSL_PARAM tag[2]; /* Where the tag of the packet stands, as libcrypto is told. */
     uint8_t iv[12];
     enum fh_seal_suite suite;
     bool sealing;
@@ -118,11 +121,13 @@ FH_SEAL_API void fh_seal_free(fh_seal *keys) {
 static inline bool fh_seal_set_up(fh_seal *keys, const uint8_t *key, const uint8_t *header_key) {
     const EVP_CIPHER *packet[] = {EVP_aes_128_gcm(), EVP_aes_256_gcm(), EVP_chacha20_poly1305()};
     const EVP_CIPHER *header[] = {EVP_aes_128_ecb(), EVP_aes_256_ecb(), EVP_chacha20()};
+    keys->tag[0] = OSSL_PARAM_construct_octet_string(OSSL_CIPHER_PARAM_AEAD_TAG, NULL, FH_SEAL_TAG);
+    keys->tag[1] = OSSL_PARAM_construct_end();
     keys->packet = EVP_CIPHER_CTX_new();
     keys->header = EVP_CIPHER_CTX_new();
     return keys->packet && keys->header &&
-           EVP_CipherInit_ex(keys->packet, packet[keys->suite], NULL, key, NULL, keys->sealing) &&
-           EVP_EncryptInit_ex(keys->header, header[keys->suite], NULL, header_key, NULL);
+           EVP_CipherInit_ex2(keys->packet, packet[keys->suite], key, NULL, keys->sealing, NULL) &&
+           EVP_EncryptInit_ex2(keys->header, header[keys->suite], header_key, NULL, NULL);
 }
 
 /* Makes the keys of one direction from its traffic secret (RFC 9001, section 5.1), which has 32
@@ -163,22 +168,45 @@ static inline bool fh_seal_mask(fh_seal *keys, const uint8_t *sample, uint8_t ma
     static const uint8_t zeros[16] = {0};
     bool chacha = keys->suite == FH_SEAL_CHACHA20_POLY1305;
     int len;
-    if (chacha && !EVP_EncryptInit_ex(keys->header, NULL, NULL, NULL, sample)) return false;
+    if (chacha && !EVP_EncryptInit_ex2(keys->header, NULL, NULL, sample, NULL)) return false;
     return EVP_EncryptUpdate(keys->header, mask, &len, chacha ? zeros : sample, 16);
 }
 
 /* Which bits of the first byte the mask covers: four of a long header, five of a short one. */
 static inline uint8_t fh_seal_first_bits(uint8_t first) { return first & 0x80 ? 0x0f : 0x1f; }
 
-/* Begins a packet of this number: its nonce, and its header as associated data. */
-static inline bool fh_seal_begin(fh_seal *keys, uint64_t number, const uint8_t *header,
-                                 size_t len) {
-    uint8_t nonce[12];
-    int taken;
-    memcpy(nonce, keys->iv, 12);
-    for (int i = 0; i < 8; i++) nonce[11 - i] ^= (uint8_t)(number >> 8 * i);
-    return EVP_CipherInit_ex(keys->packet, NULL, NULL, NULL, nonce, -1) &&
-           EVP_CipherUpdate(keys->packet, NULL, &taken, header, (int)len);
+/* Eight bytes as a number, the greatest first, and a number as eight bytes: written out, since a
+ * compiler makes few instructions of that, and many of a loop. */
+static inline uint64_t fh_seal_get(const uint8_t *at) {
+    return (uint64_t)at[0] << 56 | (uint64_t)at[1] << 48 | (uint64_t)at[2] << 40 |
+           (uint64_t)at[3] << 32 | (uint64_t)at[4] << 24 | (uint64_t)at[5] << 16 |
+           (uint64_t)at[6] << 8 | (uint64_t)at[7];
+}
+static inline void fh_seal_put(uint8_t *at, uint64_t number) {
+    at[0] = (uint8_t)(number >> 56), at[1] = (uint8_t)(number >> 48);
+    at[2] = (uint8_t)(number >> 40), at[3] = (uint8_t)(number >> 32);
+    at[4] = (uint8_t)(number >> 24), at[5] = (uint8_t)(number >> 16);
+    at[6] = (uint8_t)(number >> 8), at[7] = (uint8_t)number;
+}
+
+/* The nonce of a packet of this number (RFC 9001, section 5.3). */
+static inline void fh_seal_nonce(const fh_seal *keys, uint64_t number, uint8_t nonce[12]) {
+    memcpy(nonce, keys->iv, 4);
+    fh_seal_put(nonce + 4, fh_seal_get(keys->iv + 4) ^ number);
+}
+
+/* Seals or opens in place what stands between the header of a packet, which is associated data, and
+ * its tag at `end`. The tag of one that opens is told with the nonce, in one call. */
+static inline bool fh_seal_go_over(fh_seal *keys, uint64_t number, uint8_t *packet, size_t head,
+                                   size_t end) {
+    uint8_t nonce[12], *body = packet + head;
+    int done;
+    fh_seal_nonce(keys, number, nonce);
+    keys->tag[0].data = packet + end;
+    const OSSL_PARAM *tag = keys->sealing ? NULL : keys->tag;
+    return EVP_CipherInit_ex2(keys->packet, NULL, NULL, nonce, -1, tag) &&
+           EVP_CipherUpdate(keys->packet, NULL, &done, packet, (int)head) &&
+           EVP_CipherUpdate(keys->packet, body, &done, body, (int)(end - head));
 }
 
 /* Seals a packet in place: `len` bytes with room for a tag at their end, and a clear header, whose
@@ -187,16 +215,15 @@ static inline bool fh_seal_begin(fh_seal *keys, uint64_t number, const uint8_t *
 FH_SEAL_API int fh_seal_packet(fh_seal *keys, uint8_t *packet, size_t len, size_t number_at,
                                uint64_t number) {
     uint8_t mask[32];
-    int done, rest;
+    int rest;
     if (!keys->sealing || len > 1 << 16 || number >> 62) return FH_SEAL_ARGUMENT;
     if (len < number_at + 4 + FH_SEAL_SAMPLE) return FH_SEAL_SHORT;
     if (keys->sealed >= fh_seal_confidentiality_limit(keys->suite)) return FH_SEAL_LIMIT;
     size_t width = (packet[0] & 3) + 1u, head = number_at + width, end = len - FH_SEAL_TAG;
     keys->sealed++; /* Whatever becomes of it: no number may be sealed again. */
-    if (!fh_seal_begin(keys, number, packet, head) ||
-        !EVP_CipherUpdate(keys->packet, packet + head, &done, packet + head, (int)(end - head)) ||
-        !EVP_CipherFinal_ex(keys->packet, packet + head + done, &rest) ||
-        !EVP_CIPHER_CTX_ctrl(keys->packet, EVP_CTRL_AEAD_GET_TAG, FH_SEAL_TAG, packet + end) ||
+    if (!fh_seal_go_over(keys, number, packet, head, end) ||
+        !EVP_CipherFinal_ex(keys->packet, packet + end, &rest) ||
+        !EVP_CIPHER_CTX_get_params(keys->packet, keys->tag) ||
         !fh_seal_mask(keys, packet + number_at + 4, mask))
         return FH_SEAL_FAILED;
     packet[0] ^= mask[0] & fh_seal_first_bits(packet[0]);
@@ -220,7 +247,7 @@ static inline uint64_t fh_seal_number(uint64_t expected, const uint8_t *bytes, s
 FH_SEAL_API int fh_seal_open_packet(fh_seal *keys, uint8_t *packet, size_t len, size_t number_at,
                                uint64_t *number) {
     uint8_t mask[32];
-    int done, rest;
+    int rest;
     if (keys->sealing || len > 1 << 16) return FH_SEAL_ARGUMENT;
     if (len < number_at + 4 + FH_SEAL_SAMPLE) return FH_SEAL_SHORT;
     if (keys->refused >= fh_seal_integrity_limit(keys->suite)) return FH_SEAL_LIMIT;
@@ -229,11 +256,8 @@ FH_SEAL_API int fh_seal_open_packet(fh_seal *keys, uint8_t *packet, size_t len, 
     size_t width = (packet[0] & 3) + 1u, head = number_at + width, end = len - FH_SEAL_TAG;
     for (size_t i = 0; i < width; i++) packet[number_at + i] ^= mask[1 + i];
     *number = fh_seal_number(keys->expected, packet + number_at, width);
-    if (!fh_seal_begin(keys, *number, packet, head) ||
-        !EVP_CIPHER_CTX_ctrl(keys->packet, EVP_CTRL_AEAD_SET_TAG, FH_SEAL_TAG, packet + end) ||
-        !EVP_CipherUpdate(keys->packet, packet + head, &done, packet + head, (int)(end - head)))
-        return FH_SEAL_FAILED;
-    if (!EVP_CipherFinal_ex(keys->packet, packet + head + done, &rest)) {
+    if (!fh_seal_go_over(keys, *number, packet, head, end)) return FH_SEAL_FAILED;
+    if (!EVP_CipherFinal_ex(keys->packet, packet + end, &rest)) {
         keys->refused++;
         return FH_SEAL_REFUSED;
     }
@@ -252,11 +276,10 @@ static inline void fh_seal_stand_in_mask(uint8_t *datagram, size_t number_at, si
  * again. */
 FH_SEAL_API int fh_seal_datagram(fh_seal *keys, uint8_t *datagram, size_t len) {
     size_t number_at = 1 + keys->id_len;
-    uint64_t number = 0;
     if (len < number_at + 4 + FH_SEAL_SAMPLE) return FH_SEAL_SHORT;
     datagram[0] ^= datagram[number_at + 4] & 0x1f;
     fh_seal_stand_in_mask(datagram, number_at, (datagram[0] & 3) + 1u);
-    for (size_t i = 0; i < 8; i++) number = number << 8 | datagram[len - FH_SEAL_TAG + i];
+    uint64_t number = fh_seal_get(datagram + len - FH_SEAL_TAG);
     return fh_seal_packet(keys, datagram, len, number_at, number);
 }
 
@@ -268,7 +291,7 @@ FH_SEAL_API int fh_seal_open_datagram(fh_seal *keys, uint8_t *datagram, size_t l
     int answer = fh_seal_open_packet(keys, datagram, len, number_at, &number);
     if (answer != FH_SEAL_OK) return answer;
     uint8_t *tag = datagram + len - FH_SEAL_TAG;
-    for (int i = 0; i < 8; i++) tag[i] = (uint8_t)(number >> (56 - 8 * i));
+    fh_seal_put(tag, number);
     memset(tag + 8, keys->mark, 8);
     fh_seal_stand_in_mask(datagram, number_at, (datagram[0] & 3) + 1u);
     datagram[0] ^= datagram[number_at + 4] & 0x1f;

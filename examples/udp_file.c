@@ -42,16 +42,22 @@ static void write_file(transfer *t) {
     }
 }
 
-/* Reads what came. The receiver answers a FIN by its own, which the sender waits for. */
+/* Reads what came, and writes it once the piece is full. The receiver answers a FIN by its own,
+ * which the sender waits for. */
 static void read_file(transfer *t) {
     uint64_t offset, code;
     uint32_t fin = 0;
+    if (t->host.sending && !t->finished) return leave(t, LOST, "an answer came before the end");
     while (!fin) {
-        int64_t n = fh_read(t->conn, t->stream, t->piece, sizeof t->piece, &offset, &fin, &code);
+        uint8_t *to = t->piece + t->filled, *end = t->piece + sizeof t->piece;
+        int64_t n = fh_read(t->conn, t->stream, to, (size_t)(end - to), &offset, &fin, &code);
         if (n < 0 && n != FH_ERR_MEMORY) return; /* There is nothing to read. */
-        if (fwrite(t->piece, 1, (size_t)must(n), t->host.file) < (size_t)n)
-            return leave(t, FAULT, "FILE can't be written");
+        t->filled += (size_t)must(n);
         t->moved += (uint64_t)n;
+        if (to + n < end && !fin) return; /* Where room is left, all that came was read. */
+        if (fwrite(t->piece, 1, t->filled, t->host.file) < t->filled)
+            return leave(t, FAULT, "FILE can't be written");
+        t->filled = 0;
     }
     if (t->host.sending) return leave(t, 0, "moved");
     if (fflush(t->host.file)) return leave(t, FAULT, "FILE can't be written");
@@ -80,7 +86,8 @@ static void act(transfer *t) {
     }
 }
 
-/* Takes what came, as far as it opens, and lets timers expire: whether anything came. */
+/* Takes what came, as far as it opens, and lets timers expire: whether there may be more. Each
+ * datagram's bytes are read at once, since more that wait unread cost the endpoint more. */
 static bool receive(transfer *t) {
     uint8_t bytes[2048];
     int socket = t->host.socket, came = 0;
@@ -90,10 +97,12 @@ static bool receive(transfer *t) {
         if (hello && !t->host.sending) send(socket, t->own.bytes, t->own.len, 0); /* It's lost. */
         int opened = hello ? FH_SEAL_SHORT : fh_seal_open_datagram(t->remote, bytes, (size_t)len);
         if (of_keys(opened) == FH_SEAL_LIMIT && !t->closed) leave(t, LOST, "too much doesn't open");
-        if (opened == FH_SEAL_OK) fh_receive(t->conn, now(), 0, FH_ECN_NONE, bytes, (size_t)len);
+        if (opened != FH_SEAL_OK) continue;
+        fh_receive(t->conn, now(), 0, FH_ECN_NONE, bytes, (size_t)len);
+        act(t);
     }
     if (fh_next_timeout(t->conn) <= now()) must(fh_timeout(t->conn, now()));
-    return came > 0;
+    return came == 64;
 }
 
 /* Sends what is ready: whether there may be more. What the socket doesn't take counts as lost. */

@@ -16,10 +16,11 @@ use std::collections::BTreeMap;
 use std::marker::Model;
 use thiserror::Error;
 
-/// The most runs of a stream that should wait. The assembler itself takes any number, and tells it
-/// by [`Assembler::runs`]; who calls it refuses more behind the insert, so that a peer can't make
-/// it keep many small ones (RFC 9000, 21.7, which names no number). What unordered reads gave is
-/// kept as runs too, and isn't counted here.
+/// How many runs of a stream may wait however small its window is; a wide one lets more wait. The
+/// assembler itself takes any number, and tells it by [`Assembler::runs`]; who calls it refuses
+/// more than may wait behind the insert, so that a peer can't make it keep many small ones (RFC
+/// 9000, 21.7, which names no number). What unordered reads gave is kept as runs too, and isn't
+/// counted here.
 pub const MOST_PIECES: usize = 2048;
 
 /// Bytes of a stream, with the offset of the first, as quinn-proto's `Chunk`.

@@ -55,8 +55,9 @@ pub fn joins_copy_little()
     ensures { (a : Arrived) → IsLawful a → is_crowded a.parts ≡ true → length (bytes_of a.parts) ≤ 128 * (length a.parts - length (joined a.parts)) }
 {}
 
-/// 2048 runs of a stream should wait at most; parts that touch are joined above 2048 parts, where
-/// they have 64 bytes each at most. All are our choice, as RFC 9000, 21.7 names no number.
+/// 2048 runs of a stream may wait however small its window is; parts that touch are joined above
+/// 2048 parts, where they have 64 bytes each at most. All are our choice, as RFC 9000, 21.7 names
+/// no number.
 pub fn constants_are_these()
     ensures runs { MOST_PIECES ≡ 2048 }
     ensures parts { MOST_PARTS ≡ 2048 }

@@ -1,10 +1,14 @@
 //! An endpoint, and what is handed in and out between it and its peer.
 
 use crate::call_error::CallError;
+use crate::calls::Calls;
+use crate::events::{EventRecord, text_of};
+use crate::figures::Stats;
 use crate::settings::Settings;
 use quic_connection::{
     Bytes, Config, Connection, ConnectionId, DropReason, EcnCodepoint, Instant, Making, NewReno,
-    NewRenoConfig, Received, Side, State, TransportConfig, TransportParameters, VarInt,
+    NewRenoConfig, Received, RecvStream, SendStream, Side, State, StreamId, Streams,
+    TransportConfig, TransportParameters, VarInt,
 };
 use quic_keys::{PlainHeaderKey, PlainKey};
 use rand_chacha::ChaCha20Rng;
@@ -18,13 +22,12 @@ pub const NEVER: u64 = u64::MAX;
 const MAX_ID_LENGTH: usize = 20;
 
 /// A connection with stand-in keys, whose random words nobody guesses who hasn't its seed.
-pub(crate) type Conn = Connection<PlainHeaderKey, PlainKey, ChaCha20Rng, NewReno>;
+type Conn = Connection<PlainHeaderKey, PlainKey, ChaCha20Rng, NewReno>;
 
 /// An endpoint of a connection.
-#[derive(Drop)]
 pub struct Endpoint {
-    pub(crate) alloc: Global,
-    pub(crate) conn: Conn,
+    alloc: Global,
+    conn: Conn,
     // By which number the host knows the peer's address.
     address: u64,
     // No datagram is longer, in bytes.
@@ -32,7 +35,23 @@ pub struct Endpoint {
     // A datagram that was made, on its way to the host.
     out: Vec<u8>,
     // A message that was taken off the connection, and didn't fit the host's room.
-    pub(crate) unread: Option<Bytes>,
+    unread: Option<Bytes>,
+}
+
+// By hand, so that how each part of a connection is let go is proved in this crate alone, and not
+// in each crate that lets an endpoint go.
+impl Drop for Endpoint {
+    fn drop(self) {
+        let Endpoint {
+            alloc: _,
+            conn,
+            address: _,
+            room: _,
+            out: _,
+            unread: _,
+        } = self;
+        drop(conn);
+    }
 }
 
 /// The first connection IDs of an endpoint and of its peer, as they were handed in.
@@ -140,19 +159,28 @@ fn making(
 }
 
 impl Endpoint {
-    /// Makes an endpoint at this time, of the random source that the seed comes to.
-    ///
-    /// # Errors
-    ///
-    /// - [`CallError::Size`], [`CallError::Setting`]: as of [`Settings::config`].
-    /// - [`CallError::Invalid`]: the side is neither.
-    /// - [`CallError::Seed`]: the seed hasn't 32 bytes.
-    /// - [`CallError::IdLength`]: the own connection ID hasn't eight bytes, or the peer's hasn't 1
-    ///   to 20.
-    /// - [`CallError::Parameters`], [`CallError::DatagramSize`], [`CallError::Window`],
-    ///   [`CallError::KeyLimit`]: the connection isn't made, as `ConfigError` says.
-    /// - [`CallError::Memory`]: an allocation fails.
-    pub fn new(
+    /// The endpoint of a connection, on the heap. An `Err` is want of memory.
+    fn boxed(
+        alloc: Global,
+        conn: Conn,
+        address: u64,
+        room: usize,
+        out: Vec<u8>,
+    ) -> Result<Box<Endpoint>, AllocError> {
+        let endpoint = Endpoint {
+            alloc,
+            conn,
+            address,
+            room,
+            out,
+            unread: None,
+        };
+        Ok(Box::new(alloc, endpoint)?)
+    }
+}
+
+impl Calls for Endpoint {
+    fn new(
         alloc: Global,
         settings: &Settings,
         peer: &Peer<'_>,
@@ -172,34 +200,7 @@ impl Endpoint {
         Ok(Endpoint::boxed(alloc, conn, peer.address, room, out)?)
     }
 
-    /// The endpoint of a connection, on the heap. An `Err` is want of memory.
-    fn boxed(
-        alloc: Global,
-        conn: Conn,
-        address: u64,
-        room: usize,
-        out: Vec<u8>,
-    ) -> Result<Box<Endpoint>, AllocError> {
-        let endpoint = Endpoint {
-            alloc,
-            conn,
-            address,
-            room,
-            out,
-            unread: None,
-        };
-        Ok(Box::new(alloc, endpoint)?)
-    }
-
-    /// Hands in a datagram that came at this time from this address with this ECN codepoint, and
-    /// opens it in place: 0 where it was taken, and else a number that says why it was dropped.
-    ///
-    /// # Errors
-    ///
-    /// - [`CallError::Invalid`]: an ECN codepoint above 3; nothing has changed.
-    /// - [`CallError::Closed`]: it broke a rule, and the endpoint is closing.
-    /// - [`CallError::Failed`]: an allocation failed, now or before.
-    pub fn receive(
+    fn receive(
         &mut self,
         now: u64,
         address: u64,
@@ -218,14 +219,7 @@ impl Endpoint {
         }
     }
 
-    /// Makes the next datagram that is to be sent at this time, and copies it to the front of a
-    /// room: its length and its ECN codepoint, or `None` where there is nothing to send.
-    ///
-    /// # Errors
-    ///
-    /// - [`CallError::Room`]: the room is below [`room`](Self::room); nothing has changed.
-    /// - [`CallError::Failed`]: an allocation failed, now or before.
-    pub fn poll(&mut self, now: u64, out: &mut [u8]) -> Result<Option<(usize, u32)>, CallError> {
+    fn poll(&mut self, now: u64, out: &mut [u8]) -> Result<Option<(usize, u32)>, CallError> {
         if out.len() < self.room {
             return Err(CallError::Room);
         }
@@ -240,56 +234,85 @@ impl Endpoint {
         Ok(Some((length, ecn_bits(transmit.ecn))))
     }
 
-    /// The room in bytes that [`poll`](Self::poll) asks for: no datagram is longer.
-    pub fn room(&self) -> usize {
+    fn room(&self) -> usize {
         self.room
     }
 
-    /// The number by which the host knows the address to which datagrams go.
-    pub fn address(&self) -> u64 {
+    fn address(&self) -> u64 {
         self.address
     }
 
-    /// Lets the timers expire that are set to this time or an earlier one.
-    ///
-    /// # Errors
-    ///
-    /// - [`CallError::Failed`]: an allocation failed, now or before.
-    pub fn timeout(&mut self, now: u64) -> Result<(), CallError> {
+    fn timeout(&mut self, now: u64) -> Result<(), CallError> {
         self.conn.handle_timeout(Instant::from_nanos(now))?;
         Ok(())
     }
 
-    /// The earliest deadline, in nanoseconds; [`NEVER`] where none is set.
-    pub fn next_timeout(&self) -> u64 {
+    fn next_timeout(&self) -> u64 {
         self.conn.poll_timeout().map_or(NEVER, Instant::as_nanos)
     }
 
-    /// Whether a datagram from this address would open here. Its bytes are opened in place.
-    pub fn would_open(&self, address: u64, scratch: &mut [u8]) -> bool {
+    fn would_open(&self, address: u64, scratch: &mut [u8]) -> bool {
         address == self.address && self.conn.would_open(scratch)
     }
 
-    /// Queues a PING.
-    pub fn ping(&mut self) {
+    fn next_event(&mut self) -> Option<EventRecord> {
+        let event = self.conn.poll()?;
+        Some(EventRecord::of(&event))
+    }
+
+    fn put_lost_text(&self, out: &mut [u8]) -> Result<usize, CallError> {
+        put(out, self.conn.lost().map_or(&[], text_of))
+    }
+
+    fn streams(&mut self) -> Streams<'_> {
+        self.conn.streams()
+    }
+
+    fn send_stream(&mut self, id: StreamId) -> SendStream<'_> {
+        self.conn.send_stream(id)
+    }
+
+    fn recv_stream(&mut self, id: StreamId) -> RecvStream<'_> {
+        self.conn.recv_stream(id)
+    }
+
+    fn send_message(&mut self, message: &[u8], drop: u32) -> Result<(), CallError> {
+        if drop > 1 {
+            return Err(CallError::Invalid);
+        }
+        let message = Bytes::copy_from_slice(self.alloc, message)?;
+        Ok(self.conn.datagrams().send(message, drop == 1)?)
+    }
+
+    fn receive_message(&mut self, out: &mut [u8]) -> Result<usize, CallError> {
+        if self.unread.is_none() {
+            self.unread = self.conn.datagrams().recv();
+        }
+        let Some(message) = &self.unread else {
+            return Err(CallError::Absent);
+        };
+        let length = put(out, message.as_slice())?;
+        self.unread = None;
+        Ok(length)
+    }
+
+    fn max_message(&self) -> Result<usize, CallError> {
+        let limits = self.conn.datagram_limits();
+        limits.max_size.ok_or(CallError::Unsupported)
+    }
+
+    fn ping(&mut self) {
         self.conn.ping();
     }
 
-    /// Closes the connection at this time, with this code and a copy of this text.
-    ///
-    /// # Errors
-    ///
-    /// - [`CallError::Invalid`]: a code of 2^62 or above; nothing has changed.
-    /// - [`CallError::Memory`]: an allocation fails; nothing has changed.
-    pub fn close(&mut self, now: u64, code: u64, text: &[u8]) -> Result<(), CallError> {
+    fn close(&mut self, now: u64, code: u64, text: &[u8]) -> Result<(), CallError> {
         let code = VarInt::from_u64(code)?;
         let text = Bytes::copy_from_slice(self.alloc, text)?;
         self.conn.close(Instant::from_nanos(now), code, text);
         Ok(())
     }
 
-    /// Which state the endpoint is in: 0 open, 1 closing, 2 drained, 3 failed.
-    pub fn state(&self) -> u32 {
+    fn state(&self) -> u32 {
         match self.conn.state() {
             State::Open => 0,
             State::Closing => 1,
@@ -298,24 +321,24 @@ impl Endpoint {
         }
     }
 
-    /// Whether the peer's address is validated.
-    pub fn is_validated(&self) -> bool {
+    fn is_validated(&self) -> bool {
         self.conn.is_validated()
     }
 
-    /// The bytes that a datagram has at most now, but for an MTU probe.
-    pub fn current_mtu(&self) -> usize {
+    fn current_mtu(&self) -> usize {
         self.conn.current_mtu() as usize
     }
 
-    /// How long a round trip takes, as estimated now, in nanoseconds.
-    pub fn rtt(&self) -> u64 {
+    fn rtt(&self) -> u64 {
         self.conn.rtt().as_nanos()
     }
 
-    /// How many bytes may be in flight.
-    pub fn congestion_window(&self) -> u64 {
+    fn congestion_window(&self) -> u64 {
         self.conn.window()
+    }
+
+    fn stats(&self) -> Stats {
+        Stats::of(&self.conn.stats())
     }
 }
 

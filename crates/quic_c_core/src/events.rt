@@ -1,7 +1,5 @@
 //! What the application is told, as numbers.
 
-use crate::call_error::CallError;
-use crate::endpoint::{Endpoint, put};
 use quic_connection::{Close, Dir, Event, LostReason, StreamEvent, StreamId, VarInt};
 
 /// An event: `fh_event` of the header, which says what the numbers mean. What the kind doesn't name
@@ -24,6 +22,15 @@ pub struct EventRecord {
 }
 
 impl EventRecord {
+    /// An event.
+    pub(crate) fn of(event: &Event) -> Self {
+        match event {
+            Event::Stream(event) => EventRecord::of_stream(*event),
+            Event::Message => EventRecord::of_kind(7),
+            Event::Lost(reason) => EventRecord::of_loss(reason),
+        }
+    }
+
     /// An event of this kind.
     fn of_kind(kind: u64) -> Self {
         EventRecord {
@@ -97,7 +104,7 @@ fn reason_of(reason: &LostReason) -> (u64, u64) {
 }
 
 /// The text that says more of a reason; none where there is no more to say.
-fn text_of(reason: &LostReason) -> &[u8] {
+pub(crate) fn text_of(reason: &LostReason) -> &[u8] {
     match reason {
         LostReason::Peer(close) => match close.as_close() {
             Close::Application(close) => &close.reason,
@@ -105,35 +112,5 @@ fn text_of(reason: &LostReason) -> &[u8] {
         },
         LostReason::Transport(error) => error.reason().as_str().as_bytes(),
         _ => &[],
-    }
-}
-
-impl Endpoint {
-    /// Takes the next event; `None` where there is none.
-    pub fn next_event(&mut self) -> Option<EventRecord> {
-        let event = self.conn.poll()?;
-        Some(match &event {
-            Event::Stream(event) => EventRecord::of_stream(*event),
-            Event::Message => EventRecord::of_kind(7),
-            Event::Lost(reason) => EventRecord::of_loss(reason),
-        })
-    }
-
-    /// The text that says more of why the connection is lost; none where it isn't, or where there
-    /// is no more to say.
-    fn lost_text(&self) -> &[u8] {
-        match self.conn.lost() {
-            Some(reason) => text_of(reason),
-            None => &[],
-        }
-    }
-
-    /// Copies that text to the front of a room: how many bytes it has.
-    ///
-    /// # Errors
-    ///
-    /// - [`CallError::Room`]: the room is smaller; nothing is copied.
-    pub fn put_lost_text(&self, out: &mut [u8]) -> Result<usize, CallError> {
-        put(out, self.lost_text())
     }
 }

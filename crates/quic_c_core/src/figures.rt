@@ -1,6 +1,5 @@
 //! What was counted of an endpoint, as numbers.
 
-use crate::endpoint::Endpoint;
 use quic_connection::{ConnectionStats, DropStats, PathStats};
 
 /// How many bytes [`Stats`] have.
@@ -129,12 +128,11 @@ fn drop_figures(drops: &DropStats) -> DropFigures {
     }
 }
 
-impl Endpoint {
-    /// What was counted of the endpoint, and what it knows of its path.
-    pub fn stats(&self) -> Stats {
-        let stats = self.conn.stats();
+impl Stats {
+    /// What a connection counted, and knows of its path.
+    pub(crate) fn of(stats: &ConnectionStats) -> Self {
         Stats {
-            udp: udp_figures(&stats),
+            udp: udp_figures(stats),
             path: path_figures(&stats.path),
             dropped: drop_figures(&stats.dropped),
         }

@@ -4,14 +4,15 @@
 #![tactic(auto)]
 
 mod call_error;
+mod calls;
 mod endpoint;
 mod events;
 mod figures;
-mod messages;
 mod settings;
 mod streams;
 
 pub use call_error::{CallError, error_text};
+pub use calls::Calls;
 pub use endpoint::{Endpoint, FirstIds, NEVER, Peer, parameters};
 pub use events::EventRecord;
 pub use figures::{DropFigures, PathFigures, STATS_SIZE, Stats, UdpFigures};

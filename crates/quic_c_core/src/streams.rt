@@ -1,7 +1,7 @@
 //! The streams of an endpoint.
 
 use crate::call_error::CallError;
-use crate::endpoint::{Endpoint, put};
+use crate::endpoint::put;
 use quic_connection::{Chunk, Chunks, Dir, SendStream, StreamId, VarInt};
 
 /// What a read gave.
@@ -16,13 +16,13 @@ pub struct Piece {
 }
 
 /// The stream of this ID.
-fn stream_of(id: u64) -> Result<StreamId, CallError> {
+pub(crate) fn stream_of(id: u64) -> Result<StreamId, CallError> {
     let id = VarInt::from_u64(id)?;
     Ok(StreamId::from(id))
 }
 
 /// The kind of streams of this number: 0 bidirectional, 1 unidirectional.
-fn dir_of(dir: u32) -> Result<Dir, CallError> {
+pub(crate) fn dir_of(dir: u32) -> Result<Dir, CallError> {
     match dir {
         0 => Ok(Dir::Bi),
         1 => Ok(Dir::Uni),
@@ -56,7 +56,7 @@ impl Piece {
 
 /// Reads the bytes that come next, until the room is full or none waits. A reset comes with no
 /// bytes before it, so that it is never met behind some.
-fn read_all(chunks: &mut Chunks<'_>, out: &mut [u8]) -> Result<Piece, CallError> {
+pub(crate) fn read_all(chunks: &mut Chunks<'_>, out: &mut [u8]) -> Result<Piece, CallError> {
     let mut piece = Piece::empty();
     for _ in 0..out.len() {
         let room = out.len().saturating_sub(piece.len);
@@ -77,7 +77,7 @@ fn read_all(chunks: &mut Chunks<'_>, out: &mut [u8]) -> Result<Piece, CallError>
 }
 
 /// Reads bytes that came, wherever they stand.
-fn read_one(chunks: &mut Chunks<'_>, out: &mut [u8]) -> Result<Piece, CallError> {
+pub(crate) fn read_one(chunks: &mut Chunks<'_>, out: &mut [u8]) -> Result<Piece, CallError> {
     let mut piece = Piece::empty();
     match chunks.next(out.len())? {
         Some(chunk) => piece.push(&chunk, out)?,
@@ -87,7 +87,10 @@ fn read_one(chunks: &mut Chunks<'_>, out: &mut [u8]) -> Result<Piece, CallError>
 }
 
 /// Writes buffers, one behind the other, until one doesn't fit whole: how many bytes.
-fn write_each(stream: &mut SendStream<'_>, buffers: &[&[u8]]) -> Result<usize, CallError> {
+pub(crate) fn write_each(
+    stream: &mut SendStream<'_>,
+    buffers: &[&[u8]],
+) -> Result<usize, CallError> {
     let mut taken = 0usize;
     for buffer in buffers {
         match stream.write(buffer) {
@@ -102,125 +105,4 @@ fn write_each(stream: &mut SendStream<'_>, buffers: &[&[u8]]) -> Result<usize, C
         }
     }
     Ok(taken)
-}
-
-impl Endpoint {
-    /// Opens the next stream of a kind: its ID.
-    ///
-    /// # Errors
-    ///
-    /// - [`CallError::Invalid`]: neither kind.
-    /// - [`CallError::Blocked`]: the peer lets no more be opened, or the endpoint isn't open.
-    pub fn open(&mut self, dir: u32) -> Result<u64, CallError> {
-        let dir = dir_of(dir)?;
-        let id = self.conn.streams().open(dir).ok_or(CallError::Blocked)?;
-        Ok(VarInt::from(id).into_inner())
-    }
-
-    /// Accepts the first stream of a kind that the peer opened and that wasn't accepted: its ID.
-    ///
-    /// # Errors
-    ///
-    /// - [`CallError::Invalid`]: neither kind.
-    /// - [`CallError::Absent`]: no stream waits.
-    pub fn accept(&mut self, dir: u32) -> Result<u64, CallError> {
-        let dir = dir_of(dir)?;
-        let id = self.conn.streams().accept(dir).ok_or(CallError::Absent)?;
-        Ok(VarInt::from(id).into_inner())
-    }
-
-    /// Writes as many of the bytes as fit on a stream: how many.
-    ///
-    /// # Errors
-    ///
-    /// - [`CallError::Invalid`]: an ID of 2^62 or above.
-    /// - [`CallError::Blocked`], [`CallError::Stopped`], [`CallError::ClosedStream`],
-    ///   [`CallError::Memory`]: as `WriteError` says.
-    pub fn write(&mut self, id: u64, data: &[u8]) -> Result<usize, CallError> {
-        let id = stream_of(id)?;
-        Ok(self.conn.send_stream(id).write(data)?)
-    }
-
-    /// Writes several buffers, one behind the other, until one doesn't fit whole: how many bytes.
-    ///
-    /// # Errors
-    ///
-    /// As of [`write`](Self::write), where no byte was taken before.
-    pub fn write_vectored(&mut self, id: u64, buffers: &[&[u8]]) -> Result<usize, CallError> {
-        let id = stream_of(id)?;
-        write_each(&mut self.conn.send_stream(id), buffers)
-    }
-
-    /// Finishes a stream.
-    ///
-    /// # Errors
-    ///
-    /// - [`CallError::Invalid`]: an ID of 2^62 or above.
-    /// - [`CallError::Stopped`], [`CallError::ClosedStream`], [`CallError::Memory`]: as
-    ///   `FinishError` says.
-    pub fn finish(&mut self, id: u64) -> Result<(), CallError> {
-        let id = stream_of(id)?;
-        Ok(self.conn.send_stream(id).finish()?)
-    }
-
-    /// Resets a stream with a code.
-    ///
-    /// # Errors
-    ///
-    /// - [`CallError::Invalid`]: an ID or a code of 2^62 or above.
-    /// - [`CallError::ClosedStream`], [`CallError::Memory`]: as `UpdateError` says.
-    pub fn reset(&mut self, id: u64, code: u64) -> Result<(), CallError> {
-        let id = stream_of(id)?;
-        let code = VarInt::from_u64(code)?;
-        Ok(self.conn.send_stream(id).reset(code)?)
-    }
-
-    /// Asks the peer to send no more on a stream, with a code.
-    ///
-    /// # Errors
-    ///
-    /// - [`CallError::Invalid`]: an ID or a code of 2^62 or above.
-    /// - [`CallError::ClosedStream`], [`CallError::Memory`]: as `UpdateError` says.
-    pub fn stop(&mut self, id: u64, code: u64) -> Result<(), CallError> {
-        let id = stream_of(id)?;
-        let code = VarInt::from_u64(code)?;
-        Ok(self.conn.recv_stream(id).stop(code)?)
-    }
-
-    /// Sets the priority of a stream.
-    ///
-    /// # Errors
-    ///
-    /// - [`CallError::Invalid`]: an ID of 2^62 or above.
-    /// - [`CallError::ClosedStream`], [`CallError::Memory`]: as `UpdateError` says.
-    pub fn set_priority(&mut self, id: u64, priority: i32) -> Result<(), CallError> {
-        let id = stream_of(id)?;
-        Ok(self.conn.send_stream(id).set_priority(priority)?)
-    }
-
-    /// Reads bytes of a stream, in order or not, to the front of a room: where they stand, how many
-    /// they are, and whether the stream ends behind them.
-    ///
-    /// # Errors
-    ///
-    /// - [`CallError::Invalid`]: an ID of 2^62 or above.
-    /// - [`CallError::Room`]: there is no room for a byte.
-    /// - [`CallError::ClosedStream`], [`CallError::Order`], [`CallError::Memory`]: as
-    ///   `ReadableError` says.
-    /// - [`CallError::Blocked`], [`CallError::Reset`]: as `ReadError` says.
-    pub fn read(&mut self, id: u64, ordered: bool, out: &mut [u8]) -> Result<Piece, CallError> {
-        let id = stream_of(id)?;
-        if out.is_empty() {
-            return Err(CallError::Room);
-        }
-        let mut chunks = self.conn.recv_stream(id).read(ordered)?;
-        let answer = if ordered {
-            read_all(&mut chunks, out)
-        } else {
-            read_one(&mut chunks, out)
-        };
-        // As when it is dropped, limits that were raised by the read are pending now.
-        let _ = chunks.finalize();
-        answer
-    }
 }

@@ -1,9 +1,9 @@
 //! The functions of `native/fennelhammer.h`: each is called as a C function of its parameters, and
 //! says what `quic_c_core` answers. A handle, a pointer there, is a reference to an endpoint here,
-//! or a box of one where it is made or let go.
+//! to any that answers [`Calls`], or a box of one where it is made or let go.
 
 use quic_c_core::{
-    CallError, Endpoint, EventRecord, FirstIds, Peer, Piece, SETTINGS_SIZE, STATS_SIZE, Settings,
+    CallError, Calls, EventRecord, FirstIds, Peer, Piece, SETTINGS_SIZE, STATS_SIZE, Settings,
     Stats, error_text, parameters,
 };
 use std::alloc::Global;
@@ -59,7 +59,7 @@ pub(crate) fn fh_parameters(alloc: Global, settings: &Settings, out: &mut [u8]) 
 }
 
 // What stands where the handle goes isn't let go: in C it needn't be a handle.
-pub(crate) fn fh_new(
+pub(crate) fn fh_new<E: Calls>(
     alloc: Global,
     settings: &Settings,
     side: u32,
@@ -69,7 +69,7 @@ pub(crate) fn fh_new(
     peer_address: u64,
     seed: &[u8],
     now: u64,
-    conn: &mut ManuallyDrop<Box<Endpoint>>,
+    conn: &mut ManuallyDrop<Box<E>>,
 ) -> i32 {
     let peer = Peer {
         side,
@@ -80,7 +80,7 @@ pub(crate) fn fh_new(
         parameters: peer_parameters,
         address: peer_address,
     };
-    match Endpoint::new(alloc, settings, &peer, seed, now) {
+    match E::new(alloc, settings, &peer, seed, now) {
         Ok(endpoint) => {
             *conn = ManuallyDrop::new(endpoint);
             0
@@ -89,12 +89,12 @@ pub(crate) fn fh_new(
     }
 }
 
-pub(crate) fn fh_free(conn: Box<Endpoint>) {
+pub(crate) fn fh_free(conn: Box<impl Calls>) {
     drop(conn);
 }
 
 pub(crate) fn fh_receive(
-    conn: &mut Endpoint,
+    conn: &mut impl Calls,
     now: u64,
     peer_address: u64,
     ecn: u32,
@@ -107,7 +107,7 @@ pub(crate) fn fh_receive(
 }
 
 pub(crate) fn fh_poll(
-    conn: &mut Endpoint,
+    conn: &mut impl Calls,
     now: u64,
     out: &mut [u8],
     peer_address: &mut u64,
@@ -124,19 +124,19 @@ pub(crate) fn fh_poll(
     }
 }
 
-pub(crate) fn fh_max_datagram_size(conn: &Endpoint) -> usize {
+pub(crate) fn fh_max_datagram_size(conn: &impl Calls) -> usize {
     conn.room()
 }
 
-pub(crate) fn fh_timeout(conn: &mut Endpoint, now: u64) -> i32 {
+pub(crate) fn fh_timeout(conn: &mut impl Calls, now: u64) -> i32 {
     done(conn.timeout(now))
 }
 
-pub(crate) fn fh_next_timeout(conn: &Endpoint) -> u64 {
+pub(crate) fn fh_next_timeout(conn: &impl Calls) -> u64 {
     conn.next_timeout()
 }
 
-pub(crate) fn fh_would_open(conn: &Endpoint, peer_address: u64, scratch: &mut [u8]) -> i32 {
+pub(crate) fn fh_would_open(conn: &impl Calls, peer_address: u64, scratch: &mut [u8]) -> i32 {
     if conn.would_open(peer_address, scratch) {
         1
     } else {
@@ -144,7 +144,7 @@ pub(crate) fn fh_would_open(conn: &Endpoint, peer_address: u64, scratch: &mut [u
     }
 }
 
-pub(crate) fn fh_next_event(conn: &mut Endpoint, event: &mut EventRecord) -> i32 {
+pub(crate) fn fh_next_event(conn: &mut impl Calls, event: &mut EventRecord) -> i32 {
     match conn.next_event() {
         Some(record) => {
             *event = record;
@@ -154,26 +154,31 @@ pub(crate) fn fh_next_event(conn: &mut Endpoint, event: &mut EventRecord) -> i32
     }
 }
 
-pub(crate) fn fh_lost_text(conn: &Endpoint, out: &mut [u8]) -> i64 {
+pub(crate) fn fh_lost_text(conn: &impl Calls, out: &mut [u8]) -> i64 {
     counted(conn.put_lost_text(out).map(|length| length as u64))
 }
 
-pub(crate) fn fh_open(conn: &mut Endpoint, dir: u32) -> i64 {
+pub(crate) fn fh_open(conn: &mut impl Calls, dir: u32) -> i64 {
     counted(conn.open(dir))
 }
 
-pub(crate) fn fh_accept(conn: &mut Endpoint, dir: u32) -> i64 {
+pub(crate) fn fh_accept(conn: &mut impl Calls, dir: u32) -> i64 {
     counted(conn.accept(dir))
 }
 
-pub(crate) fn fh_write(conn: &mut Endpoint, stream: u64, data: &[u8], error_code: &mut u64) -> i64 {
+pub(crate) fn fh_write(
+    conn: &mut impl Calls,
+    stream: u64,
+    data: &[u8],
+    error_code: &mut u64,
+) -> i64 {
     let answer = conn.write(stream, data);
     tell_code(&answer, error_code);
     counted(answer.map(|length| length as u64))
 }
 
 pub(crate) fn fh_writev(
-    conn: &mut Endpoint,
+    conn: &mut impl Calls,
     stream: u64,
     iov: &[&[u8]],
     error_code: &mut u64,
@@ -183,21 +188,21 @@ pub(crate) fn fh_writev(
     counted(answer.map(|length| length as u64))
 }
 
-pub(crate) fn fh_finish(conn: &mut Endpoint, stream: u64, error_code: &mut u64) -> i32 {
+pub(crate) fn fh_finish(conn: &mut impl Calls, stream: u64, error_code: &mut u64) -> i32 {
     let answer = conn.finish(stream);
     tell_code(&answer, error_code);
     done(answer)
 }
 
-pub(crate) fn fh_reset(conn: &mut Endpoint, stream: u64, error_code: u64) -> i32 {
+pub(crate) fn fh_reset(conn: &mut impl Calls, stream: u64, error_code: u64) -> i32 {
     done(conn.reset(stream, error_code))
 }
 
-pub(crate) fn fh_stop(conn: &mut Endpoint, stream: u64, error_code: u64) -> i32 {
+pub(crate) fn fh_stop(conn: &mut impl Calls, stream: u64, error_code: u64) -> i32 {
     done(conn.stop(stream, error_code))
 }
 
-pub(crate) fn fh_set_priority(conn: &mut Endpoint, stream: u64, priority: i32) -> i32 {
+pub(crate) fn fh_set_priority(conn: &mut impl Calls, stream: u64, priority: i32) -> i32 {
     done(conn.set_priority(stream, priority))
 }
 
@@ -218,7 +223,7 @@ fn tell_piece(
 }
 
 pub(crate) fn fh_read(
-    conn: &mut Endpoint,
+    conn: &mut impl Calls,
     stream: u64,
     out: &mut [u8],
     offset: &mut u64,
@@ -229,7 +234,7 @@ pub(crate) fn fh_read(
 }
 
 pub(crate) fn fh_read_unordered(
-    conn: &mut Endpoint,
+    conn: &mut impl Calls,
     stream: u64,
     out: &mut [u8],
     offset: &mut u64,
@@ -239,47 +244,47 @@ pub(crate) fn fh_read_unordered(
     tell_piece(conn.read(stream, false, out), offset, fin, error_code)
 }
 
-pub(crate) fn fh_send_message(conn: &mut Endpoint, message: &[u8], drop_older: u32) -> i32 {
+pub(crate) fn fh_send_message(conn: &mut impl Calls, message: &[u8], drop_older: u32) -> i32 {
     done(conn.send_message(message, drop_older))
 }
 
-pub(crate) fn fh_receive_message(conn: &mut Endpoint, out: &mut [u8]) -> i64 {
+pub(crate) fn fh_receive_message(conn: &mut impl Calls, out: &mut [u8]) -> i64 {
     counted(conn.receive_message(out).map(|length| length as u64))
 }
 
-pub(crate) fn fh_max_message(conn: &Endpoint) -> i64 {
+pub(crate) fn fh_max_message(conn: &impl Calls) -> i64 {
     counted(conn.max_message().map(|length| length as u64))
 }
 
-pub(crate) fn fh_ping(conn: &mut Endpoint) {
+pub(crate) fn fh_ping(conn: &mut impl Calls) {
     conn.ping();
 }
 
-pub(crate) fn fh_close(conn: &mut Endpoint, now: u64, error_code: u64, text: &[u8]) -> i32 {
+pub(crate) fn fh_close(conn: &mut impl Calls, now: u64, error_code: u64, text: &[u8]) -> i32 {
     done(conn.close(now, error_code, text))
 }
 
-pub(crate) fn fh_get_state(conn: &Endpoint) -> i32 {
+pub(crate) fn fh_get_state(conn: &impl Calls) -> i32 {
     i32::try_from(conn.state()).unwrap_or(i32::MAX)
 }
 
-pub(crate) fn fh_is_validated(conn: &Endpoint) -> i32 {
+pub(crate) fn fh_is_validated(conn: &impl Calls) -> i32 {
     if conn.is_validated() { 1 } else { 0 }
 }
 
-pub(crate) fn fh_current_mtu(conn: &Endpoint) -> usize {
+pub(crate) fn fh_current_mtu(conn: &impl Calls) -> usize {
     conn.current_mtu()
 }
 
-pub(crate) fn fh_rtt(conn: &Endpoint) -> u64 {
+pub(crate) fn fh_rtt(conn: &impl Calls) -> u64 {
     conn.rtt()
 }
 
-pub(crate) fn fh_congestion_window(conn: &Endpoint) -> u64 {
+pub(crate) fn fh_congestion_window(conn: &impl Calls) -> u64 {
     conn.congestion_window()
 }
 
-pub(crate) fn fh_get_stats(conn: &Endpoint, stats: &mut Stats, size: usize) -> i32 {
+pub(crate) fn fh_get_stats(conn: &impl Calls, stats: &mut Stats, size: usize) -> i32 {
     if size as u64 != STATS_SIZE {
         return CallError::Size.code();
     }

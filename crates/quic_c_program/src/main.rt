@@ -11,7 +11,7 @@ mod random;
 use crate::draws::Draws;
 use crate::exports::fh_free;
 use crate::random::Pair;
-use quic_c_core::{CallError, Endpoint, FirstIds, Peer, Settings, parameters};
+use quic_c_core::{CallError, Calls, Endpoint, FirstIds, Peer, Settings, parameters};
 use std::alloc::Global;
 use std::io;
 use std::mem::ManuallyDrop;
@@ -35,7 +35,7 @@ fn ids_of(side: u32) -> FirstIds<'static> {
 }
 
 /// A settled endpoint of this side, for a peer with the same settings.
-fn make(alloc: Global, settings: &Settings, side: u32) -> Result<Box<Endpoint>, CallError> {
+fn make<E: Calls>(alloc: Global, settings: &Settings, side: u32) -> Result<Box<E>, CallError> {
     let mut list = [0u8; 256];
     let length = parameters(alloc, settings, &mut list)?;
     let peer = Peer {
@@ -44,11 +44,15 @@ fn make(alloc: Global, settings: &Settings, side: u32) -> Result<Box<Endpoint>, 
         parameters: list.get(..length).unwrap_or(&[]),
         address: 7,
     };
-    Endpoint::new(alloc, settings, &peer, &[1; 32], 0)
+    E::new(alloc, settings, &peer, &[1; 32], 0)
 }
 
 /// Calls each function of an endpoint once.
-fn call_endpoints(rt: &impl Print, client: &mut Endpoint, server: &mut Endpoint) -> io::Result<()> {
+fn call_endpoints(
+    rt: &impl Print,
+    client: &mut impl Calls,
+    server: &mut impl Calls,
+) -> io::Result<()> {
     once::call_streams(rt, client)?;
     once::call_rest(rt, client)?;
     once::carry(rt, client, server)?;
@@ -56,19 +60,19 @@ fn call_endpoints(rt: &impl Print, client: &mut Endpoint, server: &mut Endpoint)
 }
 
 /// Calls each function once.
-fn call_each(rt: &(impl Print + AllocGlobal)) -> io::Result<()> {
+fn call_each<E: Calls>(rt: &(impl Print + AllocGlobal)) -> io::Result<()> {
     let mut settings = Settings::default();
-    let Ok(client) = make(rt.alloc(), &settings, 0) else {
+    let Ok(client) = make::<E>(rt.alloc(), &settings, 0) else {
         return println!(rt; "no client");
     };
     let mut conn = ManuallyDrop::new(client);
     let answer = once::call_first(rt, &mut settings, &mut conn);
     let mut client = ManuallyDrop::into_inner(conn);
     answer?;
-    let Ok(mut server) = make(rt.alloc(), &settings, 1) else {
+    let Ok(mut server) = make::<E>(rt.alloc(), &settings, 1) else {
         return println!(rt; "no server");
     };
-    let answer = call_endpoints(rt, &mut client, &mut server);
+    let answer = call_endpoints(rt, client.as_mut(), server.as_mut());
     fh_free(client);
     fh_free(server);
     answer
@@ -76,12 +80,12 @@ fn call_each(rt: &(impl Print + AllocGlobal)) -> io::Result<()> {
 
 /// Makes calls at random at two new endpoints: a sum of what they answer, and 0 where there is no
 /// memory for two.
-fn call_round(alloc: Global, draws: &mut Draws) -> u64 {
+fn call_round<E: Calls>(alloc: Global, draws: &mut Draws) -> u64 {
     let settings = draws.settings();
-    let Ok(client) = make(alloc, &settings, 0) else {
+    let Ok(client) = make::<E>(alloc, &settings, 0) else {
         return 0;
     };
-    let Ok(server) = make(alloc, &settings, 1) else {
+    let Ok(server) = make::<E>(alloc, &settings, 1) else {
         return 0;
     };
     let mut pair = Pair {
@@ -97,10 +101,14 @@ fn call_round(alloc: Global, draws: &mut Draws) -> u64 {
 }
 
 /// Makes so many rounds of calls, and prints the sum of what they answer.
-fn call_many(rt: &(impl Print + AllocGlobal), rounds: u64, draws: &mut Draws) -> io::Result<()> {
+fn call_many<E: Calls>(
+    rt: &(impl Print + AllocGlobal),
+    rounds: u64,
+    draws: &mut Draws,
+) -> io::Result<()> {
     let mut sum = 0u64;
     for _ in 0..rounds {
-        sum = sum.wrapping_add(call_round(rt.alloc(), draws));
+        sum = sum.wrapping_add(call_round::<E>(rt.alloc(), draws));
     }
     println!(rt; "{rounds} rounds of {CALLS} calls: {sum}")
 }
@@ -115,11 +123,11 @@ fn numbers_of(line: &str) -> Option<(u64, u64)> {
 }
 
 fn main(rt: HostRuntime) -> io::Result<()> {
-    call_each(&rt)?;
+    call_each::<Endpoint>(&rt)?;
     for line in rt.lines(rt.alloc()) {
         let line = line?;
         match numbers_of(line.as_str()) {
-            Some((rounds, seed)) => call_many(&rt, rounds, &mut Draws::new(seed))?,
+            Some((rounds, seed)) => call_many::<Endpoint>(&rt, rounds, &mut Draws::new(seed))?,
             None => println!(&rt; "no numbers")?,
         }
     }

@@ -8,12 +8,12 @@ use crate::exports::{
     fh_send_message, fh_set_priority, fh_settings_default, fh_stop, fh_timeout, fh_would_open,
     fh_write, fh_writev, fh_wrong_setting,
 };
-use quic_c_core::{Endpoint, EventRecord, Settings, Stats};
+use quic_c_core::{Calls, EventRecord, Settings, Stats};
 use std::io;
 use std::mem::ManuallyDrop;
 
 /// Calls of streams, each once.
-pub(crate) fn call_streams(rt: &impl Print, conn: &mut Endpoint) -> io::Result<()> {
+pub(crate) fn call_streams(rt: &impl Print, conn: &mut impl Calls) -> io::Result<()> {
     let (mut code, mut offset, mut fin) = (0u64, 0u64, 0u32);
     let mut bytes = [0u8; 100];
     println!(rt; "open {} {}", fh_open(conn, 0), fh_open(conn, 2))?;
@@ -33,7 +33,7 @@ pub(crate) fn call_streams(rt: &impl Print, conn: &mut Endpoint) -> io::Result<(
 }
 
 /// Calls of messages and of the connection, each once.
-pub(crate) fn call_rest(rt: &impl Print, conn: &mut Endpoint) -> io::Result<()> {
+pub(crate) fn call_rest(rt: &impl Print, conn: &mut impl Calls) -> io::Result<()> {
     let mut bytes = [0u8; 100];
     println!(rt; "message {}", fh_send_message(conn, b"hi", 0))?;
     println!(rt; "receive_message {}", fh_receive_message(conn, &mut bytes))?;
@@ -52,7 +52,7 @@ pub(crate) fn call_rest(rt: &impl Print, conn: &mut Endpoint) -> io::Result<()> 
 }
 
 /// Lets a datagram go from one endpoint to another.
-pub(crate) fn carry(rt: &impl Print, from: &mut Endpoint, to: &mut Endpoint) -> io::Result<()> {
+pub(crate) fn carry(rt: &impl Print, from: &mut impl Calls, to: &mut impl Calls) -> io::Result<()> {
     let mut bytes = [0u8; 1500];
     let (mut address, mut ecn) = (0u64, 0u32);
     let length = fh_poll(from, 1000, &mut bytes, &mut address, &mut ecn);
@@ -70,7 +70,7 @@ pub(crate) fn carry(rt: &impl Print, from: &mut Endpoint, to: &mut Endpoint) -> 
 }
 
 /// Ends the connection, and tells each event of the peer.
-pub(crate) fn end(rt: &impl Print, conn: &mut Endpoint, peer: &mut Endpoint) -> io::Result<()> {
+pub(crate) fn end(rt: &impl Print, conn: &mut impl Calls, peer: &mut impl Calls) -> io::Result<()> {
     println!(rt; "close {}", fh_close(conn, 4000, 3, b"bye"))?;
     carry(rt, conn, peer)?;
     let mut event = EventRecord::default();
@@ -85,10 +85,10 @@ pub(crate) fn end(rt: &impl Print, conn: &mut Endpoint, peer: &mut Endpoint) -> 
 }
 
 /// Calls that need no endpoint, and such as make none: what stands where one would go stays.
-pub(crate) fn call_first(
+pub(crate) fn call_first<E: Calls>(
     rt: &(impl Print + AllocGlobal),
     settings: &mut Settings,
-    conn: &mut ManuallyDrop<Box<Endpoint>>,
+    conn: &mut ManuallyDrop<Box<E>>,
 ) -> io::Result<()> {
     println!(rt; "default {}", fh_settings_default(settings, 280))?;
     println!(rt; "wrong {}", fh_wrong_setting(settings))?;

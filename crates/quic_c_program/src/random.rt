@@ -6,22 +6,22 @@ use crate::exports::{
     fh_read, fh_read_unordered, fh_receive, fh_receive_message, fh_reset, fh_send_message,
     fh_set_priority, fh_stop, fh_timeout, fh_would_open, fh_write, fh_writev,
 };
-use quic_c_core::{Endpoint, EventRecord};
+use quic_c_core::{Calls, EventRecord};
 
 /// The most bytes of a call.
 const MOST: usize = 1500;
 
 /// Two endpoints, the time, and a sum of all answers.
 #[derive(Drop)]
-pub(crate) struct Pair {
-    pub(crate) client: Box<Endpoint>,
-    pub(crate) server: Box<Endpoint>,
+pub(crate) struct Pair<E> {
+    pub(crate) client: Box<E>,
+    pub(crate) server: Box<E>,
     pub(crate) now: u64,
     pub(crate) sum: u64,
 }
 
 /// A call at a stream.
-fn call_stream(conn: &mut Endpoint, draws: &mut Draws) -> i64 {
+fn call_stream(conn: &mut impl Calls, draws: &mut Draws) -> i64 {
     let bytes = [7u8; MOST];
     let id = draws.stream();
     let data = &bytes[..draws.length().min(MOST)];
@@ -39,7 +39,7 @@ fn call_stream(conn: &mut Endpoint, draws: &mut Draws) -> i64 {
 }
 
 /// A read, or a message, into a room.
-fn call_read(conn: &mut Endpoint, draws: &mut Draws) -> i64 {
+fn call_read(conn: &mut impl Calls, draws: &mut Draws) -> i64 {
     let mut bytes = [0u8; MOST];
     let room = &mut bytes[..draws.length().min(MOST)];
     let (mut offset, mut fin, mut code) = (0u64, 0u32, 0u64);
@@ -52,7 +52,7 @@ fn call_read(conn: &mut Endpoint, draws: &mut Draws) -> i64 {
 }
 
 /// A call at the connection.
-fn call_rest(conn: &mut Endpoint, now: u64, draws: &mut Draws) -> i64 {
+fn call_rest(conn: &mut impl Calls, now: u64, draws: &mut Draws) -> i64 {
     let mut event = EventRecord::default();
     match draws.below(400) {
         0 => fh_close(conn, now, draws.number(), b"at random") as i64,
@@ -67,7 +67,7 @@ fn call_rest(conn: &mut Endpoint, now: u64, draws: &mut Draws) -> i64 {
 }
 
 /// A datagram of one endpoint, whole or altered, or bytes at random, for the other.
-fn carry(from: &mut Endpoint, to: &mut Endpoint, now: u64, draws: &mut Draws) -> i64 {
+fn carry(from: &mut impl Calls, to: &mut impl Calls, now: u64, draws: &mut Draws) -> i64 {
     let mut bytes = [0u8; MOST];
     let (mut address, mut ecn) = (7u64, 0u32);
     let sent = fh_poll(from, now, &mut bytes, &mut address, &mut ecn);
@@ -85,7 +85,7 @@ fn carry(from: &mut Endpoint, to: &mut Endpoint, now: u64, draws: &mut Draws) ->
 }
 
 /// A call at one of two endpoints, which may get a datagram of the other.
-fn call(one: &mut Endpoint, other: &mut Endpoint, now: u64, draws: &mut Draws) -> i64 {
+fn call(one: &mut impl Calls, other: &mut impl Calls, now: u64, draws: &mut Draws) -> i64 {
     match draws.below(6) {
         0 => call_stream(one, draws),
         1 => call_read(one, draws),
@@ -94,7 +94,7 @@ fn call(one: &mut Endpoint, other: &mut Endpoint, now: u64, draws: &mut Draws) -
     }
 }
 
-impl Pair {
+impl<E: Calls> Pair<E> {
     /// Makes a call at random, and adds its answer to the sum.
     pub(crate) fn step(&mut self, draws: &mut Draws) {
         self.now = self.now.saturating_add(draws.below(2_000_000));

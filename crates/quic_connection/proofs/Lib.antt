@@ -10,3 +10,4 @@ pub mod Texts
 pub mod Rooms
 pub mod Talking
 pub mod Lone
+pub mod Stopping

@@ -1,7 +1,6 @@
 -- A run goes on by one event.
-use Rattle.std.proofs.Common.{◌≡◌, ℕ, ◌+◌, ◌<◌, ◌≤◌, false, List, [], ◌∷◌, ◌++◌, length, Some, Result, Ok, Err, OnOk, is_err, refl, arith}
+use Rattle.std.proofs.Common.{◌≡◌, List, [], ◌∷◌, ◌++◌, length, Some, refl}
 use Rattle.std.specs.Prelude.{slice_get}
-use Rattle.std.specs.declared.alloc.AllocError.{AllocError}
 use Rattle.quic_machine.specs.declared.run.RunEvent.{RunEvent}
 use Rattle.quic_machine.specs.declared.run.Answer.{Answer}
 use Rattle.quic_machine.specs.declared.run.View.{View}
@@ -23,8 +22,3 @@ follows_one_more k w (e ∷ events) (b ∷ answers) (v ∷ views) mid event a ne
 pub follows_goes_on : (k : Policies) (w : World) (events : List RunEvent) (answers : List Answer) (views : List View) (mid : World) (event : RunEvent) (a : Answer) (next : World) (answers' : List Answer) (views' : List View) → Follows k w events answers views mid → slice_get events (length answers) ≡ Some event → IsStep k mid event a next → answers' ≡ answers ++ a ∷ [] → views' ≡ views ++ view_of next ∷ [] → Follows k w events answers' views' next
 follows_goes_on k w events answers views mid event a next answers' views' f at step same_answers same_views =
     rw (same_answers, same_views) (follows_one_more k w events answers views mid event a next f at step)
-
--- where room for one more was made, there is room for one
-pub reserved : (r : Result (Unit {0}) AllocError) (len cap : ℕ) → is_err r ≡ false → OnOk r (len + 1 ≤ cap) → len < cap
-reserved (Ok x) len cap served room = omega (arith, room)
-reserved (Err x) len cap served room = absurd cc

@@ -6,6 +6,7 @@ pub mod OnStreams
 pub mod OnMessages
 pub mod Settled
 pub mod Lone
+pub mod Stopping
 pub use Rattle.quic_headline.specs.Runs
 pub use Rattle.quic_headline.specs.Observer
 pub use Rattle.quic_headline.specs.Headline

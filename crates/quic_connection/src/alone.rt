@@ -1,19 +1,21 @@
 //! Calls at one end, one behind another, whatever datagrams its peer hands to it.
-ghost use Rattle.std.specs.Prelude.{◌≡◌, ◌++◌, ◌+◌, ◌*◌, ◌<◌, ◌≤◌, take, drop, length, sum_by, vec_len, vec_capacity, IfOk, OnOk, OnErr, true, false};
+ghost use Rattle.std.specs.Prelude.{◌≡◌, ◌++◌, ◌+◌, ◌*◌, ◌<◌, ◌≤◌, [], take, drop, length, sum_by, true, false};
 ghost use Rattle.quic_machine.specs.End.{policy_of};
 ghost use Rattle.std.specs.List.{list_any};
-ghost use Rattle.quic_machine.specs.Machine.{gives, reads_window, fails};
-ghost use Rattle.quic_headline.specs.Alone.{IsLoneStep, IsNew, FollowsAlone, BytesCame, MessagesCame};
+ghost use Rattle.quic_machine.specs.Machine.{fails};
+ghost use Rattle.quic_headline.specs.Alone.{IsNew, FollowsAlone, BytesCame, MessagesCame};
 ghost use Rattle.quic_headline.specs.Keeping.{KeepsWithin};
 ghost use Rattle.quic_headline.specs.FewEvents.{EventsAreFew};
 ghost use Rattle.quic_headline.specs.Amplification.{BeginsAlone, bytes_in};
 ghost use Rattle.quic_headline.specs.LoneCloses.{ClosedForCause, DrainedForCause};
 ghost use Rattle.quic_headline.specs.FewCloses.{IsClosing, CloseFew};
 ghost use Rattle.quic_headline.specs.Nonces.{SealedOnce};
+ghost use Rattle.quic_headline.specs.LoneAcks.{AcksTaken};
 ghost use Rattle.quic_connection_parts.specs.Telling.{windows_of};
 ghost use Rattle.quic_connection_parts.specs.Drawn.{words_of};
 ghost use Rattle.quic_connection.specs.Ends.{GoesOn};
 ghost use Rattle.quic_connection.specs.Lone.{lone_of, AddsAlone};
+ghost use Rattle.quic_connection.specs.Stopping.{StopsAloneFor};
 
 use crate::stepping::at_end;
 use quic_congestion::Controller;
@@ -22,7 +24,7 @@ use quic_headline::headline;
 use quic_machine::{Answer, Call, Datagram};
 use quic_packet::crypto::{HeaderKey, PacketKey};
 use rand_core::Rng;
-use std::alloc::{AllocError, Global};
+use std::alloc::Global;
 
 /// What comes of calls at one endpoint.
 #[derive(Drop)]
@@ -43,12 +45,17 @@ pub struct Alone {
 /// frame of one. This holds at an endpoint as [`Connection::new`] makes it, as long as it hasn't
 /// failed for want of memory.
 ///
+/// Memory is asked for beside the endpoint's own before the first call, for all answers, and then
+/// only where a call takes some, as `step` says.
+///
 /// Such an endpoint keeps no more of it than its settings let come: bytes within the windows,
 /// streams within their counts, messages within the receive buffer, 64 ranges of numbers to
 /// acknowledge, and eight connection IDs of the peer (RFC 9000, sections 4.1, 4.6, 5.1.1 and
-/// 13.2.3; RFC 9221, section 3). Its application gets no more events than bytes came in datagrams
-/// that weren't dropped and writes were blocked, beside one for each stream that is finished, and
-/// one for the loss of the connection.
+/// 13.2.3; RFC 9221, section 3). While it is open, the unread bytes of a stream lie in no more
+/// ranges than one for each 1,024 bytes of its window, and 2048 at least (RFC 9000, section 21.7).
+/// Its application gets no more events than bytes came in datagrams that weren't dropped and writes
+/// were blocked, beside one for each stream that is finished, and one for the loss of the
+/// connection.
 ///
 /// While it shows its peer's address as not validated, it gave at most three times the bytes that
 /// were handed in (RFC 9000, section 8.1): this and the bounds hold as long as it hasn't failed.
@@ -61,7 +68,9 @@ pub struct Alone {
 ///
 /// Whoever the peer is, and also where memory runs out, such an endpoint seals each datagram under
 /// a packet number above those before, and no more than [`PacketKey::confidentiality_limit`] lets
-/// it: no nonce is used twice (RFC 9000, section 12.3; RFC 9001, sections 5.3 and 6.6).
+/// it: no nonce is used twice (RFC 9000, section 12.3; RFC 9001, sections 5.3 and 6.6). Each number
+/// that an ACK frame of such a datagram names is that of a packet that a call before it handed in,
+/// and that was answered `Received::Taken` (RFC 9000, section 13.1).
 pub fn run_alone<H: HeaderKey + Drop, K: PacketKey + Drop, R: Rng + Drop, C: Controller>(
     alloc: Global,
     end: &mut Connection<H, K, R, C>,
@@ -77,6 +86,7 @@ pub fn run_alone<H: HeaderKey + Drop, K: PacketKey + Drop, R: Rng + Drop, C: Con
         (lone_of (windows_of C.steps C.window_of) end.new) given.old.items given.new.items }
     ensures whole { result.cut_short ≡ false → length result.answers.items ≡ length calls.now }
     ensures stopped { result.cut_short ≡ true → length result.answers.items < length calls.now }
+    ensures why { result.cut_short ≡ true → StopsAloneFor theirs.now calls.now result.answers.items }
     ensures goes_on { GoesOn R.stream end.old end.new }
     ensures bytes_come { IsNew end.old.end
         → BytesCame (policy_of H.protection K.aead K.seal_limit K.refusal_limit (words_of R.stream) end.old) theirs.now
@@ -100,6 +110,10 @@ pub fn run_alone<H: HeaderKey + Drop, K: PacketKey + Drop, R: Rng + Drop, C: Con
     ensures seals_once { IsNew end.old.end
         → SealedOnce (policy_of H.protection K.aead K.seal_limit K.refusal_limit (words_of R.stream) end.old)
         (drop (length given.old.items) given.new.items) }
+    ensures acks_only_taken { IsNew end.old.end
+        → AcksTaken (policy_of H.protection K.aead K.seal_limit K.refusal_limit (words_of R.stream) end.old) theirs.now []
+        (take (length result.answers.items) calls.now) result.answers.items
+        (drop (length given.old.items) given.new.items) }
 {
     // What the machine keeps at one end alone: laws, which do nothing.
     headline::bytes_come();
@@ -111,6 +125,7 @@ pub fn run_alone<H: HeaderKey + Drop, K: PacketKey + Drop, R: Rng + Drop, C: Con
     headline::drained_for_cause();
     headline::closes_few();
     headline::seals_once();
+    headline::acks_only_taken();
     make_calls(alloc, end, given, theirs, calls)
 }
 
@@ -127,11 +142,18 @@ fn make_calls<H: HeaderKey + Drop, K: PacketKey + Drop, R: Rng + Drop, C: Contro
         (lone_of (windows_of C.steps C.window_of) end.new) given.old.items given.new.items }
     ensures whole { result.cut_short ≡ false → length result.answers.items ≡ length calls.now }
     ensures stopped { result.cut_short ≡ true → length result.answers.items < length calls.now }
+    ensures why { result.cut_short ≡ true → StopsAloneFor theirs.now calls.now result.answers.items }
     ensures goes_on { GoesOn R.stream end.old end.new }
 {
     let mut answers = Vec::new(alloc);
+    if answers.reserve(calls.len()).is_err() {
+        return Alone {
+            answers,
+            cut_short: true,
+        };
+    }
     for call in calls {
-        let Ok(answer) = next_answer(alloc, end, given, theirs, call, &mut answers) else {
+        let Ok(answer) = at_end(alloc, end, given, theirs, call) else {
             return Alone {
                 answers,
                 cut_short: true,
@@ -143,31 +165,4 @@ fn make_calls<H: HeaderKey + Drop, K: PacketKey + Drop, R: Rng + Drop, C: Contro
         answers,
         cut_short: false,
     }
-}
-
-/// Makes the next call, if there is room for its answer. Fails if out of memory: no call is made
-/// then, and nothing changes.
-fn next_answer<H: HeaderKey + Drop, K: PacketKey + Drop, R: Rng + Drop, C: Controller>(
-    alloc: Global,
-    end: &mut Connection<H, K, R, C>,
-    given: &mut Vec<Datagram>,
-    theirs: &[Datagram],
-    call: &Call,
-    answers: &mut Vec<Answer>,
-) -> Result<Answer, AllocError>
-    ensures answers { answers.new.items ≡ answers.old.items }
-    ensures room { OnOk result (vec_len answers.new < vec_capacity answers.new) }
-    ensures step { IfOk result (λ a.
-        IsLoneStep (policy_of H.protection K.aead K.seal_limit K.refusal_limit (words_of R.stream) end.old) theirs.now
-        (lone_of (windows_of C.steps C.window_of) end.old) call.now a (lone_of (windows_of C.steps C.window_of) end.new)) }
-    ensures given { IfOk result (λ a.
-        given.new.items
-        ≡ given.old.items ++ gives (policy_of H.protection K.aead K.seal_limit K.refusal_limit (words_of R.stream) end.old)
-        (reads_window (windows_of C.steps C.window_of end.old.control) end.old.heard call.now end.old.end) call.now a) }
-    ensures goes_on { GoesOn R.stream end.old end.new }
-    ensures err { OnErr result (end.new ≡ end.old) }
-    ensures err_given { OnErr result (given.new.items ≡ given.old.items) }
-{
-    answers.reserve(1)?;
-    at_end(alloc, end, given, theirs, call)
 }

@@ -1,16 +1,15 @@
 //! Runs of two ends over a network.
-ghost use Rattle.std.specs.Prelude.{◌≡◌, [], length, ◌<◌, vec_len, vec_capacity, IfOk, OnOk, true, false};
+ghost use Rattle.std.specs.Prelude.{◌≡◌, [], length, ◌<◌, ◌≤◌, vec_len, vec_capacity, OnOk, OnErr, true, false};
 ghost use Rattle.quic_machine.specs.Machine.{Follows};
 ghost use Rattle.quic_machine.specs.Start.{AreStarted};
 ghost use Rattle.quic_headline.specs.Headline.{CodeIsSmall, AreCodes, LossTimersFollow, AckTimersFollow};
 ghost use Rattle.quic_headline.specs.Promises.{Promises, Isolates};
-ghost use Rattle.quic_wire_core.specs.declared.stream_id.Side.TheVariants.{Client, Server};
 ghost use Rattle.quic_connection_parts.specs.Telling.{windows_of};
-ghost use Rattle.quic_connection.specs.Rooms.{HasRoomBehind};
-ghost use Rattle.quic_connection.specs.Ends.{world_of, first_world, world_left, policies_of, GoOn, OnHonest, OnRun, AtEachPlace};
+ghost use Rattle.quic_connection.specs.Stopping.{StopsFor};
+ghost use Rattle.quic_connection.specs.Ends.{first_world, world_left, policies_of, GoOn, OnHonest, OnRun, AtEachPlace};
 
 use crate::stepping::step;
-use crate::views::{Rooms, rooms_behind, view};
+use crate::views::{rooms_behind, view};
 use quic_congestion::Controller;
 use quic_connection_core::Connection;
 use quic_headline::headline;
@@ -69,6 +68,10 @@ pub struct Outcome<H, K, R, C: Controller> {
 /// Makes each event's call in turn, once: one answer and one view for each, until memory runs out
 /// in the run itself. The endpoints keep their keys, and draw from their random sources in turn.
 ///
+/// Memory is asked for beside the endpoints' own before the first event, for all answers and views,
+/// and then only where the call of an event takes some, as [`step`] says, or a view copies the text
+/// with which an endpoint was closed by the other one.
+///
 /// The contract holds the promises on two endpoints. Most are one clause: a record of families,
 /// whose fields are their clauses (`Promises` in `specs/` of `quic_headline`). They hold where a
 /// client and a server were made for one another, with keys that are mates, and applications use
@@ -85,6 +88,7 @@ pub fn run<H: HeaderKey + Drop, K: PacketKey + Drop, R: Rng + Drop, C: Controlle
         result.answers.items result.views.items (world_left (windows_of C.steps C.window_of) result) }
     ensures whole { result.cut_short ≡ false → length result.answers.items ≡ length events.now }
     ensures stopped { result.cut_short ≡ true → length result.answers.items < length events.now }
+    ensures why { result.cut_short ≡ true → StopsFor events.now result.answers.items (world_left (windows_of C.steps C.window_of) result) }
     ensures goes_on { GoOn R.stream ends result.ends }
     ensures promises { OnHonest H.protection K.aead K.seal_limit K.refusal_limit R.stream (windows_of C.steps C.window_of) ends events.now result Promises }
     ensures loss_timers_follow { AtEachPlace H.protection K.aead K.seal_limit K.refusal_limit R.stream (windows_of C.steps C.window_of) ends events.now result
@@ -130,29 +134,25 @@ fn show_code(call: &Call)
     }
 }
 
-/// Makes room for the answer to this event, and for the view after it. Fails if out of memory.
-fn make_room<H: HeaderKey + Drop, K: PacketKey + Drop, R: Rng + Drop, C: Controller>(
-    alloc: Global,
-    ends: &Ends<H, K, R, C>,
-    given: &Given,
-    event: &RunEvent,
+/// Makes room for the answers to so many events, and for the views behind them. Fails if out of
+/// memory.
+fn make_room(
     answers: &mut Vec<Answer>,
     views: &mut Vec<View>,
-) -> Result<Rooms, AllocError>
+    count: usize,
+) -> Result<(), AllocError>
+    requires no_answer { vec_len answers.old ≡ 0 }
+    requires no_view { vec_len views.old ≡ 0 }
     ensures answers { answers.new.items ≡ answers.old.items }
     ensures views { views.new.items ≡ views.old.items }
-    ensures answer_room { OnOk result (vec_len answers.new < vec_capacity answers.new) }
-    ensures view_room { OnOk result (vec_len views.new < vec_capacity views.new) }
-    ensures client_empty { IfOk result (λ rooms. vec_len rooms.client ≡ 0) }
-    ensures server_empty { IfOk result (λ rooms. vec_len rooms.server ≡ 0) }
-    ensures client_room { IfOk result (λ rooms. HasRoomBehind Client (world_of (windows_of C.steps C.window_of) ends.now given.now) event.now
-        (vec_capacity rooms.client)) }
-    ensures server_room { IfOk result (λ rooms. HasRoomBehind Server (world_of (windows_of C.steps C.window_of) ends.now given.now) event.now
-        (vec_capacity rooms.server)) }
+    ensures answers_len { vec_len answers.new ≡ 0 }
+    ensures views_len { vec_len views.new ≡ 0 }
+    ensures answer_room { OnOk result (count ≤ vec_capacity answers.new) }
+    ensures view_room { OnOk result (count ≤ vec_capacity views.new) }
+    ensures lacking { OnErr result (0 < count) }
 {
-    answers.reserve(1)?;
-    views.reserve(1)?;
-    rooms_behind(alloc, ends, given, event)
+    answers.reserve(count)?;
+    views.reserve(count)
 }
 
 /// Makes each event's call in turn.
@@ -166,15 +166,24 @@ fn run_events<H: HeaderKey + Drop, K: PacketKey + Drop, R: Rng + Drop, C: Contro
         result.answers.items result.views.items (world_left (windows_of C.steps C.window_of) result) }
     ensures whole { result.cut_short ≡ false → length result.answers.items ≡ length events.now }
     ensures stopped { result.cut_short ≡ true → length result.answers.items < length events.now }
+    ensures why { result.cut_short ≡ true → StopsFor events.now result.answers.items (world_left (windows_of C.steps C.window_of) result) }
     ensures goes_on { GoOn R.stream ends result.ends }
 {
     let mut given = Given::new(alloc);
     let mut answers = Vec::new(alloc);
     let mut views = Vec::new(alloc);
+    if make_room(&mut answers, &mut views, events.len()).is_err() {
+        return Outcome {
+            answers,
+            views,
+            given,
+            ends,
+            cut_short: true,
+        };
+    }
     let mut cut_short = false;
     for event in events {
-        let made = make_room(alloc, &ends, &given, event, &mut answers, &mut views);
-        let Ok(rooms) = made else {
+        let Ok(rooms) = rooms_behind(alloc, &ends, &given, event) else {
             cut_short = true;
             break;
         };

@@ -1,10 +1,11 @@
 //! What is seen of both ends behind an event, and the room for it.
-ghost use Rattle.std.specs.Prelude.{◌≡◌, ◌≤◌, vec_len, vec_capacity, IfOk};
+ghost use Rattle.std.specs.Prelude.{◌≡◌, ◌≤◌, ◌<◌, ◌⊎◌, vec_len, vec_capacity, IfOk, OnErr};
 ghost use Rattle.quic_wire_core.specs.declared.stream_id.Side.TheVariants.{Client, Server};
 ghost use Rattle.quic_time.specs.Timers.{each_timer};
 ghost use Rattle.quic_machine.specs.Machine.{view_of, end_view};
 ghost use Rattle.quic_connection_parts.specs.Telling.{windows_of};
 ghost use Rattle.quic_connection.specs.Rooms.{told_len, handed_len, HasRoomBehind};
+ghost use Rattle.quic_connection.specs.Stopping.{TakesMemory};
 ghost use Rattle.quic_connection.specs.Ends.{world_of};
 ghost use Rattle.quic_connection.specs.declared.running.Given.{Given};
 
@@ -57,6 +58,7 @@ pub(crate) fn rooms_behind<H: HeaderKey + Drop, K: PacketKey + Drop, R: Rng + Dr
         (vec_capacity rooms.client)) }
     ensures server_room { IfOk result (λ rooms. HasRoomBehind Server (world_of (windows_of C.steps C.window_of) ends.now given.now) event.now
         (vec_capacity rooms.server)) }
+    ensures lacking { OnErr result (TakesMemory (world_of (windows_of C.steps C.window_of) ends.now given.now) event.now) }
 {
     let client = room_behind(
         alloc,
@@ -87,13 +89,23 @@ fn room_behind<H: HeaderKey + Drop, K: PacketKey + Drop, R: Rng + Drop, C: Contr
     ensures empty { IfOk result (λ room. vec_len room ≡ 0) }
     ensures standing { IfOk result (λ room. told_len end.now.end.closing.reason ≤ vec_capacity room) }
     ensures coming { IfOk result (λ room. event.now.side ≡ side → handed_len theirs.now event.now.call ≤ vec_capacity room) }
+    ensures lacking { OnErr result (
+        (0 < told_len end.now.end.closing.reason) ⊎ ((event.now.side ≡ side) × (0 < handed_len theirs.now event.now.call))) }
 {
-    let coming = if event.side == side {
+    Vec::with_capacity(alloc, text_len(end).max(coming_len(side, theirs, event)))
+}
+
+/// How many bytes come to this endpoint in the datagram that an event delivers, of these of the
+/// other one; 0 if it delivers none to this one.
+fn coming_len(side: Side, theirs: &[Datagram], event: &RunEvent) -> usize
+    ensures here { event.now.side ≡ side → result ≡ handed_len theirs.now event.now.call }
+    ensures elsewhere { 0 < result → event.now.side ≡ side }
+{
+    if event.side == side {
         delivered_len(&event.call, theirs)
     } else {
         0
-    };
-    Vec::with_capacity(alloc, text_len(end).max(coming))
+    }
 }
 
 /// How many bytes the datagram has that a call delivers, of these of the other endpoint: no text

@@ -238,13 +238,19 @@ impl<H: HeaderKey + Drop, K: PacketKey + Drop, R: Rng + Drop, C: Controller> Con
         ensures lawful { OnOk result (refusal_of config.now.settings (C.window_of (F.built config.now.factory now (first_mtu (transport_of config.now.settings)))) (limits_of K.seal_limit K.refusal_limit keys) (parameters_at peer_parameters.now) own_id peer_id ≡ None) }
     {
         let Ok(theirs) = TransportParameters::read(side, peer_parameters) else {
+            drop(keys);
+            drop(random);
             return Err(ConfigError::Parameters);
         };
         if own_id.as_slice().len() != OWN_ID_LENGTH || peer_id.as_slice().is_empty() {
+            drop(keys);
+            drop(random);
             return Err(ConfigError::IdLength);
         }
         let transport = config.transport();
         if are_sizes_wrong(&transport, &theirs) {
+            drop(keys);
+            drop(random);
             return Err(ConfigError::Size);
         }
         // The proof reads between which sizes the search stays.
@@ -254,9 +260,15 @@ impl<H: HeaderKey + Drop, K: PacketKey + Drop, R: Rng + Drop, C: Controller> Con
         let window = path.congestion.window();
         let mtu = transport.get_initial_mtu();
         if window < 2 * u64::from(mtu) {
+            drop(path);
+            drop(keys);
+            drop(random);
             return Err(ConfigError::Window);
         }
         if are_keys_short(&keys) {
+            drop(path);
+            drop(keys);
+            drop(random);
             return Err(ConfigError::KeyLimit);
         }
         path.validated = validated;
@@ -272,6 +284,10 @@ impl<H: HeaderKey + Drop, K: PacketKey + Drop, R: Rng + Drop, C: Controller> Con
             &mut random,
             &mut streams.pending,
         ) else {
+            drop(streams);
+            drop(path);
+            drop(keys);
+            drop(random);
             return Err(ConfigError::Memory);
         };
         let connection = Connection {

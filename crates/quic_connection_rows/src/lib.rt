@@ -9,3 +9,4 @@ pub mod keys;
 pub mod made;
 pub mod messages;
 pub mod refused;
+pub mod stopping;

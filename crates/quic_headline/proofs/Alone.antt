@@ -10,6 +10,7 @@ pub mod Streams
 pub mod Within
 pub mod Asked
 pub mod Kept
+pub mod Pieces
 pub mod Keeping
 pub mod Weights
 pub mod Telling
@@ -26,3 +27,5 @@ pub mod Amplified
 pub mod Shut
 pub mod Closed
 pub mod FewCloses
+pub mod Written
+pub mod Acked

@@ -48,3 +48,4 @@ pub mod LoneCloses
 pub mod FewCloses
 pub mod Promises
 pub mod Amplification
+pub mod LoneAcks

@@ -14,6 +14,7 @@ ghost use Rattle.quic_headline.specs.Alone.{Lone, IsNew, FollowsAlone, BytesCame
 ghost use Rattle.quic_headline.specs.Keeping.{StaysWithin};
 ghost use Rattle.quic_headline.specs.FewEvents.{TellsFew};
 ghost use Rattle.quic_headline.specs.Nonces.{SealsOnce};
+ghost use Rattle.quic_headline.specs.LoneAcks.{AcksOnlyTaken};
 ghost use Rattle.quic_headline.specs.Amplification.{StaysThreefold};
 ghost use Rattle.quic_headline.specs.LoneCloses.{ClosedForCause, DrainedForCause};
 ghost use Rattle.quic_headline.specs.FewCloses.{IsClosing, CloseFew};
@@ -53,11 +54,11 @@ pub fn messages_come()
 
 /// An end that was made with these settings keeps no more of what was handed to it than it
 /// advertised, or than a number of its own lets it, as long as it doesn't fail: of each stream, and
-/// of all together, what lies within the window past what was read; streams that the peer opened,
-/// as many past those that are done as it may have open at once (RFC 9000, sections 4.1 and 4.6);
-/// messages within the receive buffer (RFC 9221, section 3); 64 runs of numbers to acknowledge (RFC
-/// 9000, section 13.2.3); and seven connection ids of the peer beside the one in use (section
-/// 5.1.1).
+/// of all together, what lies within the window past what was read; while it is open, so many runs
+/// of a stream as its window lets (RFC 9000, section 21.7); streams that the peer opened, as many
+/// past those that are done as it may have open at once (sections 4.1 and 4.6); messages within the
+/// receive buffer (RFC 9221, section 3); 64 runs of numbers to acknowledge (RFC 9000, section
+/// 13.2.3); and seven connection ids of the peer beside the one in use (section 5.1.1).
 pub fn keeps_within()
     ensures { (p : Policy) (theirs : List (List ℕ)) (x left : Lone) (calls : List Call) (told : List Answer) → StaysWithin p theirs x calls told left }
 {}
@@ -77,6 +78,14 @@ pub fn tells_few()
 /// of the keys.
 pub fn seals_once()
     ensures { (p : Policy) (theirs : List (List ℕ)) (x left : Lone) (calls : List Call) (told : List Answer) (given : List (List ℕ)) → SealsOnce p theirs x calls told given left }
+{}
+
+/// Whatever datagrams are handed to an end, and where memory lacks too, the ACK frames of each
+/// datagram that it gives name only packets that it took before: each number is that of a
+/// delivery that opened and was answered so (RFC 9000, section 13.1). The frames are those as
+/// whose bytes its payload was written. It wants nothing of the keys.
+pub fn acks_only_taken()
+    ensures { (p : Policy) (theirs : List (List ℕ)) (x left : Lone) (calls : List Call) (told : List Answer) (given : List (List ℕ)) → AcksOnlyTaken p theirs x calls told given left }
 {}
 
 /// While an end shows the address of its peer as one that isn't validated, it gave no more than

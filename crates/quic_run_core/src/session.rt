@@ -96,11 +96,19 @@ impl Session {
         ensures lasts { OnOk result (are_short client.now server.now ≡ false) }
         ensures refusal { IfErr result (λ e. (e ≡ LineError.OutOfMemory) ⊎ ((e ≡ LineError.BadCommand) × (are_short client.now server.now ≡ true))) }
     {
+        let client_end = make_end(alloc, Side::Client, client, server)?;
+        let server_end = match make_end(alloc, Side::Server, server, client) {
+            Ok(end) => end,
+            Err(error) => {
+                drop(client_end);
+                return Err(error);
+            }
+        };
         Ok(Session {
             alloc,
             ends: Ends {
-                client: make_end(alloc, Side::Client, client, server)?,
-                server: make_end(alloc, Side::Server, server, client)?,
+                client: client_end,
+                server: server_end,
             },
             given: Given::new(alloc),
             client_numbers: Vec::new(alloc),

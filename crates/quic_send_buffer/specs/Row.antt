@@ -1,17 +1,13 @@
--- A queue of which the first element stands apart from the others.
-use Rattle.std.specs.Prelude.{◌≡◌, List, [], ◌∷◌, Option, Some, None, ⊤}
+-- A queue of stretches of which the first may stand apart from the others, as one piece.
+use Rattle.std.specs.Prelude.{List, [], ◌∷◌, Option, Some, None}
+use Rattle.quic_sets.specs.Parts.{Part}
+
+-- all of them
+abbrev pub row : Option Part → List (List Part) → List (List Part)
+row None others = others
+row (Some p) others = (p ∷ []) ∷ others
 
 module _ {A : Type 0} where
-  -- all of them
-  abbrev pub row : Option A → List A → List A
-  row None others = others
-  row (Some x) others = x ∷ others
-
-  -- where none stands apart, there are no others
-  abbrev pub IsRow : Option A → List A → Type 0
-  IsRow None others = others ≡ []
-  IsRow (Some x) others = ⊤
-
   -- the first
   abbrev pub first_of : List A → Option A
   first_of [] = None

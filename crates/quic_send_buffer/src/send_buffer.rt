@@ -6,6 +6,8 @@ ghost use Rattle.quic_send_buffer.specs.Source.{cut_to};
 
 mod pieces;
 mod row;
+mod run;
+mod stretch;
 
 use bytes::Bytes;
 use pieces::Pieces;
@@ -86,9 +88,9 @@ impl SendBuffer {
         self.pieces.push(bytes)
     }
 
-    /// Takes over the first `len` bytes of chunks, each chunk as one piece, which shares its bytes;
-    /// all together they end at 2^62 - 1 at most (RFC 9000, 19.8). A chunk of which it takes no
-    /// byte makes no piece.
+    /// Takes over the first `len` bytes of chunks, each chunk as one piece, which shares its bytes,
+    /// unless it comes alone and has few; all together they end at 2^62 - 1 at most (RFC 9000,
+    /// 19.8). A chunk of which it takes no byte makes no piece.
     ///
     /// # Errors
     ///
@@ -287,7 +289,7 @@ impl SendBuffer {
         let _ = &self.pieces;
         let mut at = offsets.start;
         while at < offsets.end {
-            let bytes = self.get(at..offsets.end);
+            let bytes = self.pieces.get_joined(at..offsets.end);
             append(out, bytes);
             at += bytes.len() as u64;
         }

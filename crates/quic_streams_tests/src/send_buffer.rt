@@ -104,6 +104,106 @@ fn a_range_goes_over_pieces(rt: HostRuntime) -> Result<(), Fail> {
     with_buffer(&rt, 0, |buffer| assert_fetched(&rt, buffer))
 }
 
+// The first of three writes of a byte stands by itself, the second begins a run, and the third
+// makes its buffer grow: memory may lack for each.
+fn assert_run_written(rt: &impl Abort, buffer: &mut SendBuffer) -> Result<(), Fail> {
+    put_in(rt, buffer, b"x")?;
+    put_in(rt, buffer, b"y")?;
+    put_in(rt, buffer, b"z")?;
+    assert_eq!(rt; buffer.poll_transmit(64), (0..3, true));
+    assert_eq!(rt; buffer.get(1..3), b"y".as_slice());
+    Ok(())
+}
+
+#[test]
+fn a_run_begins_and_grows(rt: HostRuntime) -> Result<(), Fail> {
+    with_buffer(&rt, 0, |buffer| assert_run_written(&rt, buffer))
+}
+
+// The byte that is written at an offset.
+fn byte_at(place: u64) -> u8 {
+    (place % 251) as u8
+}
+
+// A write of one byte.
+fn write_byte(rt: &impl Abort, buffer: &mut SendBuffer) -> Result<(), AllocError> {
+    assert!(rt; buffer.offset() < 10000);
+    buffer.write(&[byte_at(buffer.offset())])
+}
+
+// The piece at an offset is that byte.
+fn assert_byte(rt: &impl Abort, buffer: &SendBuffer, place: u64) {
+    assert!(rt; buffer.offset() - buffer.buffered() as u64 <= place && place < buffer.offset());
+    assert_eq!(rt;
+        buffer.get(place..buffer.offset()),
+        [byte_at(place)].as_slice()
+    );
+}
+
+// Of these offsets all are appended together, too.
+fn assert_bytes<R: Abort + AllocGlobal>(
+    rt: &R,
+    buffer: &SendBuffer,
+    start: u64,
+    end: u64,
+) -> Result<(), Fail> {
+    assert!(rt; buffer.offset() - buffer.buffered() as u64 <= start);
+    assert!(rt; start <= end && end <= buffer.offset());
+    let mut bytes = Vec::with_capacity(rt.alloc(), (end - start) as usize)?;
+    buffer.put(start..end, &mut bytes);
+    for place in start..end {
+        assert_byte(rt, buffer, place);
+        let index = place.saturating_sub(start) as usize;
+        assert_eq!(rt; bytes.get(index), Some(&byte_at(place)));
+    }
+    Ok(())
+}
+
+// So many bytes more are acknowledged, where all before them are, and dropped; those behind stay.
+fn ack_more<R: Abort + AllocGlobal>(
+    rt: &R,
+    buffer: &mut SendBuffer,
+    start: u64,
+    count: u64,
+) -> Result<u64, Fail> {
+    assert!(rt; start < 2900 && count < 200);
+    let end = start + count;
+    buffer.ack(start..end)?;
+    assert_eq!(rt; buffer.buffered() as u64, 3000 - end.min(3000));
+    assert_bytes(rt, buffer, end, end + 64)?;
+    Ok(end)
+}
+
+// Of many writes of a byte the first 1, 3, 5, 7 and so on are acknowledged, behind others that are
+// already: each is dropped by itself.
+fn assert_bytes_dropped<R: Abort + AllocGlobal>(
+    rt: &R,
+    buffer: &mut SendBuffer,
+) -> Result<(), Fail> {
+    for _ in 0..3000 {
+        write_byte(rt, buffer)?;
+    }
+    assert_eq!(rt; buffer.poll_transmit(4000), (0..3000, true));
+    assert_bytes(rt, buffer, 0, 3000)?;
+    buffer.ack(2950..2960)?;
+    let mut start = 0;
+    for count in 0..53 {
+        start = ack_more(rt, buffer, start, 2 * count + 1)?;
+    }
+    assert_bytes(rt, buffer, start, 3000)?;
+    buffer.ack(start..2950)?;
+    assert_eq!(rt; buffer.buffered(), 40);
+    assert_bytes(rt, buffer, 2960, 3000)?;
+    buffer.ack(2960..3000)?;
+    assert!(rt; buffer.is_fully_acked());
+    Ok(())
+}
+
+#[test]
+fn writes_of_a_byte_are_dropped_one_by_one(rt: HostRuntime) -> Result<(), Fail> {
+    with_buffer(&rt, 0, |buffer| assert_bytes_dropped(&rt, buffer))
+}
+
 // More chunks than a queue has room for at first: all of them are taken, or none.
 fn assert_taken_or_none(rt: &impl Abort, buffer: &mut SendBuffer) -> Result<(), Fail> {
     let chunks = [
@@ -203,13 +303,15 @@ fn an_ack_of_the_first_bytes_needs_no_memory(rt: HostRuntime) -> Result<(), Fail
 }
 
 // The first piece stands by itself, and the sixth is put into a full queue: memory may lack for its
-// bytes, and for the queue.
+// bytes, and for the queue. None is as long as the one before it, so that each has a place there.
 fn assert_sixth_written(rt: &impl Abort, buffer: &mut SendBuffer) -> Result<(), Fail> {
-    for _ in 0..5 {
-        write(rt, buffer, b"x")?;
-    }
+    write(rt, buffer, b"x")?;
+    write(rt, buffer, b"xy")?;
+    write(rt, buffer, b"x")?;
+    write(rt, buffer, b"xy")?;
+    write(rt, buffer, b"x")?;
     put_in(rt, buffer, b"yz")?;
-    goes(rt, buffer, 100, 0, 7, true);
+    goes(rt, buffer, 100, 0, 9, true);
     Ok(())
 }
 

@@ -1,14 +1,21 @@
 -- What an end may keep, tell and seal, and ends that keep, tell or seal more.
-use Rattle.std.proofs.Common.{◌≡◌, ◌≤◌, ◌+◌, ◌-◌, ◌<◌, ◌^◌, ℕ, List, [], ◌∷◌, ◌++◌, length, take, drop, Some, refl, sym, ap, ◌∙◌, arith, append_assoc, length-append, zero, suc, Option, Ok, subst}
+use Rattle.std.proofs.Common.{◌≡◌, ◌≤◌, ◌+◌, ◌-◌, ◌<◌, ◌^◌, ◌*◌, ◌/◌, max, ℕ, cond, Bool, true, false, List, [], ◌∷◌, ◌++◌, length, take, drop, Some, None, refl, sym, ap, ◌∙◌, arith, append_assoc, length-append, zero, suc, Option, Ok, subst}
 use Rattle.std.specs.Int.{w64, from_be_bytes}
 use Rattle.std.proofs.lemmas.List.{drop_at}
 use Rattle.quic_packet.specs.Datagram.{sent}
 use Rattle.quic_streams_parts.specs.RecvHalf.{RecvHalf}
 use Rattle.quic_streams_parts.specs.Table.{at}
 use Rattle.quic_streams_parts.specs.Dirs.{of}
-use Rattle.quic_wire_core.specs.declared.stream_id.Dir.TheVariants.{Bi}
-use Rattle.quic_assembler.specs.Arrived.{bytes_read_of}
+use Rattle.std.specs.Ordering.{nat_cmp}
+use Rattle.std.specs.BTreeMap.{is_at}
+use Rattle.quic_wire_core.specs.declared.stream_id.Dir.{Dir}
+use Rattle.quic_wire_core.specs.declared.stream_id.Dir.TheVariants.{Bi, Uni}
+use Rattle.quic_assembler.specs.Arrived.{bytes_read_of, runs_of}
 use Rattle.quic_streams_state.specs.State.{seen, consumed}
+use Rattle.quic_config.specs.Transport.{Settings}
+use Rattle.quic_messages.specs.Messages.{bytes_of}
+use Rattle.quic_machine.specs.Calls.{is_open}
+use Rattle.quic_headline.specs.Credit.{most_at_once}
 use Rattle.quic_headline.specs.Keeping.{KeepsWithin}
 use Rattle.quic_headline.specs.FewEvents.{TellFew, EventsAreFew}
 use Rattle.quic_headline.specs.Nonces.{IsSealed, SealedInTurn, SealedOnce}
@@ -16,7 +23,7 @@ use Rattle.quic_worked.specs.Settings.{plain_settings}
 use Rattle.quic_worked.specs.Worked.{server_id, tag_of, worked_policies, once_taken}
 use Rattle.quic_worked.specs.Acknowledged.{client_datagram}
 use Rattle.quic_worked.proofs.WorkedKeys.{number_of}
-use Rattle.quic_worked.specs.Kept.{took_five, four_on_a_stream, four_on_all, one_at_once, two_opened, room_of_one, two_bytes, two_empty, too_many_runs, too_many_known, asks_once, told_once, hands_in_before, taken_before, dropped_before, asks_twice, finished_twice, lost_twice, sealed_in_turn, sealed_under_one, sealed_falling, two_seals, handles, handled, polls_once, gave_none, hands_one, one_dropped, closes_it, was_closed, polls_twice, gave_twice, polls_between, gave_between}
+use Rattle.quic_worked.specs.Kept.{took_five, four_on_a_stream, four_on_all, one_at_once, two_opened, half_apart, came_apart, four_mebibytes, room_of_one, two_bytes, two_empty, too_many_runs, too_many_known, asks_once, told_once, hands_in_before, taken_before, dropped_before, asks_twice, finished_twice, lost_twice, sealed_in_turn, sealed_under_one, sealed_falling, two_seals, handles, handled, polls_once, gave_none, hands_one, one_dropped, closes_it, was_closed, polls_twice, gave_twice, polls_between, gave_between}
 use Rattle.std.specs.Prelude.{slice_get}
 use Rattle.quic_wire_core.specs.TransportError.{ErrorValue}
 use Rattle.quic_machine.specs.declared.answers.State.{State}
@@ -73,6 +80,68 @@ streams_not k =
     let most : ◌≤◌ 2 (of Bi two_opened.streams.opening.done + 1) = k.streams Bi in
     let none = none_done in
     omega arith
+
+-- ---- runs of a stream
+
+apart_open : (n : ℕ) → is_open (came_apart n).closing.state ≡ true
+unfolding once_taken
+apart_open n = refl
+
+pub apart_not : KeepsWithin plain_settings (came_apart 2049) → ⊥
+apart_not k = let most : ◌≤◌ 2049 2048 = k.runs (apart_open 2049) 0 (half_apart 2049) refl in omega (arith, most)
+
+pub wider_not : KeepsWithin four_mebibytes (came_apart 4097) → ⊥
+wider_not k = let most : ◌≤◌ 4097 4096 = k.runs (apart_open 4097) 0 (half_apart 4097) refl in omega (arith, most)
+
+-- what else such an end keeps
+record OthersKept : Type 0 where
+  streams : (dir : Dir) → of dir took_five.streams.opening.remote ≤ 1
+  messages : took_five.messages.queues.incoming ≡ []
+  numbers : length took_five.acknowledging.runs ≡ 1
+  ids : length took_five.ids.peer.later ≡ 7
+
+others_kept : OthersKept
+unfolding once_taken
+others_kept = record { streams = few; messages = refl; numbers = refl; ids = refl }
+  where
+    few : (dir : Dir) → of dir took_five.streams.opening.remote ≤ 1
+    few Bi = omega arith
+    few Uni = omega arith
+
+-- so many bytes may come on a stream
+abbrev with_window : ℕ → Settings
+with_window window = record plain_settings { stream_receive_window = window }
+
+-- it keeps no more than it may, where its stream does
+apart_kept : (window n : ℕ) → runs_of (half_apart n).arrived.parts ≤ max 2048 (window / 1024) → 2 * n ≤ window → window ≤ 2 ^ 22 → KeepsWithin (with_window window) (came_apart n)
+apart_kept window n few near small = record {
+  stream = λ id h is. subst (λ (x : RecvHalf). x.seen ≤ bytes_read_of x.arrived + window) (it_is id h is) (omega arith);
+  total = omega arith;
+  runs = λ still id h is. subst (λ (x : RecvHalf). runs_of x.arrived.parts ≤ max 2048 (window / 1024)) (it_is id h is) few;
+  streams = λ dir. at_most dir (others_kept.streams dir);
+  messages = subst (λ (ms : List (List ℕ)). (bytes_of length ms ≤ 1250000) × (length ms ≤ max 1250000 1)) (sym others_kept.messages) (omega arith, omega arith);
+  numbers = (let one = others_kept.numbers in omega arith);
+  ids = (let seven = others_kept.ids in omega arith);
+}
+  where
+    it_is : (id : ℕ) (h : RecvHalf) → at (came_apart n).streams.receiving.halves.live id ≡ Some h → half_apart n ≡ h
+    it_is id h = go (is_at (nat_cmp id) 0)
+      where
+        go : (b : Bool) → cond b (Some (half_apart n)) None ≡ Some h → half_apart n ≡ h
+        go true is = cc
+        go false is = cc
+
+    at_most : (dir : Dir) → of dir took_five.streams.opening.remote ≤ 1 → of dir took_five.streams.opening.remote ≤ of dir took_five.streams.opening.done + most_at_once dir (with_window window)
+    at_most Bi one = omega arith
+    at_most Uni one = omega arith
+
+pub apart_meets : KeepsWithin plain_settings (came_apart 2048)
+apart_meets = apart_kept 1250000 2048 (omega arith) (omega arith) (omega arith)
+
+pub wide_meets : KeepsWithin four_mebibytes (came_apart 4096)
+wide_meets = apart_kept (2 ^ 22) 4096 (omega arith) (omega arith) (omega arith)
+
+-- ---- messages, numbers and ids
 
 pub bytes_not : KeepsWithin room_of_one two_bytes → ⊥
 bytes_not k = let most : ◌≤◌ 2 1 = k.messages.0 in omega (arith, most)

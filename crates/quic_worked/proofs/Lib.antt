@@ -64,6 +64,7 @@ mod EndingRuns
 mod EndingMachines
 mod RenamedRuns
 mod KeptEnds
+mod UntakenRuns
 mod KnownRuns
 mod UnvalidatedRun
 mod AnsweredRun

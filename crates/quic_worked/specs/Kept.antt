@@ -1,10 +1,13 @@
--- Ends that keep more of what came than they may: each took `hello`, and has settings that let less
--- come, or one thing changed so that it keeps too much. What they tell too often, and what they seal
--- as they may or mayn't.
-use Rattle.std.specs.Prelude.{ℕ, ◌+◌, ◌*◌, List, [], ◌∷◌, map, Some, None, Ok}
+-- Ends that keep more of what came than they may, or just as much: each took `hello`, and has
+-- settings that let less come, or one thing changed so that it keeps more. What they tell too often,
+-- and what they seal and acknowledge as they may or mayn't.
+use Rattle.std.specs.Prelude.{ℕ, zero, suc, ◌+◌, ◌*◌, ◌^◌, List, [], ◌∷◌, ◌++◌, length, map, Some, None, Ok}
 use Rattle.std.specs.List.{range_with_len}
+use Rattle.quic_packet.specs.Datagram.{sent}
 use Rattle.quic_config.specs.Transport.{Settings}
+use Rattle.quic_sets.specs.Parts.{Part}
 use Rattle.quic_streams_parts.specs.declared.answers.StreamEvent.TheVariants.{Finished}
+use Rattle.quic_streams_parts.specs.RecvHalf.{RecvHalf, nothing_arrived, new_recv_half}
 use Rattle.quic_machine.specs.declared.answers.Event.TheVariants as events
 use Rattle.quic_machine.specs.declared.answers.LostReason.TheVariants as reasons
 use Rattle.quic_machine.specs.declared.answers.DropReason.TheVariants as drops
@@ -18,7 +21,7 @@ use Rattle.quic_machine.specs.declared.run.Answer.TheVariants as answers
 use Rattle.quic_machine.specs.End.{End}
 use Rattle.quic_machine.specs.Policy.{Policy}
 use Rattle.quic_worked.specs.Settings.{plain_settings}
-use Rattle.quic_worked.specs.Worked.{worked_policies, once_taken, issued, delivery}
+use Rattle.quic_worked.specs.Worked.{worked_policies, client_id, once_taken, issued, delivery}
 use Rattle.quic_worked.specs.Acknowledged.{client_datagram}
 
 -- an end that took five bytes of a stream, and its FIN
@@ -40,6 +43,23 @@ one_at_once = record plain_settings { max_bidi = 1 }
 -- two are
 abbrev pub two_opened : End
 two_opened = let e : End = took_five in record e { streams = record e.streams { opening = record e.streams.opening { remote = record { bi = 2; uni = 0 } } } }
+
+-- so many bytes of a stream from an offset on, each behind a gap of one
+abbrev pub behind_gaps : ℕ → ℕ → List Part
+behind_gaps at zero = []
+behind_gaps at (suc n) = (at + 2, 7 ∷ []) ∷ behind_gaps (at + 2) n
+
+-- a half on which so many came so
+abbrev pub half_apart : ℕ → RecvHalf
+half_apart n = record (new_recv_half plain_settings.stream_receive_window) { arrived = record nothing_arrived { parts = behind_gaps 0 n }; seen = 2 * n }
+
+-- an end that is open, and whose stream is such a half
+abbrev pub came_apart : ℕ → End
+came_apart n = let e : End = took_five in record e { streams = record e.streams { receiving = record e.streams.receiving { halves = record e.streams.receiving.halves { live = (0, half_apart n) ∷ [] } } } }
+
+-- of a stream 4 MiB may come
+abbrev pub four_mebibytes : Settings
+four_mebibytes = record plain_settings { stream_receive_window = 2 ^ 22 }
 
 -- one byte of messages may wait
 abbrev pub room_of_one : Settings
@@ -161,3 +181,30 @@ polls_between now = calls.Poll now ∷ calls.Deliver delivery ∷ polls_once now
 
 abbrev pub gave_between : Transmit → List Answer
 gave_between t = answers.Poll (Ok (Some t)) ∷ answers.Deliver (receives.Dropped drops.Closing) ∷ answers.Poll (Ok (Some t)) ∷ []
+
+-- ---- what an end acknowledges
+
+-- the server, whose key writes behind each payload how long it is, so that a datagram shows its
+-- payload
+abbrev pub shows_payload : Policy
+shows_payload = let p : Policy = worked_policies.server in record p { packet = record p.packet { seal = λ n header payload. payload ++ length payload ∷ [] } }
+
+-- its first datagram with this payload
+abbrev pub shows_it : List ℕ → List (List ℕ)
+shows_it payload = sent shows_payload.header shows_payload.packet 0 0 client_id payload ∷ []
+
+-- one poll, which gives a datagram
+abbrev pub gave_one : Transmit → List Answer
+gave_one t = answers.Poll (Ok (Some t)) ∷ []
+
+-- a datagram is handed in before it
+abbrev pub hands_and_polls : ℕ → List Call
+hands_and_polls now = calls.Deliver delivery ∷ polls_once now
+
+-- and is taken
+abbrev pub taken_and_gave : Transmit → List Answer
+taken_and_gave t = answers.Deliver receives.Taken ∷ gave_one t
+
+-- or is dropped
+abbrev pub dropped_and_gave : Transmit → List Answer
+dropped_and_gave t = answers.Deliver (receives.Dropped drops.KeyPhase) ∷ gave_one t

@@ -1,5 +1,6 @@
-//! What an end may keep of what its peer sends, what it may tell of it, and what it may seal; and
-//! ends that keep, tell or seal more. Each function does nothing: its contract is the law.
+//! What an end may keep of what its peer sends, what it may tell of it, and what it may seal and
+//! acknowledge; and ends that keep, tell, seal or acknowledge more. Each function does nothing: its
+//! contract is the law.
 ghost use Rattle.std.specs.Prelude.{ℕ, List, [], ◌∷◌, ◌≡◌, ◌<◌, ◌≤◌, Some};
 ghost use Rattle.quic_wire_core.specs.TransportError.{ErrorValue};
 ghost use Rattle.quic_machine.specs.declared.answers.State.TheVariants.{Open, Closing, Drained};
@@ -13,9 +14,11 @@ ghost use Rattle.quic_headline.specs.FewCloses.{CloseFew};
 ghost use Rattle.quic_headline.specs.Keeping.{KeepsWithin};
 ghost use Rattle.quic_headline.specs.FewEvents.{TellFew, EventsAreFew};
 ghost use Rattle.quic_headline.specs.Nonces.{SealedOnce};
-ghost use Rattle.quic_worked.specs.Worked.{worked_policies};
+ghost use Rattle.quic_headline.specs.LoneAcks.{AcksTaken};
+ghost use Rattle.quic_worked.specs.Worked.{worked_policies, hello_datagram};
+ghost use Rattle.quic_worked.specs.Acknowledged.{ack_at_once, ack_of_third};
 ghost use Rattle.quic_worked.specs.Settings.{plain_settings};
-ghost use Rattle.quic_worked.specs.Kept.{took_five, four_on_a_stream, four_on_all, one_at_once, two_opened, room_of_one, two_bytes, two_empty, too_many_runs, too_many_known, asks_once, told_once, hands_in_before, taken_before, dropped_before, asks_twice, finished_twice, lost_twice, sealed_in_turn, sealed_under_one, sealed_falling, two_seals, handles, handled, polls_once, gave_none, hands_one, one_dropped, closes_it, was_closed, polls_twice, gave_twice, polls_between, gave_between};
+ghost use Rattle.quic_worked.specs.Kept.{took_five, four_on_a_stream, four_on_all, one_at_once, two_opened, came_apart, four_mebibytes, room_of_one, two_bytes, two_empty, too_many_runs, too_many_known, asks_once, told_once, hands_in_before, taken_before, dropped_before, asks_twice, finished_twice, lost_twice, sealed_in_turn, sealed_under_one, sealed_falling, two_seals, handles, handled, polls_once, gave_none, hands_one, one_dropped, closes_it, was_closed, polls_twice, gave_twice, polls_between, gave_between, shows_payload, shows_it, gave_one, hands_and_polls, taken_and_gave, dropped_and_gave};
 
 /// An end that took five bytes keeps more than it may where four may come, of a stream or of all;
 /// so does one whose peer has two streams open of which one may be (RFC 9000, sections 4.1 and
@@ -24,6 +27,16 @@ pub fn kept_streams_show()
     ensures stream { KeepsWithin four_on_a_stream took_five → ⊥ }
     ensures total { KeepsWithin four_on_all took_five → ⊥ }
     ensures streams { KeepsWithin one_at_once two_opened → ⊥ }
+{}
+
+/// Where as much may come on a stream as by default, an open end may keep 2048 bytes of one, each
+/// behind a gap, and 2049 are one run more than it may. Where 4 MiB may come it may keep 4096, and
+/// 4097 are one more (RFC 9000, section 21.7).
+pub fn kept_runs_show()
+    ensures kept { KeepsWithin plain_settings (came_apart 2048) }
+    ensures more { KeepsWithin plain_settings (came_apart 2049) → ⊥ }
+    ensures wide { KeepsWithin four_mebibytes (came_apart 4096) }
+    ensures wider { KeepsWithin four_mebibytes (came_apart 4097) → ⊥ }
 {}
 
 /// An end with room for a byte of messages keeps more than it may where one of two bytes waits, or
@@ -84,4 +97,13 @@ pub fn drained_without_cause_shows()
 pub fn closes_too_often_show()
     ensures once_more { (now : ℕ) (t : Transmit) → CloseFew (polls_between now) (gave_between t) }
     ensures unasked { (now : ℕ) (t : Transmit) → CloseFew (polls_twice now) (gave_twice t) → ⊥ }
+{}
+
+/// An end may acknowledge the number of a datagram that was handed in and taken. One that
+/// acknowledges a number that it never took shows, and so does one that acknowledges the number
+/// of a datagram that it dropped (RFC 9000, section 13.1).
+pub fn acknowledged_untaken_shows()
+    ensures taken { (now : ℕ) (t : Transmit) → AcksTaken shows_payload (hello_datagram ∷ []) [] (hands_and_polls now) (taken_and_gave t) (shows_it ack_at_once) }
+    ensures untaken { (now : ℕ) (t : Transmit) → AcksTaken shows_payload [] [] (polls_once now) (gave_one t) (shows_it ack_of_third) → ⊥ }
+    ensures dropped { (now : ℕ) (t : Transmit) → AcksTaken shows_payload (hello_datagram ∷ []) [] (hands_and_polls now) (dropped_and_gave t) (shows_it ack_at_once) → ⊥ }
 {}

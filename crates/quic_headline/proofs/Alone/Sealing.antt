@@ -110,12 +110,12 @@ call_seals p e theirs call a is served behind = let stays = stays_call p e their
 -- ---- an end that failed
 
 -- a call that fails gives nothing
-failing_gives : (p : Policy) (e : End) (call : Call) (a : Answer) → fails a ≡ true → gives p e call a ≡ []
+pub failing_gives : (p : Policy) (e : End) (call : Call) (a : Answer) → fails a ≡ true → gives p e call a ≡ []
 failing_gives p e (calls.Poll now) (answers.Poll (Ok (Some transmit))) is = cc
 failing_gives p e call a is = refl
 
 -- nor does any call at an end that failed
-failed_gives : (p : Policy) (e : End) (theirs : List (List ℕ)) (call : Call) (a : Answer) → IsAnswer p e theirs call a → e.closing.state ≡ states.Failed → gives p e call a ≡ []
+pub failed_gives : (p : Policy) (e : End) (theirs : List (List ℕ)) (call : Call) (a : Answer) → IsAnswer p e theirs call a → e.closing.state ≡ states.Failed → gives p e call a ≡ []
 failed_gives p e theirs (calls.Poll now) a (inl is) failed =
     ap (λ (x : Answer). gives p e (calls.Poll now) x) (is ∙ ap (λ (s : State). answers.Poll (polled_in s p e now).answer) failed)
 failed_gives p e theirs (calls.Poll now) a (inr is) failed = ap (λ (x : Answer). gives p e (calls.Poll now) x) is
@@ -138,18 +138,18 @@ module _ (p : Policy) (theirs : List (List ℕ)) where
   read_numbers control heard (calls.Poll now) e = refl
   read_numbers control heard call e = refl
 
-  read_state : (control : Control) (heard : Heard) (call : Call) (e : End) → (reads_window control heard call e).closing.state ≡ e.closing.state
+  pub read_state : (control : Control) (heard : Heard) (call : Call) (e : End) → (reads_window control heard call e).closing.state ≡ e.closing.state
   read_state control heard (calls.Poll now) e = refl
   read_state control heard call e = refl
 
   -- the end behind a call that doesn't fail, and behind one that does
-  left_is : (x next : Lone) (call : Call) (a : Answer) → IsLoneStep p theirs x call a next → fails a ≡ false → next.end ≡ end_left p x.control x.heard x.end theirs call a
+  pub left_is : (x next : Lone) (call : Call) (a : Answer) → IsLoneStep p theirs x call a next → fails a ≡ false → next.end ≡ end_left p x.control x.heard x.end theirs call a
   left_is x next call a s served = subst (λ (b : Bool). IsLeft b p x.control x.heard x.end theirs call a next.end) served s.end
 
-  stops : (x next : Lone) (call : Call) (a : Answer) → IsLoneStep p theirs x call a next → fails a ≡ true → next.end.closing.state ≡ states.Failed
+  pub stops : (x next : Lone) (call : Call) (a : Answer) → IsLoneStep p theirs x call a next → fails a ≡ true → next.end.closing.state ≡ states.Failed
   stops x next call a s failing = (subst (λ (b : Bool). IsLeft b p x.control x.heard x.end theirs call a next.end) failing s.end).0
 
-  stays_failed : (x next : Lone) (call : Call) (a : Answer) → IsLoneStep p theirs x call a next → x.end.closing.state ≡ states.Failed → next.end.closing.state ≡ states.Failed
+  pub stays_failed : (x next : Lone) (call : Call) (a : Answer) → IsLoneStep p theirs x call a next → x.end.closing.state ≡ states.Failed → next.end.closing.state ≡ states.Failed
   stays_failed x next call a s failed = go (fails a) refl
     where
       e : End

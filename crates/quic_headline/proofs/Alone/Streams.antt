@@ -157,7 +157,7 @@ module _ (Fits : StreamValue → Type 0) (P : StreamsState → Type 0) (c : IsKe
 
   module _ (p : Policy) (e : End) (theirs : List (List ℕ)) (i : P e.streams) where
     -- a call but a delivery
-    apart_call : (call : Call) (a : Answer) → IsAnswer p e theirs call a → is_delivery call ≡ false → P (after_call p e theirs call a).streams
+    pub apart_call : (call : Call) (a : Answer) → IsAnswer p e theirs call a → is_delivery call ≡ false → P (after_call p e theirs call a).streams
     apart_call call a is apart = by_call p e theirs (λ (f : End). P f.streams) call a (record {
       same = i;
       on_streams = λ on answer. streams_call P P calls_keep e i (is_open e.closing.state) call a (answer is) (λ full. i);

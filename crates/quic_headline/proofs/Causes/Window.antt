@@ -32,7 +32,7 @@ window_stays window (changes.ends_receiving id h) s may i = done_keeps (not (is_
 window_stays window c s may i = i
 
 -- a frame does
-frame_window : (window : ℕ) (f : FrameValue) (e : End) → HasWindow window e.streams → HasWindow window (take_frame f e).end.streams
+pub frame_window : (window : ℕ) (f : FrameValue) (e : End) → HasWindow window e.streams → HasWindow window (take_frame f e).end.streams
 frame_window window f e i = frame_quiet (HasWindow window) (is_quiet (HasWindow window) (window_stays window)) f e
     (λ g is. by_stream (HasWindow window) (window_stays window) e.streams e.waiting.frames g (λ h a u. tt) i)
     (λ g is. by_reset_frame (HasWindow window) (window_stays window) e.streams e.waiting.frames g (λ h a u. tt) i)

@@ -61,7 +61,7 @@ packet_runs p now n true seen = wait_runs (starts_wait (asking_counted p n seen)
 packet_runs p now n false seen = refl
 
 -- the number of a packet is one more to acknowledge
-acks_taken : (p : Pending) (came : Counts) (urged : Bool) (mark : Option EcnCodepoint) (n now : ℕ) (asking : Bool) (seen : Seen) → n < 2 ^ 62 → Acks p came → Acks (after_packet (with_due urged (after_insert p n now)) now n asking seen) (after_mark mark came)
+pub acks_taken : (p : Pending) (came : Counts) (urged : Bool) (mark : Option EcnCodepoint) (n now : ℕ) (asking : Bool) (seen : Seen) → n < 2 ^ 62 → Acks p came → Acks (after_packet (with_due urged (after_insert p n now)) now n asking seen) (after_mark mark came)
 acks_taken p came urged mark n now asking seen lt acks =
     let due : Pending = with_due urged (after_insert p n now) in
     acks_same (after_insert p n now) (after_packet due now n asking seen) (after_mark mark came) (packet_runs due now n asking seen) (record {

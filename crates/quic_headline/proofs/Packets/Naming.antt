@@ -66,7 +66,7 @@ acks_go_down (f ∷ fs) payload a spells (inl is) = here f is spells
 acks_go_down (f ∷ fs) payload a spells (inr i) = acks_go_down fs spells.1 a spells.3 i
 
 -- so the greatest is in one of them
-greatest_in : (a : AckValue) (ranges : List (ℕ × ℕ)) → GoDown a.largest ranges → list_any (λ r. nat_le r.0 a.largest && nat_le a.largest r.1) ranges ≡ true
+pub greatest_in : (a : AckValue) (ranges : List (ℕ × ℕ)) → GoDown a.largest ranges → list_any (λ r. nat_le r.0 a.largest && nat_le a.largest r.1) ranges ≡ true
 greatest_in a [] down = absurd down
 greatest_in a (r ∷ rs) down =
     let top = down.1 in

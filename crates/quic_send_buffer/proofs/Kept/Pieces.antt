@@ -1,12 +1,12 @@
 -- The bytes that are kept of a stream, by the pieces that they stand in.
-use Rattle.std.proofs.Common.{◌≡◌, ℕ, ◌+◌, ◌-◌, ◌<◌, ◌≤◌, ◌++◌, ltb, leb, cond, length, take, drop, List, [], ◌∷◌, Bool, true, false, Some, None, min, length-take, length-drop, refl, sym, ap, ◌∙◌, subst, arith, length-append, inl, inr, ◌==◌}
+use Rattle.std.proofs.Common.{◌≡◌, ℕ, ◌+◌, ◌-◌, ◌<◌, ◌≤◌, ◌++◌, ltb, leb, cond, length, drop, List, [], ◌∷◌, Bool, true, false, Some, None, refl, sym, ap, ◌∙◌, subst, arith, length-append, inl, inr, ◌==◌}
 use Rattle.std.specs.Prelude.{slice_range}
 use Rattle.std.proofs.lemmas.Bool.{cases_lt, cases_Bool, le-leb, lt-leb, lt-ltb, le-ltb, ltb-true, ltb-false, eqb-true}
 use Rattle.std.proofs.lemmas.List.{append_assoc, append-nil}
 use Rattle.std.proofs.Math.Seq.{drop-append-add}
 use Rattle.quic_sets.specs.Parts.{Part, start, after, bytes_of}
 use Rattle.quic_send_buffer.specs.Buffered.{passed, pieces_behind, piece_of, piece_end}
-use Rattle.quic_send_buffer.specs.KeptBytes.{KeptBytes, AreInTurn, lengths_of, with_piece, released_to, behind, base_behind}
+use Rattle.quic_send_buffer.specs.KeptBytes.{KeptBytes, AreInTurn, lengths_of, with_piece, released_to, behind}
 use Rattle.quic_send_buffer.proofs.Kept.Ranges.{within_first, within_second}
 
 -- pieces as they are seen
@@ -43,9 +43,6 @@ one_piece n some = elim (cases_Bool (n == 0)) [
   | inr isnt ↦ rw isnt refl
 ]
 
-pub push_turn : (at end next : ℕ) (ps ns : List Part) (bytes : List ℕ) → AreInTurn at ps end → 0 < length bytes → next ≡ end + length bytes → ns ≡ ps ++ ((next, bytes) ∷ []) → AreInTurn at ns next
-push_turn at end next ps ns bytes h some e f = rw (f, e) (more_in_turn at end ps bytes h some)
-
 pub push_seen : (at next : ℕ) (ps ns : List Part) (bytes : List ℕ) → 0 < length bytes → ns ≡ ps ++ ((next, bytes) ∷ []) → seen_from at ns ≡ with_piece bytes (seen_from at ps)
 push_seen at next ps ns bytes some f =
     let q : Part = (next, bytes) in
@@ -58,13 +55,12 @@ push_seen at next ps ns bytes some f =
 -- how the release of pieces shows
 abbrev IsReleased : ℕ → ℕ → ℕ → List Part → Type 0
 IsReleased at end o ps =
-    AreInTurn (base_behind o at ps) (behind o ps) end
-    × (base_behind o at ps ≡ at + passed (lengths_of ps) (o - at))
+    AreInTurn (at + passed (lengths_of ps) (o - at)) (behind o ps) end
     × (bytes_of (behind o ps) ≡ drop (passed (lengths_of ps) (o - at)) (bytes_of ps))
     × (lengths_of (behind o ps) ≡ pieces_behind (lengths_of ps) (o - at))
 
 released : (at end o : ℕ) (ps : List Part) → AreInTurn at ps end → IsReleased at end o ps
-released at end o [] h = (h, omega arith, refl, refl)
+released at end o [] h = (omega (arith, h), refl, refl)
 released at end o (p ∷ ps) h =
     let here = h.0 in
     let some = h.1 in
@@ -72,27 +68,28 @@ released at end o (p ∷ ps) h =
       | inl lt ↦
           let stays : leb p.0 o ≡ false = lt-leb p.0 o lt in
           let long : leb (length p.1) (o - at) ≡ false = lt-leb (length p.1) (o - at) (omega (arith, here, lt, some)) in
-          rw (stays, long) (h, omega arith, refl, refl)
+          rw (stays, long) ((omega (arith, here), some, h.2), refl, refl)
       | inr le ↦
           let goes : leb p.0 o ≡ true = le-leb p.0 o le in
           let short : leb (length p.1) (o - at) ≡ true = le-leb (length p.1) (o - at) (omega (arith, here, le)) in
           let left : o - at - length p.1 ≡ o - p.0 = omega (arith, here) in
           let rest = released p.0 end o ps h.2 in
-          let base = rest.1 in
-          rw (goes, short, left) (rest.0, omega (arith, base, here), rest.2 ∙ sym (drop-append-add p.1 (bytes_of ps) (passed (lengths_of ps) (o - p.0))), rest.3)
+          let base : p.0 + passed (lengths_of ps) (o - p.0) ≡ at + (length p.1 + passed (lengths_of ps) (o - p.0)) = omega (arith, here) in
+          rw (goes, short, left) (subst (λ (n : ℕ). AreInTurn n (behind o ps) end) base rest.0, rest.1 ∙ sym (drop-append-add p.1 (bytes_of ps) (passed (lengths_of ps) (o - p.0))), rest.2)
     ]
 
-pub release_turn : (at end o from : ℕ) (ps ns : List Part) → AreInTurn at ps end → from ≡ base_behind o at ps → ns ≡ behind o ps → AreInTurn from ns end
-release_turn at end o from ps ns h e f = rw (e, f) (released at end o ps h).0
+-- as the pieces are seen, by where those begin that are left
+pub release_turn : (at end o : ℕ) (ps ns : List Part) → AreInTurn at ps end → ns ≡ behind o ps → AreInTurn (at + passed (lengths_of ps) (o - at)) ns end
+release_turn at end o ps ns h f = rw f (released at end o ps h).0
 
-pub release_seen : (at end o from : ℕ) (ps ns : List Part) → AreInTurn at ps end → from ≡ base_behind o at ps → ns ≡ behind o ps → seen_from from ns ≡ released_to o (seen_from at ps)
+pub release_seen : (at end o from : ℕ) (ps ns : List Part) → AreInTurn at ps end → from ≡ at + passed (lengths_of ps) (o - at) → ns ≡ behind o ps → seen_from from ns ≡ released_to o (seen_from at ps)
 release_seen at end o from ps ns h e f =
     let all = released at end o ps h in
     let gone = passed (lengths_of ps) (o - at) in
-    ap (λ (n : ℕ). seen_from n ns) (e ∙ all.1)
+    ap (λ (n : ℕ). seen_from n ns) e
     ∙ ap (λ (qs : List Part). seen_from (at + gone) qs) f
-    ∙ ap (λ (bs : List ℕ). let x : KeptBytes = record { base = at + gone; bytes = bs; lengths = lengths_of (behind o ps) } in x) all.2
-    ∙ ap (λ (ls : List ℕ). let x : KeptBytes = record { base = at + gone; bytes = drop gone (bytes_of ps); lengths = ls } in x) all.3
+    ∙ ap (λ (bs : List ℕ). let x : KeptBytes = record { base = at + gone; bytes = bs; lengths = lengths_of (behind o ps) } in x) all.1
+    ∙ ap (λ (ls : List ℕ). let x : KeptBytes = record { base = at + gone; bytes = drop gone (bytes_of ps); lengths = ls } in x) all.2
 
 -- ---- the piece that has an offset
 
@@ -148,27 +145,7 @@ held_none at end o (q ∷ ps) h le e = go (ltb o q.0) refl e (λ k. held_none q.
     go true t e ih = cc
     go false t e ih = ih (ltb-false o q.0 t) e
 
--- what is given of that piece
-pub got_count : (at end o e from to : ℕ) (ps : List Part) (p : Part) → Holds at end o ps p → from ≡ o - start p → to ≡ min e p.0 - start p → length (take (to - from) (drop from p.1)) ≡ min e p.0 - o
-got_count at end o e from to ps p h f t =
-    let taken = length-take (to - from) (drop from p.1) in
-    let left = length-drop from p.1 in
-    let whole = h.whole in
-    let below = h.from in
-    let above = h.above in
-    omega (arith, taken, left, whole, below, above, f, t)
-
-pub got_bytes : (at end o e from to : ℕ) (ps : List Part) (p : Part) → Holds at end o ps p → o ≤ e → from ≡ o - start p → to ≡ min e p.0 - start p
-    → take (to - from) (drop from p.1) ≡ slice_range (bytes_of ps) (o - at) (o + length (take (to - from) (drop from p.1)) - at)
-got_bytes at end o e from to ps p h oe f t =
-    let last = min e p.0 in
-    let above = h.above in
-    let count = got_count at end o e from to ps p h f t in
-    let ends : o + length (take (to - from) (drop from p.1)) ≡ last = omega (arith, count, oe, above) in
-    ap (λ (n : ℕ). take (to - n) (drop n p.1)) f ∙ ap (λ (n : ℕ). take (n - (o - start p)) (drop (o - start p) p.1)) t
-    ∙ h.same last (omega (arith, oe, above)) (omega arith)
-    ∙ ap (λ (n : ℕ). slice_range (bytes_of ps) (o - at) (n - at)) (sym ends)
-
+-- none has an offset behind them
 pub past_end : (at end o : ℕ) (ps : List Part) → AreInTurn at ps end → end ≤ o → piece_end at (lengths_of ps) o ≡ o
 past_end at end o [] h le = refl
 past_end at end o (p ∷ ps) h le =

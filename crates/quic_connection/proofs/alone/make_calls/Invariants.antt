@@ -1,4 +1,4 @@
-use Rattle.std.proofs.Common.{◌≡◌, length, take}
+use Rattle.std.proofs.Common.{◌≡◌, ◌≤◌, length, take, vec_len, vec_capacity}
 use Rattle.quic_machine.specs.Policy.{Policy}
 use Rattle.quic_machine.specs.End.{policy_of}
 use Rattle.quic_headline.specs.Alone.{Lone}
@@ -15,5 +15,7 @@ invariant-loop-call g l =
     record {
       adds : AddsAlone p l.theirs from (take (length l.answers.items) l.calls) l.answers.items (lone_of (windows_of g.C.Controller.steps g.C.Controller.window_of) l.end) l.fn.given.items l.given.items;
       count : length l.answers.items ≡ l.call-index;
+      len : vec_len l.answers ≡ l.call-index;
+      room : length l.calls ≤ vec_capacity l.answers;
       goes_on : GoesOn g.R.Rng.stream l.fn.end l.end;
     }

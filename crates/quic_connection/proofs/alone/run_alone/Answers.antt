@@ -1,5 +1,5 @@
 -- What the machine keeps at one end alone, of the calls that were made.
-use Rattle.std.proofs.Common.{◌≡◌, ℕ, List, length, take, drop, refl, sym, ap, ◌∙◌, subst, arith}
+use Rattle.std.proofs.Common.{◌≡◌, ℕ, List, [], length, take, drop, refl, sym, ap, ◌∙◌, subst, arith}
 use Rattle.std.specs.Prelude.{sum_by}
 use Rattle.std.proofs.lemmas.List.{drop_at}
 use Rattle.std.proofs.lemmas.List.Sums.{sum_by-append}
@@ -7,6 +7,7 @@ use Rattle.quic_machine.specs.Policy.{Policy}
 use Rattle.quic_machine.specs.End.{policy_of}
 use Rattle.quic_headline.specs.Alone.{Lone}
 use Rattle.quic_headline.specs.Nonces.{SealedOnce}
+use Rattle.quic_headline.specs.LoneAcks.{AcksTaken}
 use Rattle.quic_connection_parts.specs.Telling.{windows_of}
 use Rattle.quic_connection_parts.specs.Drawn.{words_of}
 use Rattle.quic_connection.specs.Lone.{lone_of}
@@ -92,3 +93,13 @@ returns-clause-seals_once g c = λ new.
     let to : Lone = lone_of (windows_of g.C.Controller.steps g.C.Controller.window_of) c.make_calls.new.end in
     let added : drop (length c.args.given.now.items) c.make_calls.new.given.items ≡ given.more = ap (λ (ds : List (List ℕ)). drop (length c.args.given.now.items) ds) given.behind ∙ drop_at c.args.given.now.items given.more (length c.args.given.now.items) refl in
     subst (SealedOnce p) (sym added) (c.seals_once.ensures p c.args.theirs.now from to (take (length c.make_calls.result.answers.items) c.args.calls.now) c.make_calls.result.answers.items given.more new given.gives)
+
+pub returns-clause-acks_only_taken : goal.returns-clause-acks_only_taken
+returns-clause-acks_only_taken g c = λ new.
+    let given = c.make_calls.ensures.given in
+    let p : Policy = policy_of g.H.HeaderKey.protection g.K.PacketKey.aead g.K.PacketKey.seal_limit g.K.PacketKey.refusal_limit (words_of g.R.Rng.stream) c.args.end.now in
+    let from : Lone = lone_of (windows_of g.C.Controller.steps g.C.Controller.window_of) c.args.end.now in
+    let to : Lone = lone_of (windows_of g.C.Controller.steps g.C.Controller.window_of) c.make_calls.new.end in
+    let made = take (length c.make_calls.result.answers.items) c.args.calls.now in
+    let added : drop (length c.args.given.now.items) c.make_calls.new.given.items ≡ given.more = ap (λ (ds : List (List ℕ)). drop (length c.args.given.now.items) ds) given.behind ∙ drop_at c.args.given.now.items given.more (length c.args.given.now.items) refl in
+    subst (AcksTaken p c.args.theirs.now [] made c.make_calls.result.answers.items) (sym added) (c.acks_only_taken.ensures p c.args.theirs.now from to made c.make_calls.result.answers.items given.more new given.gives)

@@ -7,25 +7,23 @@ use Rattle.quic_run_core.proofs.Making.{first_ends, are_started, plain_at, short
 use Rattle.quic_run_core.proofs.session.Session.new.Goals as goal
 
 pub returns-clause-started : goal.returns-clause-started
-returns-clause-started c = are_started c.args.client.now c.args.server.now c.in_ok-make_end-2.ensures.making c.in_ok-make_end.ensures.making
+returns-clause-started c = are_started c.args.client.now c.args.server.now c.in-Ok.ensures.making c.in_ok-client_end.ensures.making
 
 pub returns-clause-lasts : goal.returns-clause-lasts
-returns-clause-lasts c = rw (c.in_ok-make_end.ensures.lasts, c.in_ok-make_end-2.ensures.lasts) refl
+returns-clause-lasts c = rw (c.in_ok-client_end.ensures.lasts, c.in-Ok.ensures.lasts) refl
 
-pub returns-in_err-make_end-clause-refusal : goal.returns-in_err-make_end-clause-refusal
-returns-in_err-make_end-clause-refusal c =
+pub returns-in_err-client_end-clause-refusal : goal.returns-in_err-client_end-clause-refusal
+returns-in_err-client_end-clause-refusal c =
     let p = err_from_is_err_and c.from_residual.result c.from_residual.ensures.1 in
-    rw (p.1, p.2) (short_too _ _ _ (or_first _ (are_keys_short (limits_in c.args.server.now))) c.in_err-make_end.ensures.refusal)
+    rw (p.1, p.2) (short_too _ _ _ (or_first _ (are_keys_short (limits_in c.args.server.now))) c.in_err-client_end.ensures.refusal)
 
-pub returns-in_err-make_end-2-clause-refusal : goal.returns-in_err-make_end-2-clause-refusal
-returns-in_err-make_end-2-clause-refusal c =
-    let p = err_from_is_err_and c.from_residual-in_err-make_end-2.result c.from_residual-in_err-make_end-2.ensures.1 in
-    rw (p.1, p.2, c.in_ok-make_end.ensures.lasts) c.in_err-make_end-2.ensures.refusal
+pub returns-in-Err-clause-refusal : goal.returns-in-Err-clause-refusal
+returns-in-Err-clause-refusal c = rw c.in_ok-client_end.ensures.lasts c.in-Err.ensures.refusal
 
 pub invariant_of-result-clause-plain : goal.invariant_of-result-clause-plain
 invariant_of-result-clause-plain c = record {
-  client = plain_at Client c.args.client.now c.in_ok-make_end.field-0 c.in_ok-make_end.ensures.keys c.in_ok-make_end.ensures.words;
-  server = plain_at Server c.args.server.now c.in_ok-make_end-2.field-0 c.in_ok-make_end-2.ensures.keys c.in_ok-make_end-2.ensures.words;
+  client = plain_at Client c.args.client.now c.in_ok-client_end.client_end c.in_ok-client_end.ensures.keys c.in_ok-client_end.ensures.words;
+  server = plain_at Server c.args.server.now c.in-Ok.end c.in-Ok.ensures.keys c.in-Ok.ensures.words;
 }
 
 pub invariant_of-result-clause-client_known : goal.invariant_of-result-clause-client_known
@@ -35,4 +33,4 @@ pub invariant_of-result-clause-server_known : goal.invariant_of-result-clause-se
 invariant_of-result-clause-server_known c = rw (c.new.ensures.server, c.new-3.ensures.items) refl
 
 pub returns-clause-world : goal.returns-clause-world
-returns-clause-world c = first_ends c.args.client.now c.args.server.now _ _ _ _ _ _ _ _ c.in_ok-make_end.ensures.end c.in_ok-make_end-2.ensures.end c.new.ensures.client c.new.ensures.server c.in_ok-make_end.ensures.control c.in_ok-make_end-2.ensures.control c.in_ok-make_end.ensures.heard c.in_ok-make_end-2.ensures.heard
+returns-clause-world c = first_ends c.args.client.now c.args.server.now _ _ _ _ _ _ _ _ c.in_ok-client_end.ensures.end c.in-Ok.ensures.end c.new.ensures.client c.new.ensures.server c.in_ok-client_end.ensures.control c.in-Ok.ensures.control c.in_ok-client_end.ensures.heard c.in-Ok.ensures.heard

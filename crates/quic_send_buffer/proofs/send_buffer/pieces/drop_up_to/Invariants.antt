@@ -1,13 +1,10 @@
 use Rattle.std.proofs.Common.{◌≡◌, length}
-use Rattle.quic_send_buffer.specs.KeptBytes.{behind, base_behind}
+use Rattle.quic_send_buffer.specs.KeptBytes.{ending_behind}
 use Rattle.quic_send_buffer.proofs.send_buffer.pieces.drop_up_to.Given as goal
 
 -- what shall go of the rest is what shall go of all
-abbrev pub invariant-loop-end : goal.invariant-loop-end
-invariant-loop-end l = record {
-  base : base_behind l.up_to l.start l.pieces ≡ base_behind l.fn.up_to l.fn.base l.fn.pieces;
-  rest : behind l.up_to l.pieces ≡ behind l.fn.up_to l.fn.pieces;
-}
+abbrev pub invariant-loop-stretches : goal.invariant-loop-stretches
+invariant-loop-stretches l = ending_behind l.up_to l.stretches ≡ ending_behind l.fn.up_to l.fn.stretches
 
-abbrev pub decreases-loop-end : goal.decreases-loop-end
-decreases-loop-end l = length l.pieces
+abbrev pub decreases-loop-stretches : goal.decreases-loop-stretches
+decreases-loop-stretches l = length l.stretches
