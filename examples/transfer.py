@@ -71,7 +71,8 @@ class Endpoint:
 
     def __init__(self, side, secret, bound):
         self.side, self.secret, self.socket = side, secret, bound
-        self.settings = Settings(max_idle_timeout_ms=IDLE)
+        asks = dict(ack_frequency=1, ack_max_delay=2_500_000)  # In place of 25 ms.
+        self.settings = Settings(max_idle_timeout_ms=IDLE, **asks)
         own_id = secrets.token_bytes(hello.ID)
         self.hello = hello.write(secret, side == CLIENT, own_id, self.settings.parameters())
         self.connection = self.seal = self.unseal = self.peer = None

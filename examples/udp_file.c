@@ -126,6 +126,7 @@ static void make(transfer *t) {
     fh_settings settings;
     must(fh_settings_default(&settings, sizeof settings));
     settings.max_idle_timeout_ms = 5000;
+    settings.ack_frequency = 1, settings.ack_max_delay = 2500000; /* In place of 25 ms. */
     size_t len = (size_t)must(fh_parameters(&settings, parameters, sizeof parameters));
     of_keys(fh_hello_write(&t->own, host->sending, host->secret, host->random, parameters, len));
     meet(host, &t->own, &t->peers);

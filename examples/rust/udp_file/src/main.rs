@@ -47,6 +47,8 @@ impl Transfer {
     fn new(host: Host, file: File) -> Result<Self, Failure> {
         let mut settings = Settings::default();
         settings.max_idle_timeout_ms = IDLE_MS;
+        settings.ack_frequency = 1;
+        settings.ack_max_delay = 2_500_000; // In place of 25 ms.
         let out_of_memory = || Failure::Fault("out of memory".into());
         let parameters = settings.parameters()?;
         let own = Hello::write(host.sending, &host.secret, &host.random, &parameters)
