@@ -3,20 +3,21 @@ ghost use Rattle.std.specs.Prelude.{◌≡◌, ◌++◌, ◌+◌, ◌*◌, ◌<�
 ghost use Rattle.quic_machine.specs.End.{policy_of};
 ghost use Rattle.std.specs.List.{list_any};
 ghost use Rattle.quic_machine.specs.Machine.{fails};
-ghost use Rattle.quic_headline.specs.Alone.{IsNew, FollowsAlone, BytesCame, MessagesCame};
+ghost use Rattle.quic_headline.specs.Alone.{IsNew, BeginsFit, FollowsAlone, BytesCame, MessagesCame};
 ghost use Rattle.quic_headline.specs.Keeping.{KeepsWithin};
 ghost use Rattle.quic_headline.specs.FewEvents.{EventsAreFew};
 ghost use Rattle.quic_headline.specs.Amplification.{BeginsAlone, bytes_in};
 ghost use Rattle.quic_headline.specs.LoneCloses.{ClosedForCause, DrainedForCause};
 ghost use Rattle.quic_headline.specs.FewCloses.{IsClosing, CloseFew};
 ghost use Rattle.quic_headline.specs.Nonces.{SealedOnce};
-ghost use Rattle.quic_headline.specs.LoneAcks.{AcksTaken};
+ghost use Rattle.quic_headline.specs.LoneAcks.{AcksTaken, CodesAreSmall};
 ghost use Rattle.quic_connection_parts.specs.Telling.{windows_of};
 ghost use Rattle.quic_connection_parts.specs.Drawn.{words_of};
 ghost use Rattle.quic_connection.specs.Ends.{GoesOn};
 ghost use Rattle.quic_connection.specs.Lone.{lone_of, AddsAlone};
 ghost use Rattle.quic_connection.specs.Stopping.{StopsAloneFor};
 
+use crate::running::show_code;
 use crate::stepping::at_end;
 use quic_congestion::Controller;
 use quic_connection_core::Connection;
@@ -69,8 +70,8 @@ pub struct Alone {
 /// Whoever the peer is, and also where memory runs out, such an endpoint seals each datagram under
 /// a packet number above those before, and no more than [`PacketKey::confidentiality_limit`] lets
 /// it: no nonce is used twice (RFC 9000, section 12.3; RFC 9001, sections 5.3 and 6.6). Each number
-/// that an ACK frame of such a datagram names is that of a packet that a call before it handed in,
-/// and that was answered `Received::Taken` (RFC 9000, section 13.1).
+/// that a reader finds in an ACK frame of such a datagram is that of a packet that a call before it
+/// handed in, and that was answered `Received::Taken` (RFC 9000, section 13.1).
 pub fn run_alone<H: HeaderKey + Drop, K: PacketKey + Drop, R: Rng + Drop, C: Controller>(
     alloc: Global,
     end: &mut Connection<H, K, R, C>,
@@ -110,7 +111,7 @@ pub fn run_alone<H: HeaderKey + Drop, K: PacketKey + Drop, R: Rng + Drop, C: Con
     ensures seals_once { IsNew end.old.end
         → SealedOnce (policy_of H.protection K.aead K.seal_limit K.refusal_limit (words_of R.stream) end.old)
         (drop (length given.old.items) given.new.items) }
-    ensures acks_only_taken { IsNew end.old.end
+    ensures acks_only_taken { BeginsFit (lone_of (windows_of C.steps C.window_of) end.old)
         → AcksTaken (policy_of H.protection K.aead K.seal_limit K.refusal_limit (words_of R.stream) end.old) theirs.now []
         (take (length result.answers.items) calls.now) result.answers.items
         (drop (length given.old.items) given.new.items) }
@@ -126,7 +127,17 @@ pub fn run_alone<H: HeaderKey + Drop, K: PacketKey + Drop, R: Rng + Drop, C: Con
     headline::closes_few();
     headline::seals_once();
     headline::acks_only_taken();
+    show_codes(calls);
     make_calls(alloc, end, given, theirs, calls)
+}
+
+/// Shows the prover that the codes of calls are below 2^62: their type says so.
+fn show_codes(calls: &[Call])
+    ensures { CodesAreSmall calls.now }
+{
+    for one in calls {
+        show_code(one);
+    }
 }
 
 /// Makes each call in turn.

@@ -118,7 +118,7 @@ fn show_codes(events: &[RunEvent])
 }
 
 /// Shows the prover that the code of a call, if it has one, is below 2^62.
-fn show_code(call: &Call)
+pub(crate) fn show_code(call: &Call)
     ensures { CodeIsSmall call.now }
 {
     if let Call::Reset(_, code)

@@ -8,7 +8,9 @@ pub mod Bytes
 pub mod Messages
 pub mod Streams
 pub mod Within
+pub mod Items
 pub mod Asked
+pub mod Numbers
 pub mod Kept
 pub mod Pieces
 pub mod Keeping
@@ -27,5 +29,6 @@ pub mod Amplified
 pub mod Shut
 pub mod Closed
 pub mod FewCloses
-pub mod Written
+pub mod Sendable
+pub mod Taken
 pub mod Acked

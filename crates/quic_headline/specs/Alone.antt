@@ -1,9 +1,9 @@
 -- What one end makes of any calls, whatever datagrams are handed to it: its peer may have the keys,
 -- and lie (RFC 9000, section 21).
-use Rattle.std.specs.Prelude.{ℕ, Bool, false, ◌+◌, ◌-◌, ◌≤◌, ◌≡◌, List, [], ◌∷◌, ◌++◌, take, slice_get, Option, Some, None}
+use Rattle.std.specs.Prelude.{ℕ, Bool, false, ◌+◌, ◌-◌, ◌≤◌, ◌≡◌, List, [], ◌∷◌, ◌++◌, length, take, slice_get, Option, Some, None}
 use Rattle.std.specs.List.{list_any}
 use Rattle.quic_wire_core.specs.declared.stream_id.Side.{Side}
-use Rattle.quic_config.specs.Transport.{Settings}
+use Rattle.quic_config.specs.Transport.{Settings, IsInRange}
 use Rattle.quic_wire.specs.Value.{StreamValue, stream, datagram}
 use Rattle.quic_wire.specs.Items.{items}
 use Rattle.quic_packet.specs.Datagram.{Opening}
@@ -16,7 +16,7 @@ use Rattle.quic_machine.specs.Policy.{Policy}
 use Rattle.quic_machine.specs.Control.{Control}
 use Rattle.quic_machine.specs.Heard.{Heard}
 use Rattle.quic_machine.specs.Parts.{Windows}
-use Rattle.quic_machine.specs.End.{End, MadeFrom}
+use Rattle.quic_machine.specs.End.{End, MadeFrom, most_payload}
 use Rattle.quic_machine.specs.Machine.{IsAnswer, IsLeft, IsTold, IsHeard, CountsOpenings, reads_window, gives, fails}
 use Rattle.quic_machine.specs.Lacking.{LacksWhere}
 use Rattle.quic_headline.specs.Runs.{In, chunks_of, frames_of, nexts_by, opens_by_key}
@@ -66,6 +66,14 @@ pub record IsNew (e : End) : Type 0 where
   pub validated : Bool
   pub words : ℕ → ℕ
   pub made : MadeFrom side settings windows parameters own_id peer_id moment validated words e
+
+-- An end as it was made by settings in range, by which no path has to carry more than a UDP payload
+-- has, for a peer whose id is no longer than ids are (RFC 9000, section 17.2).
+pub record BeginsFit (x : Lone) : Type 0 where
+  pub new : IsNew x.end
+  pub range : IsInRange new.settings
+  pub sizes : new.settings.min_mtu ≤ most_payload
+  pub id : length new.peer_id ≤ 20
 
 -- ---- what came, and what is read
 

@@ -4,15 +4,15 @@
 -- lists don't say here. It is left open:
 --  * in what is told of acknowledgements, whether the end had nothing more to send (`app_limited`),
 --    where its last poll doesn't tell (`MayCount`): either, but the same in one packet;
---  * whether the peer has a challenge to answer as they come (`challenged`; RFC 9000, section 8.2), so that
---    the controller isn't told of them: it may have one where the end began with an address of its
---    peer that wasn't validated;
+--  * whether the peer has a challenge to answer as they come (`challenged`; RFC 9000, section 8.2),
+--    so that the controller isn't told of them: it may have one where its address isn't seen to be
+--    validated before the call;
 --  * whether counts of CE that came are believed and grew (`marks`): a controller may be told so,
 --    where they may have;
 --  * which of the datagrams that may be probes of a size is one (`probe`), whether such a one gives
 --    its size to later ones (`grows`), and whether that size falls as datagrams are lost (`falls`):
 --    either, but the last size that is told is that which the view shows.
-use Rattle.std.specs.Prelude.{ℕ, suc, ◌*◌, ◌<◌, ◌≤◌, ◌≡◌, ◌↔◌, min, not, ◌&&◌, Bool, true, false, List, [], ◌∷◌, ◌++◌, filter, map, replicate, sum_by, slice_get, Option, Some, None, unwrap_or}
+use Rattle.std.specs.Prelude.{ℕ, suc, ◌*◌, ◌<◌, ◌≤◌, ◌≡◌, ◌↔◌, min, not, ◌&&◌, Bool, true, false, List, [], ◌∷◌, ◌++◌, filter, map, replicate, sum_by, slice_get, Option, Some, None, unwrap_or, if◌then◌else◌}
 use Rattle.std.specs.List.{list_any}
 use Rattle.quic_wire_core.specs.declared.stream_id.Side.{Side}
 use Rattle.quic_wire.specs.Value.{FrameValue, AckValue, ack, ping, padding}
@@ -23,11 +23,12 @@ use Rattle.quic_congestion.specs.Search.{is_number}
 use Rattle.quic_spaces.specs.Numbers.{greatest_of}
 use Rattle.quic_spaces.specs.Persistent.{Loss, IsPersistent}
 use Rattle.quic_machine.specs.declared.answers.State.TheVariants as states
+use Rattle.quic_machine.specs.declared.run.RunEvent.{RunEvent}
 use Rattle.quic_machine.specs.declared.run.View.{View}
 use Rattle.quic_machine.specs.Machine.{end_at, control_at}
-use Rattle.quic_headline.specs.Runs.{Run, Told, Packet, Intake, In, given_of, names, is_refused, and_told, until, AreServed}
+use Rattle.quic_headline.specs.Runs.{Run, Told, Packet, Intake, In, same_side, given_of, names, is_refused, and_told, until, AreServed}
 use Rattle.quic_headline.specs.Observer.{Sent, asks_of, Terms, Flight, latest, late_by, is_lost, is_greatest, measures, kept_delay, open_request, rtt_behind, after_ack, after_packets, waited, loss_due, is_past, Watch, news, has_opened, moment_of, clock_behind, Lens, is_timely, watch_came, watch_told, lens_of, watch_from, next_number}
-use Rattle.quic_headline.specs.Polls.{window_in, mtu_in, search_at}
+use Rattle.quic_headline.specs.Polls.{window_in, mtu_in, end_in, search_at}
 use Rattle.quic_headline.specs.AppLimited.{CountsAt}
 
 -- what a controller is told, one thing behind another
@@ -40,9 +41,9 @@ told_if true told = told ∷ []
 told_if false told = []
 
 -- By what acknowledgements and losses are judged at an end (sections 6.1, 7.6 and 7.8): its terms
--- and settings, whether it began with a validated address, the number that goes next, the one that
--- did as a round trip was first measured, if one was, and whether the end counts as having nothing
--- more to send.
+-- and settings, whether the address of its peer is seen to be validated before the call, the
+-- number that goes next, the one that did as a round trip was first measured, if one was, and
+-- whether the end counts as having nothing more to send.
 pub record Judging : Type 0 where
   pub terms : Terms
   pub settings : TransportSettings
@@ -230,18 +231,30 @@ pub record TellsCall (l : Lens) (c : TransportSettings) (validated : Bool) (firs
   pub gave : (watch_told l t w).own ≡ w.own ++ went
   pub is : told ≡ taken ++ refused ++ late ++ told_gone went
 
--- calls at the end, one behind another, of which the first stands behind so many others: at each
--- that finds the end open, the end may count so
-abbrev pub TellsCalls : Lens → TransportSettings → Bool → (ℕ → Bool → Type 0) → ℕ → Option ℕ → Watch → List Told → Tellings → Type 0
+-- calls at the end, one behind another, of which the first stands behind so many others: before
+-- each the address of the peer is seen to be validated or isn't, and at each that finds the end
+-- open, the end may count so
+abbrev pub TellsCalls : Lens → TransportSettings → (ℕ → Bool) → (ℕ → Bool → Type 0) → ℕ → Option ℕ → Watch → List Told → Tellings → Type 0
 TellsCalls l c validated may n first w [] told = told ≡ []
 TellsCalls l c validated may n first w (t ∷ ts) told =
-    (limited : Bool) × (now later : Tellings) × (t.state ≡ states.Open → may n limited) × TellsCall l c validated first limited w t now × TellsCalls l c validated may (suc n) (first_behind first (watch_told l t w)) (watch_told l t w) ts later × (told ≡ now ++ later)
+    (limited : Bool) × (now later : Tellings) × (t.state ≡ states.Open → may n limited) × TellsCall l c (validated n) first limited w t now × TellsCalls l c validated may (suc n) (first_behind first (watch_told l t w)) (watch_told l t w) ts later × (told ≡ now ++ later)
 
 -- ---- over a run
 
+-- whether views show the address of the peer of an end as validated before each of its calls; it
+-- began so
+abbrev pub validated_before : Side → Bool → List RunEvent → List View → List Bool
+validated_before side shown [] views = []
+validated_before side shown (event ∷ events) [] = []
+validated_before side shown (event ∷ events) (v ∷ views) = (if same_side event.side side then shown ∷ [] else []) ++ validated_before side (end_in v side).validated events views
+
+-- whether it is so before its call behind so many others
+abbrev pub shows_validated : Run → Side → ℕ → Bool
+shows_validated r side n = unwrap_or (slice_get (validated_before side (end_at side r.start).path.validated r.events r.views) n) true
+
 -- the controller of an end may have been told this by the first so many answers
 abbrev pub MayTell : Run → Side → ℕ → Tellings → Type 0
-MayTell r side i told = TellsCalls (lens_of r side) (end_at side r.start).transport (end_at side r.start).path.validated (CountsAt r side) 0 None (watch_from (end_at side r.start) (given_of r side)) (until r side i) told
+MayTell r side i told = TellsCalls (lens_of r side) (end_at side r.start).transport (shows_validated r side) (CountsAt r side) 0 None (watch_from (end_at side r.start) (given_of r side)) (until r side i) told
 
 -- the window that a view shows is that which the controller, as it was when the run began, shows
 -- once it was told of what went, was acknowledged and was lost up to there; and the size of

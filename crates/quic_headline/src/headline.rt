@@ -80,10 +80,10 @@ pub fn seals_once()
     ensures { (p : Policy) (theirs : List (List ℕ)) (x left : Lone) (calls : List Call) (told : List Answer) (given : List (List ℕ)) → SealsOnce p theirs x calls told given left }
 {}
 
-/// Whatever datagrams are handed to an end, and where memory lacks too, the ACK frames of each
-/// datagram that it gives name only packets that it took before: each number is that of a
-/// delivery that opened and was answered so (RFC 9000, section 13.1). The frames are those as
-/// whose bytes its payload was written. It wants nothing of the keys.
+/// Whatever datagrams are handed to an end, and where memory lacks too, the ACK frames that a
+/// reader finds in each datagram that it gives name only packets that it took before: each number
+/// is that to which a delivery opened that was answered so (RFC 9000, section 13.1). It wants an
+/// end as it was made by settings in range, that codes are codes, and nothing of the keys.
 pub fn acks_only_taken()
     ensures { (p : Policy) (theirs : List (List ℕ)) (x left : Lone) (calls : List Call) (told : List Answer) (given : List (List ℕ)) → AcksOnlyTaken p theirs x calls told given left }
 {}

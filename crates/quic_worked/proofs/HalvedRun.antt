@@ -1,6 +1,6 @@
 -- The run in which a window is halved, event by event, and a machine whose controller is told of no
 -- loss.
-use Rattle.std.proofs.Common.{◌≡◌, ◌≤◌, ℕ, suc, min, Bool, true, false, not, ◌||◌, cond, List, [], ◌∷◌, ◌++◌, filter, Option, Some, None, Ok, refl, inl, sym, ap, ◌∙◌, subst, arith}
+use Rattle.std.proofs.Common.{◌≡◌, ◌≤◌, ℕ, min, Bool, true, false, not, cond, List, [], ◌∷◌, ◌++◌, filter, Option, Some, None, Ok, refl, inl, sym, ap, ◌∙◌, subst, arith}
 use Rattle.std.specs.Prelude.{if◌then◌else◌, slice_get}
 use Rattle.std.specs.List.{list_any}
 use Rattle.quic_wire_core.specs.declared.stream_id.Side.{Side}
@@ -17,12 +17,12 @@ use Rattle.quic_machine.specs.declared.run.View.{View}
 use Rattle.quic_machine.specs.Start.{AreStarted}
 use Rattle.quic_machine.specs.Machine.{IsStep, Follows, end_at, view_of}
 use Rattle.quic_machine.specs.RunLaws.{one_run}
-use Rattle.quic_headline.specs.Runs.{Packet, In, names, until, folded, and_told}
+use Rattle.quic_headline.specs.Runs.{Packet, In, names, until, and_told}
 use Rattle.quic_headline.specs.Runs as of_runs
-use Rattle.quic_headline.specs.Observer.{Watch, Lens, asks_of, news, has_opened, moment_of, clock_behind, watch_told, lens_of, watch_from, watch}
+use Rattle.quic_headline.specs.Observer.{Watch, Lens, asks_of, news, has_opened, moment_of, clock_behind, lens_of, watch_from, watch}
 use Rattle.quic_headline.specs.Observer as observer
 use Rattle.quic_headline.specs.Headline.{IsHonest, IsRun}
-use Rattle.quic_headline.specs.Telling.{Tellings, Judging, judging, first_behind, told_if, MayProbe, lost_at, but_for_probe, bytes_asking, acked_flight, TellsLosses, TellsAck, TellsNamed, TellsSettled, TellsPackets, TellsCall, TellsCalls, ControllersAreTold}
+use Rattle.quic_headline.specs.Telling.{Tellings, Judging, judging, told_if, MayProbe, lost_at, but_for_probe, bytes_asking, acked_flight, TellsLosses, TellsAck, TellsNamed, TellsSettled, TellsPackets, TellsCall, TellsCalls, shows_validated, ControllersAreTold}
 use Rattle.quic_worked.specs.Worked.{worked_policies, asks_datagram, gives_bytes, told_in, server_id, id_frames}
 use Rattle.quic_headline.specs.AppLimited.{CountsAt}
 use Rattle.quic_headline.proofs.AppLimited.Clause.{controllers_are_told}
@@ -38,6 +38,7 @@ use Rattle.quic_worked.proofs.OwnIds.{AreOwn, own_ids}
 use Rattle.quic_worked.proofs.WorkedHonest.{are_started}
 use Rattle.quic_worked.proofs.WorkedKeys.{are_keys}
 use Rattle.quic_worked.proofs.Steps.{counts_so}
+use Rattle.quic_worked.proofs.LastTold.{any_left, any_right, LastTold, last_told}
 
 -- ---- the premises
 
@@ -190,35 +191,10 @@ halving_is_told = controllers_are_told halving_run (once_halving 12) halving_is_
 
 -- ---- a controller that is told of no loss
 
--- one of both is congestion
-any_left : (xs ys : Tellings) → list_any is_congestion xs ≡ true → list_any is_congestion (xs ++ ys) ≡ true
-any_left [] ys some = cc
-any_left (x ∷ xs) ys some = go (is_congestion x) some (any_left xs ys)
-  where
-    go : (b : Bool) → (b || list_any is_congestion xs) ≡ true → (list_any is_congestion xs ≡ true → list_any is_congestion (xs ++ ys) ≡ true) → (b || list_any is_congestion (xs ++ ys)) ≡ true
-    go true some rest = refl
-    go false some rest = rest some
-
-any_right : (xs ys : Tellings) → list_any is_congestion ys ≡ true → list_any is_congestion (xs ++ ys) ≡ true
-any_right [] ys some = some
-any_right (x ∷ xs) ys some = go (is_congestion x) (any_right xs ys some)
-  where
-    go : (b : Bool) → list_any is_congestion (xs ++ ys) ≡ true → (b || list_any is_congestion (xs ++ ys)) ≡ true
-    go true rest = refl
-    go false rest = rest
-
 -- it is told where it is to be
 told_one : (b : Bool) (now sent : ℕ) (persistent : Bool) (lost : ℕ) → b ≡ true → list_any is_congestion (told_if b (Congested now sent persistent lost)) ≡ true
 told_one true now sent persistent lost some = refl
 told_one false now sent persistent lost some = cc
-
--- what the last of some calls tells is told among the rest
-last_told : (l : Lens) (c : TransportSettings) (valid : Bool) (may : ℕ → Bool → Type 0) (n : ℕ) (first : Option ℕ) (w : Watch) (ts : List of_runs.Told) (t : of_runs.Told) (told : Tellings) → TellsCalls l c valid may n first w (ts ++ t ∷ []) told
-    → (known : Option ℕ) × (limited : Bool) × (now : Tellings) × TellsCall l c valid known limited (folded (watch_told l) ts w) t now × (list_any is_congestion now ≡ true → list_any is_congestion told ≡ true)
-last_told l c valid may n first w [] t told m = (first, m.0, m.1, m.4, λ some. subst (λ (us : Tellings). list_any is_congestion us ≡ true) (sym m.6) (any_left m.1 m.2 some))
-last_told l c valid may n first w (u ∷ ts) t told m =
-    let rest = last_told l c valid may (suc n) (first_behind first (watch_told l u w)) (watch_told l u w) ts t m.2 m.5 in
-    (rest.0, rest.1, rest.2, rest.3, λ some. subst (λ (us : Tellings). list_any is_congestion us ≡ true) (sym m.6) (any_right m.1 m.2 (rest.4 some)))
 
 -- the acknowledgement that comes, and what is known before it
 abbrev comes : of_runs.Told
@@ -288,15 +264,15 @@ one_asks probe pings = ap (λ (ss : List observer.Sent). list_any asks_of (but_f
     go true is = absurd (no_probe (pings first_pinged among is))
     go false is = ap (λ (b : Bool). list_any asks_of (cond (not b) (first_pinged ∷ []) [])) is
 
-module _ (first : Option ℕ) (limited : Bool) where
+module _ (validated : Bool) (first : Option ℕ) (limited : Bool) where
   -- by what losses are judged there, where this number went next as a round trip was first measured
   abbrev j : Judging
-  j = judging lens settings true first limited seen
+  j = judging lens settings validated first limited seen
 
   losses_congest : (told : Tellings) → TellsLosses j 100000000 true behind told → list_any is_congestion told ≡ true
   losses_congest told x =
       ap (λ (us : Tellings). list_any is_congestion us) x.is
-      ∙ any_right (told_if x.falls (Resized settings.min_mtu)) _ (told_one (list_any asks_of (but_for_probe x.probe (lost_at lens.terms 100000000 behind))) 100000000 _ x.persists _ (one_asks x.probe x.pinged))
+      ∙ any_right is_congestion (told_if x.falls (Resized settings.min_mtu)) _ (told_one (list_any asks_of (but_for_probe x.probe (lost_at lens.terms 100000000 behind))) 100000000 _ x.persists _ (one_asks x.probe x.pinged))
 
   -- the ACK frame ends so
   abbrev ended : Told
@@ -305,17 +281,17 @@ module _ (first : Option ℕ) (limited : Bool) where
   settled_congests : (told : Tellings) → TellsSettled j 100000000 third_ack (pinged 3 ∷ []) others seen.flight told → list_any is_congestion told ≡ true
   settled_congests told x =
       ap (λ (us : Tellings). list_any is_congestion us) x.is
-      ∙ any_left (x.each ++ ended ∷ x.lost) _ (any_right x.each (ended ∷ x.lost) (losses_congest x.lost x.losses))
+      ∙ any_left is_congestion (x.each ++ ended ∷ x.lost) _ (any_right is_congestion x.each (ended ∷ x.lost) (losses_congest x.lost x.losses))
 
   packets_congest : (told : Tellings) → TellsPackets j 100000000 (packet ∷ []) seen.flight told → list_any is_congestion told ≡ true
   packets_congest told m =
       let frames : (now later : Tellings) × TellsAck j 100000000 third_ack seen.flight now × (later ≡ []) × (m.1 ≡ now ++ later) = m.3 in
       let settled : TellsSettled j 100000000 third_ack (pinged 3 ∷ []) others seen.flight frames.0 = subst (λ (ss : List observer.Sent). TellsNamed j 100000000 third_ack ss others seen.flight frames.0) acked_is frames.2 in
       subst (λ (us : Tellings). list_any is_congestion us ≡ true) (sym m.4)
-      (any_right m.0 m.1 (subst (λ (us : Tellings). list_any is_congestion us ≡ true) (sym frames.4) (any_left frames.0 frames.1 (settled_congests frames.0 settled))))
+      (any_right is_congestion m.0 m.1 (subst (λ (us : Tellings). list_any is_congestion us ≡ true) (sym frames.4) (any_left is_congestion frames.0 frames.1 (settled_congests frames.0 settled))))
 
-  call_congests : (now : Tellings) → TellsCall lens settings true first limited seen comes now → list_any is_congestion now ≡ true
-  call_congests now x = ap (λ (us : Tellings). list_any is_congestion us) x.is ∙ any_left (x.taken ++ x.refused ++ x.late) _ (any_left (x.taken ++ x.refused) x.late (any_left x.taken x.refused (packets_congest x.taken takes)))
+  call_congests : (now : Tellings) → TellsCall lens settings validated first limited seen comes now → list_any is_congestion now ≡ true
+  call_congests now x = ap (λ (us : Tellings). list_any is_congestion us) x.is ∙ any_left is_congestion (x.taken ++ x.refused ++ x.late) _ (any_left is_congestion (x.taken ++ x.refused) x.late (any_left is_congestion x.taken x.refused (packets_congest x.taken takes)))
     where
       clock : x.clock ≡ 100000000
       clock =
@@ -332,9 +308,12 @@ module _ (first : Option ℕ) (limited : Bool) where
 pub untold_not : ControllersAreTold untold_run → ⊥
 untold_not h =
     let all = h Client 10 (seen_with (Some 112500000) None) refl refl in
-    let last = last_told lens settings true (CountsAt untold_run Client) 0 None (watch_from (end_at Client halving) untold_run.from_client) (until untold_run Client 10) comes all.0 (subst (λ (ts : List of_runs.Told). TellsCalls lens settings true (CountsAt untold_run Client) 0 None (watch_from (end_at Client halving) untold_run.from_client) ts all.0) comes_last all.1) in
+    let begins : Watch = watch_from (end_at Client halving) untold_run.from_client in
+    let valid : ℕ → Bool = shows_validated untold_run Client in
+    let calls : TellsCalls lens settings valid (CountsAt untold_run Client) 0 None begins (until untold_run Client 10 ++ comes ∷ []) all.0 = subst (λ (ts : List of_runs.Told). TellsCalls lens settings valid (CountsAt untold_run Client) 0 None begins ts all.0) comes_last all.1 in
+    let last : LastTold is_congestion lens settings valid 0 begins (until untold_run Client 10) comes all.0 = last_told is_congestion lens settings valid (CountsAt untold_run Client) 0 None begins (until untold_run Client 10) comes all.0 calls in
     let shows : ◌≡◌ {A = ℕ} 12000 (if list_any is_congestion all.0 then 6000 else 12000) = all.2 in
-    let halves : ◌≡◌ {A = ℕ} 12000 6000 = shows ∙ ap (λ (b : Bool). if b then 6000 else 12000) (last.4 (call_congests last.0 last.1 last.2 last.3)) in
+    let halves : ◌≡◌ {A = ℕ} 12000 6000 = shows ∙ ap (λ (b : Bool). if b then 6000 else 12000) (last.among (call_congests (valid last.place) last.first last.limited last.now last.tells)) in
     absurd (omega (arith, halves))
 
 -- the window that a view shows

@@ -28,7 +28,9 @@ pub mod RaisedRun
 mod ChunkedRun
 pub mod TimedRun
 mod MeasuredRun
+mod LastTold
 mod HalvedRun
+mod WidenedRun
 mod SkippedRun
 mod ProbedRun
 mod SearchedRun

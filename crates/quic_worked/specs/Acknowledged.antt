@@ -40,6 +40,10 @@ ack_of_third = 0x02 ∷ 0x03 ∷ 0x00 ∷ 0x00 ∷ 0x00 ∷ []
 abbrev pub third_ack : AckValue
 third_ack = record { largest = 3; delay = 0; ranges = (3, 3) ∷ []; ecn = None }
 
+-- the same behind PATH_CHALLENGE, which has eight bytes, and no more
+abbrev pub ack_behind_challenge : List ℕ
+ack_behind_challenge = 0x1a ∷ 0x00 ∷ 0x00 ∷ 0x00 ∷ 0x00 ∷ 0x00 ∷ 0x00 ∷ 0x00 ∷ 0x00 ∷ 0x02 ∷ 0x03 ∷ 0x00 ∷ 0x00 ∷ 0x00 ∷ []
+
 -- the datagram that the server gives under a number, where none is acknowledged, with this payload
 abbrev pub from_server : ℕ → List ℕ → List ℕ
 from_server number payload =

@@ -42,6 +42,7 @@ pub mod Renamed
 pub mod Kept
 pub mod Known
 pub mod Unvalidated
+pub mod Widened
 pub mod Expiring
 pub mod Ending
 pub mod Changed

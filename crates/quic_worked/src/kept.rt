@@ -16,7 +16,7 @@ ghost use Rattle.quic_headline.specs.FewEvents.{TellFew, EventsAreFew};
 ghost use Rattle.quic_headline.specs.Nonces.{SealedOnce};
 ghost use Rattle.quic_headline.specs.LoneAcks.{AcksTaken};
 ghost use Rattle.quic_worked.specs.Worked.{worked_policies, hello_datagram};
-ghost use Rattle.quic_worked.specs.Acknowledged.{ack_at_once, ack_of_third};
+ghost use Rattle.quic_worked.specs.Acknowledged.{ack_at_once, ack_of_third, ack_behind_challenge};
 ghost use Rattle.quic_worked.specs.Settings.{plain_settings};
 ghost use Rattle.quic_worked.specs.Kept.{took_five, four_on_a_stream, four_on_all, one_at_once, two_opened, came_apart, four_mebibytes, room_of_one, two_bytes, two_empty, too_many_runs, too_many_known, asks_once, told_once, hands_in_before, taken_before, dropped_before, asks_twice, finished_twice, lost_twice, sealed_in_turn, sealed_under_one, sealed_falling, two_seals, handles, handled, polls_once, gave_none, hands_one, one_dropped, closes_it, was_closed, polls_twice, gave_twice, polls_between, gave_between, shows_payload, shows_it, gave_one, hands_and_polls, taken_and_gave, dropped_and_gave};
 
@@ -100,10 +100,12 @@ pub fn closes_too_often_show()
 {}
 
 /// An end may acknowledge the number of a datagram that was handed in and taken. One that
-/// acknowledges a number that it never took shows, and so does one that acknowledges the number
-/// of a datagram that it dropped (RFC 9000, section 13.1).
+/// acknowledges a number that it never took shows, also where the ACK stands behind the eight bytes
+/// of a PATH_CHALLENGE, and so does one that acknowledges the number of a datagram that it dropped
+/// (RFC 9000, section 13.1).
 pub fn acknowledged_untaken_shows()
     ensures taken { (now : ℕ) (t : Transmit) → AcksTaken shows_payload (hello_datagram ∷ []) [] (hands_and_polls now) (taken_and_gave t) (shows_it ack_at_once) }
     ensures untaken { (now : ℕ) (t : Transmit) → AcksTaken shows_payload [] [] (polls_once now) (gave_one t) (shows_it ack_of_third) → ⊥ }
+    ensures behind { (now : ℕ) (t : Transmit) → AcksTaken shows_payload [] [] (polls_once now) (gave_one t) (shows_it ack_behind_challenge) → ⊥ }
     ensures dropped { (now : ℕ) (t : Transmit) → AcksTaken shows_payload (hello_datagram ∷ []) [] (hands_and_polls now) (dropped_and_gave t) (shows_it ack_at_once) → ⊥ }
 {}

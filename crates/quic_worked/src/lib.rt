@@ -50,5 +50,6 @@ pub mod timed;
 pub mod told;
 pub mod undone;
 pub mod unvalidated;
+pub mod widened;
 pub mod worked;
 pub mod writable;

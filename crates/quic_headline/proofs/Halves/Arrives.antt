@@ -20,7 +20,7 @@ use Rattle.quic_machine.specs.FrameCases.{OnStreams}
 use Rattle.quic_machine.specs.Steps as steps
 use Rattle.quic_headline.specs.Runs.{Packet}
 use Rattle.quic_headline.specs.Observer.{Sent}
-use Rattle.quic_headline.proofs.Packets.Named.{SettlesOn, WasCarried, IsCarriedBy}
+use Rattle.quic_headline.proofs.Packets.Named.{SettlesIf, SettlesOn, WasCarried, IsCarriedBy}
 use Rattle.quic_headline.proofs.Halves.Kept.{Keeping, keeping_kept}
 use Rattle.quic_headline.proofs.Halves.Waiting.{SameResets, stream_same, reset_same, stream_acked_same, reset_acked_same}
 use Rattle.quic_headline.proofs.Halves.Writes.{Writes, waits_same}
@@ -70,10 +70,15 @@ module _ (done : ℕ → Wrote) (e : End) (w : Writes done (streams_at e)) where
   pub again_leaves : (c : Carried) → CarriedSays done c → Writes done (streams_of e.streams (merged e.waiting.frames c.retransmits))
   again_leaves c says = record { keeps = w.keeps; waits = resets_merged done e.waiting.frames c.retransmits w.waits says.resets }
 
--- what an ACK frame makes of an end, where what was sent says what was written
+-- what an ACK frame makes of an end, where what it acknowledges, and what is lost, says what was
+-- written
+pub settles_by : (done : ℕ → Wrote) (Acked Lost : Carried → Type 0) → ((c : Carried) → Acked c → CarriedSays done c) → ((c : Carried) → Lost c → CarriedSays done c) → SettlesIf Acked Lost (λ (e : End). Writes done (streams_at e))
+settles_by done Acked Lost taken sent (steps.reset id) e may w = reset_leaves done e w id
+settles_by done Acked Lost taken sent (steps.acked m) e (c, was, i) w = acked_leaves done e w m ((taken c was).ends m i)
+settles_by done Acked Lost taken sent (steps.lost m) e (c, was, i) w = lost_leaves done e w m ((sent c was).ends m i)
+settles_by done Acked Lost taken sent (steps.again c) e was w = again_leaves done e w c (sent c was)
+settles_by done Acked Lost taken sent s e may w = w
+
+-- so it is where what was sent says what was written
 pub settles_leave : (done : ℕ → Wrote) (took : List Packet) (sents : List Sent) → ((c : Carried) → WasCarried took c → CarriedSays done c) → ((c : Carried) → IsCarriedBy sents c → CarriedSays done c) → SettlesOn took sents (λ (e : End). Writes done (streams_at e))
-settles_leave done took sents taken sent (steps.reset id) e may w = reset_leaves done e w id
-settles_leave done took sents taken sent (steps.acked m) e (c, was, i) w = acked_leaves done e w m ((taken c was).ends m i)
-settles_leave done took sents taken sent (steps.lost m) e (c, was, i) w = lost_leaves done e w m ((sent c was).ends m i)
-settles_leave done took sents taken sent (steps.again c) e was w = again_leaves done e w c (sent c was)
-settles_leave done took sents taken sent s e may w = w
+settles_leave done took sents taken sent = settles_by done (WasCarried took) (IsCarriedBy sents) taken sent

@@ -134,7 +134,7 @@ abbrev SmallAt : End → Type 0
 SmallAt e = HasSmallLimit e.streams
 
 -- something was done of all streams that a lost frame may speak of
-abbrev ended_all : ℕ → Wrote
+abbrev pub ended_all : ℕ → Wrote
 ended_all id = record { bytes = []; ended = true; reset = None }
 
 -- an ACK frame
@@ -145,7 +145,7 @@ settling (steps.lost m) e i = small_words.lost ended_all e.streams m (λ fin. re
 settling s e i = i
 
 -- a frame with a small limit
-small_frame : (f : FrameValue) (e : End) → IsSmallLimit f → SmallAt e → SmallAt (take_frame f e).end
+pub small_frame : (f : FrameValue) (e : End) → IsSmallLimit f → SmallAt e → SmallAt (take_frame f e).end
 small_frame f e small i = by_kind f e (λ (g : FrameValue) (r : Progress). SmallAt r.end) (λ a is. ack_case (names_ungiven a e) a) (λ apart on. frame_on (λ done s. HasSmallLimit s) small_words ended_all f e on small i) (λ apart m same. subst SmallAt (sym same) i) (λ unack apart. apart_leaves SmallAt f e apart (λ c. i) (λ c most. i))
   where
     ack_case : (b : Bool) (a : AckValue) → SmallAt (ack_taken b a e).end

@@ -324,7 +324,7 @@ apart_holds f e apart small w h =
     (apart_else f e apart small w h.holds.others) h
 
 -- ids that are drawn
-drawn_holds : (words : ℕ → ℕ) (e : End) → HoldsAll e → HoldsAll (drawn words e)
+pub drawn_holds : (words : ℕ → ℕ) (e : End) → HoldsAll e → HoldsAll (drawn words e)
 drawn_holds words e h = else_all e (drawn words e) (record { streams = refl; resets = refl; stops = refl; packets = refl }) (drawn_else words e h.holds.others) h
 
 -- the next id of the peer
@@ -335,7 +335,7 @@ next_holds e a w h =
     (next_else e a w h.holds.others) h
 
 -- any frame
-one_holds : (f : FrameValue) (e : End) → IsSmallNumber f → AreWritten e.ids.peer → HoldsAll e → HoldsAll (take_frame f e).end
+pub one_holds : (f : FrameValue) (e : End) → IsSmallNumber f → AreWritten e.ids.peer → HoldsAll e → HoldsAll (take_frame f e).end
 one_holds (ack a) e small w h = go (names_ungiven a e)
   where
     go : (b : Bool) → HoldsAll (ack_taken b a e).end

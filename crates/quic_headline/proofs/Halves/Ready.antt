@@ -1,12 +1,14 @@
 -- What waits to be sent beside the bytes of streams may go, at each place of a run: over what was
 -- written.
-use Rattle.std.proofs.Common.{ℕ, refl, arith}
+use Rattle.std.proofs.Common.{ℕ, Bool, List, refl, arith}
+use Rattle.quic_wire_core.specs.declared.stream_id.Side.{Side}
 use Rattle.quic_parameters.specs.Parameters.{ParameterValues}
-use Rattle.quic_config.specs.Transport.{parameters_of}
+use Rattle.quic_config.specs.Transport.{Settings, parameters_of}
 use Rattle.quic_machine.specs.declared.run.Call.{Call}
 use Rattle.quic_machine.specs.declared.run.Answer.{Answer}
 use Rattle.quic_machine.specs.Ids.{words_behind}
-use Rattle.quic_machine.specs.End.{End, silent_end}
+use Rattle.quic_machine.specs.Parts.{Windows}
+use Rattle.quic_machine.specs.End.{End, silent_end, new_end}
 use Rattle.quic_machine.specs.Receive.{Outcome}
 use Rattle.quic_machine.specs.PollCases.{ready_at}
 use Rattle.quic_headline.specs.Runs.{In, Intake}
@@ -37,7 +39,7 @@ pub record Ready (x y : Party) : Type 0 where
   pub peer : AreWritten x.end.ids.peer
 
 -- so what waits may go
-waits_of : (e : End) → HoldsAll e → AreReady e.streams.sending.halves.live e.waiting.frames
+pub waits_of : (e : End) → HoldsAll e → AreReady e.streams.sending.halves.live e.waiting.frames
 waits_of e all =
     let h = all.holds in
     record {
@@ -51,24 +53,22 @@ waits_of e all =
 pub ready_probes : (x y : Party) → PacketsHold x y → Ready x y → (now : ℕ) → AreReady (ready_at x.end now).end.streams.sending.halves.live (ready_at x.end now).end.waiting.frames
 ready_probes x y packets ready now = waits_of (ready_at x.end now).end (ready_holds x.end now packets.ascends ready.all)
 
--- it is so at the start
-first_ready : (x y : Beginning) → HoldsAll (new_as x y) × AreWritten (new_as x y).ids.peer
-first_ready x y = (
-  again_all e (new_as x y) refl refl refl (record {
+-- it is so at the start, whatever the peer told
+pub first_holds : (side : Side) (settings : Settings) (windows : Windows) (theirs : ParameterValues) (own_id peer_id : List ℕ) (now : ℕ) (validated : Bool) (words : ℕ → ℕ)
+    → (let x : End = new_end side settings windows theirs own_id peer_id now validated words in HoldsAll x × AreWritten x.ids.peer)
+first_holds side settings windows theirs own_id peer_id now validated words = (
+  again_all (silent_end side settings windows theirs own_id peer_id now validated words) (new_end side settings windows theirs own_id peer_id now validated words) refl refl refl (record {
     holds = record {
       pile = record { once = λ id. omega arith; reset = λ r i. absurd i; small = λ s i. absurd i };
-      others = record { ids = first_told (words_behind 1 x.making.words) theirs.active_connection_id_limit; retired = λ n i. absurd i };
+      others = record { ids = first_told (words_behind 1 words) theirs.active_connection_id_limit; retired = λ n i. absurd i };
     };
     carried = λ n t i. absurd i;
   }),
   record { active = omega arith; later = λ c i. absurd i },
 )
-  where
-    theirs : ParameterValues
-    theirs = parameters_of y.making.settings
 
-    e : End
-    e = silent_end x.side x.making.settings x.making.windows theirs x.making.id y.making.id x.making.moment x.making.validated x.making.words
+first_ready : (x y : Beginning) → HoldsAll (new_as x y) × AreWritten (new_as x y).ids.peer
+first_ready x y = first_holds x.side x.making.settings x.making.windows (parameters_of y.making.settings) x.making.id y.making.id x.making.moment x.making.validated x.making.words
 
 -- each call keeps it
 calls_ready : (x y : Party) (call : Call) (a : Answer) → Calls (And PacketsHold WritesHold) x y call a → Ready x y → HoldsAll (called x y.given call a).end × AreWritten (called x y.given call a).end.ids.peer

@@ -1,10 +1,11 @@
 -- The writing side between two ends, as one group over their packets: the one that gives holds what
 -- was written at it, and what it sent says so.
 use Rattle.std.proofs.Common.{◌≡◌, ℕ, ◌≤◌, ◌^◌, Bool, true, false, List, [], ◌∷◌, ◌++◌, refl, sym, ◌∙◌, subst, inl, inr}
+use Rattle.quic_wire_core.specs.declared.stream_id.Side.{Side}
 use Rattle.quic_wire_core.specs.declared.stream_id.Dir.{Dir}
 use Rattle.quic_wire_core.specs.declared.stream_id.Dir.TheVariants.{Bi, Uni}
 use Rattle.quic_parameters.specs.Parameters.{ParameterValues}
-use Rattle.quic_config.specs.Transport.{parameters_of, IsInRange}
+use Rattle.quic_config.specs.Transport.{Settings, parameters_of, IsInRange}
 use Rattle.quic_streams_parts.specs.Dirs.{of}
 use Rattle.quic_streams_state.specs.declared.state.StreamsState.{StreamsState}
 use Rattle.quic_streams_laws.specs.StartLaws.{few_new, queue_new, blocked_new, few_set_params, queue_set_params, blocked_set_params}
@@ -14,14 +15,14 @@ use Rattle.quic_wire.specs.Value.{FrameValue}
 use Rattle.quic_streams_state.specs.State.{Streams, new_streams}
 use Rattle.quic_streams_laws.specs.KeepingLaws.{by_polled}
 use Rattle.quic_streams_laws.specs.GrowsLaws.{grows_same}
-use Rattle.quic_streams_laws.specs.Written.{Wrote, Grows, nothing_done}
+use Rattle.quic_streams_laws.specs.Written.{Wrote, Grows, HasSmallLimits, nothing_done}
 use Rattle.quic_streams_laws.specs.WrittenLaws.{holds_same, holds_new, holds_set_params}
 use Rattle.quic_machine.specs.declared.run.Call.{Call}
 use Rattle.quic_machine.specs.declared.run.Call.TheVariants as calls
 use Rattle.quic_machine.specs.declared.run.Answer.{Answer}
 use Rattle.quic_machine.specs.Policy.{Policy}
 use Rattle.quic_machine.specs.Calls.{is_open}
-use Rattle.quic_machine.specs.End.{End, streams_at, with_closing}
+use Rattle.quic_machine.specs.End.{End, streams_at, with_closing, first_streams}
 use Rattle.quic_machine.specs.Receive.{Outcome}
 use Rattle.quic_machine.specs.Poll.{polled}
 use Rattle.quic_machine.specs.PollCases.{ready_at, draft_at, frames_at, may_leave_at}
@@ -125,7 +126,7 @@ module _ (p : Policy) (e : End) (theirs : List (List ℕ)) (done : ℕ → Wrote
 
   -- ---- calls that are no delivery
 
-  call_writes : Says → (call : Call) (a : Answer) → IsAnswer p e theirs call a → is_delivery call ≡ false → (b : Bool) → is_on_streams call ≡ b → Writes (done_by call a done) (streams_at (after_call p e theirs call a))
+  pub call_writes : Says → (call : Call) (a : Answer) → IsAnswer p e theirs call a → is_delivery call ≡ false → (b : Bool) → is_on_streams call ≡ b → Writes (done_by call a done) (streams_at (after_call p e theirs call a))
   call_writes says call a is apart true on = by_on call a on (calls_leave done e.streams e.waiting.frames w (is_open e.closing.state) call a (on_answer p e theirs call a on is))
     where
       by_on : (call : Call) (a : Answer) → is_on_streams call ≡ true → Writes (done_by call a done) (after_on_streams (is_open e.closing.state) (streams_at e) call a) → Writes (done_by call a done) (streams_at (after_call p e theirs call a))
@@ -158,7 +159,7 @@ module _ (p : Policy) (e : End) (theirs : List (List ℕ)) (done : ℕ → Wrote
   }))
 
   -- what was done only grows
-  call_grows : (call : Call) (a : Answer) → IsAnswer p e theirs call a → (b : Bool) → is_on_streams call ≡ b → (q : ℕ) → Grows (done q) (done_by call a done q)
+  pub call_grows : (call : Call) (a : Answer) → IsAnswer p e theirs call a → (b : Bool) → is_on_streams call ≡ b → (q : ℕ) → Grows (done q) (done_by call a done q)
   call_grows call a is true on q = calls_grow done e.streams e.waiting.frames w (is_open e.closing.state) call a (on_answer p e theirs call a on is) q
   call_grows call a is false off q = subst (Grows (done q)) (sym (done_same call a done off q)) (grows_same (done q))
 
@@ -256,37 +257,35 @@ module _ (B : Way) (packets : (x y : Party) → B x y → PacketsHold x y) (x y 
 
 -- ---- the start
 
--- nothing was written
-pub writes_first : (x y : Beginning) → AreMade x y → WritesHold (begun_as x y) (begun_as y x)
-writes_first x y m = record {
-  writes = record {
-    keeps = record {
-      holds = holds_set_params (λ id. nothing_done) start theirs (record { own_bi = range.stream_receive_window; own_uni = range.stream_receive_window; remote = range.stream_receive_window })
-          (holds_new x.side x.making.settings.max_uni x.making.settings.max_bidi x.making.settings.send_window x.making.settings.receive_window x.making.settings.stream_receive_window);
-      few = few_set_params start theirs (λ d. none d) counts.0 counts.1 (few_new x.side x.making.settings.max_uni x.making.settings.max_bidi x.making.settings.send_window x.making.settings.receive_window x.making.settings.stream_receive_window);
-      orderly = queue_set_params start theirs (queue_new x.side x.making.settings.max_uni x.making.settings.max_bidi x.making.settings.send_window x.making.settings.receive_window x.making.settings.stream_receive_window);
-      blocked = blocked_set_params start theirs (blocked_new x.side x.making.settings.max_uni x.making.settings.max_bidi x.making.settings.send_window x.making.settings.receive_window x.making.settings.stream_receive_window);
-    };
-    waits = tt;
-  };
-  says = λ s i. absurd i;
+-- nothing was written on the streams of an end that is made by such settings, whose peer told small
+-- limits
+pub first_keeping : (side : Side) (s : Settings) (theirs : ParameterValues) → HasSmallLimits theirs → (theirs.initial_max_streams_bidi ≤ 2 ^ 60) × (theirs.initial_max_streams_uni ≤ 2 ^ 60) → Keeping (λ id. nothing_done) (first_streams side s theirs)
+first_keeping side s theirs small counts = record {
+  holds = holds_set_params (λ id. nothing_done) start theirs small (holds_new side s.max_uni s.max_bidi s.send_window s.receive_window s.stream_receive_window);
+  few = few_set_params start theirs (λ d. none d) counts.0 counts.1 (few_new side s.max_uni s.max_bidi s.send_window s.receive_window s.stream_receive_window);
+  orderly = queue_set_params start theirs (queue_new side s.max_uni s.max_bidi s.send_window s.receive_window s.stream_receive_window);
+  blocked = blocked_set_params start theirs (blocked_new side s.max_uni s.max_bidi s.send_window s.receive_window s.stream_receive_window);
 }
   where
     start : StreamsState
-    start = new_streams x.side x.making.settings.max_uni x.making.settings.max_bidi x.making.settings.send_window x.making.settings.receive_window x.making.settings.stream_receive_window
-
-    theirs : ParameterValues
-    theirs = parameters_of y.making.settings
-
-    range : IsInRange y.making.settings
-    range = m.y_is.range
-
-    counts : (theirs.initial_max_streams_bidi ≤ 2 ^ 60) × (theirs.initial_max_streams_uni ≤ 2 ^ 60)
-    counts = counts_in_range y.making.parameters theirs m.y_is.says
+    start = new_streams side s.max_uni s.max_bidi s.send_window s.receive_window s.stream_receive_window
 
     none : (d : Dir) → of d start.opening.own ≡ 0
     none Bi = refl
     none Uni = refl
+
+-- so it is of two ends that were made for one another
+pub writes_first : (x y : Beginning) → AreMade x y → WritesHold (begun_as x y) (begun_as y x)
+writes_first x y m = record {
+  writes = record {
+    keeps = (
+        let range : IsInRange y.making.settings = m.y_is.range in
+        let theirs : ParameterValues = parameters_of y.making.settings in
+        first_keeping x.side x.making.settings theirs (record { own_bi = range.stream_receive_window; own_uni = range.stream_receive_window; remote = range.stream_receive_window }) (counts_in_range y.making.parameters theirs m.y_is.says));
+    waits = tt;
+  };
+  says = λ s i. absurd i;
+}
 
 -- the writing side, over whatever gives the packets
 pub writes_group : (B : Way) → ((x y : Party) → B x y → PacketsHold x y) → Group B WritesHold

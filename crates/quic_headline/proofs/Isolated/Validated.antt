@@ -73,7 +73,7 @@ pub call_validated : (p : Policy) (e : End) (theirs : List (List ℕ)) (call : C
 call_validated p e theirs call a i = by_plain_call p e theirs IsValidated call a keep
   where
     keep : Plain p e call IsValidated
-    keep (cases.times now expiry) may = expired_stands (λ (s : Standing). s.validated ≡ true) p.words (λ n moment s j. j) (λ s j. j) expiry (with_closing e (ticked e.closing now)) i
+    keep (cases.times now expiry) may = expired_stands (λ (s : Standing). s.validated ≡ true) p.words (λ s j. j) expiry (λ comes n moment s j. j) (with_closing e (ticked e.closing now)) i
     keep (cases.polls now) may = polled_validated p e now i
     keep (cases.hears arrival d) may = by_received IsValidated receives p e arrival d i
     keep (cases.waits now b) may = by_waits IsValidated b (with_closing e (ticked e.closing now)) i i

@@ -165,7 +165,7 @@ pub error_well : (reason : LostReason) (e : End) → code_of reason < 2 ^ 62 →
 error_well reason e small f is = let same : error_close reason ≡ f = cc in subst CanGo same (small, omega arith, refl)
 
 -- the code of a fault has a form
-abbrev SmallFault : Option Fault → Type 0
+abbrev pub SmallFault : Option Fault → Type 0
 SmallFault None = Unit {0}
 SmallFault (Some f) = code_of (reason_of f) < 2 ^ 62
 
@@ -182,7 +182,7 @@ side_small : (side : Side) → SmallFault (fault_at side)
 side_small Client = tt
 side_small Server = omega arith
 
-frame_small : (f : FrameValue) (e : End) → SmallFault (take_frame f e).fault
+pub frame_small : (f : FrameValue) (e : End) → SmallFault (take_frame f e).fault
 frame_small (ack a) e = go (names_ungiven a e)
   where
     go : (b : Bool) → SmallFault (ack_taken b a e).fault
@@ -258,7 +258,7 @@ settles : Settling OwesWell
 settles (steps.known n) e i = i
 settles s e i = i
 
-frame_owes : (f : FrameValue) (e : End) → OwesWell e → OwesWell (take_frame f e).end
+pub frame_owes : (f : FrameValue) (e : End) → OwesWell e → OwesWell (take_frame f e).end
 frame_owes = frame_keeps OwesWell (record {
   ack = λ rises a e i. acked_keeps OwesWell settles rises a (named a e) i;
   on_streams = λ f e on i. frame_leaves OwesWell f e on (λ t. i);

@@ -33,7 +33,7 @@ expects_in states.Drained numbers i k = k
 expects_in states.Failed numbers i k = k
 
 -- the number that is expected behind one more
-expected_after : (taken : Option ℕ) (n x : ℕ) → after_greatest taken ≡ x → after_greatest (Some (greatest_of taken n)) ≡ max (n + 1) x
+pub expected_after : (taken : Option ℕ) (n x : ℕ) → after_greatest taken ≡ x → after_greatest (Some (greatest_of taken n)) ≡ max (n + 1) x
 expected_after None n x e = omega arith
 expected_after (Some m) n x e = omega arith
 

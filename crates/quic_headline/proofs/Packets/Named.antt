@@ -9,7 +9,7 @@ use Rattle.quic_machine.specs.Policy.{Policy}
 use Rattle.quic_time.specs.Timers.{Timers}
 use Rattle.quic_recovery_core.specs.PendingAcks.{Pending}
 use Rattle.quic_machine.specs.Closing.{Closing, ticked}
-use Rattle.quic_machine.specs.Tracking.{Tracking, TrackedPacket, Carried, acked_by, Verdict, is_lost, lost_by, after_detection}
+use Rattle.quic_machine.specs.Tracking.{Tracking, TrackedPacket, Carried, acked_by, is_lost, lost_by, after_detection}
 use Rattle.quic_machine.specs.LeaveCases.{at_losses}
 use Rattle.quic_machine.specs.Parts.{Messaging}
 use Rattle.quic_machine.specs.End.{End, with_closing, with_messages, with_ping}
@@ -136,52 +136,49 @@ module _ (took : List Packet) (sents : List Sent) (stands : Stands took sents) w
         is = subst (λ (fs : List FrameValue). IsCarriedFrom t.carried fs) (ap (λ (s : Sent). s.frames) (sym same) ∙ found.frames) was.2;
       }
 
--- one that counts as lost carried what was sent
-pub lost_carried : (sents : List Sent) (v : Verdict) (packets : Table TrackedPacket) → AreTracked sents packets → (n : ℕ) (t : TrackedPacket) → In (n, t) (lost_by v packets) → IsCarriedBy sents t.carried
-lost_carried sents v packets tracked n t i =
-    let was = tracked n t (in_filter (is_lost v) (n, t) packets i) in
-    record { sent = was.0; among = was.1.0; is = was.2 }
-
--- so did any that is tracked
+-- one that is tracked carried what was sent
 pub tracked_carried : (sents : List Sent) (packets : Table TrackedPacket) → AreTracked sents packets → (n : ℕ) (t : TrackedPacket) → In (n, t) packets → IsCarriedBy sents t.carried
 tracked_carried sents packets tracked n t i = let was = tracked n t i in record { sent = was.0; among = was.1.0; is = was.2 }
 
 -- ---- steps
 
--- where a step may be taken: a STREAM frame that is acknowledged stood in a packet that was taken,
--- and what is lost in one that was sent
-abbrev pub MayOn : List Packet → List Sent → Step → Type 0
-MayOn took sents (steps.acked m) = (c : Carried) × WasCarried took c × In m c.stream_frames
-MayOn took sents (steps.lost m) = (c : Carried) × IsCarriedBy sents c × In m c.stream_frames
-MayOn took sents (steps.again c) = IsCarriedBy sents c
-MayOn took sents s = Unit {0}
+-- where a step may be taken: of what is acknowledged the one holds, and of what is lost the other
+abbrev pub MayIf : (Carried → Type 0) → (Carried → Type 0) → Step → Type 0
+MayIf Acked Lost (steps.acked m) = (c : Carried) × Acked c × In m c.stream_frames
+MayIf Acked Lost (steps.lost m) = (c : Carried) × Lost c × In m c.stream_frames
+MayIf Acked Lost (steps.again c) = Lost c
+MayIf Acked Lost s = Unit {0}
 
 -- a fact that each such step keeps
-abbrev pub SettlesOn : List Packet → List Sent → (End → Type 0) → Type 0
-SettlesOn took sents P = (s : Step) (e : End) → MayOn took sents s → P e → P (after s e)
+abbrev pub SettlesIf : (Carried → Type 0) → (Carried → Type 0) → (End → Type 0) → Type 0
+SettlesIf Acked Lost P = (s : Step) (e : End) → MayIf Acked Lost s → P e → P (after s e)
 
-module _ (took : List Packet) (sents : List Sent) (P : End → Type 0) (s : SettlesOn took sents P) where
+-- what packets carried is so
+abbrev pub CarryIf : (Carried → Type 0) → Table TrackedPacket → Type 0
+CarryIf C packets = (n : ℕ) (t : TrackedPacket) → In (n, t) packets → C t.carried
+
+module _ (Acked Lost : Carried → Type 0) (P : End → Type 0) (s : SettlesIf Acked Lost P) where
   -- what the peer knows of, if anything
   known_on : (o : Option ℕ) (e : End) → P e → P (without_known o e)
   known_on None e i = i
   known_on (Some n) e i = s (steps.known n) e tt i
 
   -- its STREAM frames, acknowledged
-  acked_on : (c : Carried) → WasCarried took c → (ms : List StreamMeta) (e : End) → ((m : StreamMeta) → In m ms → In m c.stream_frames) → P e → P (streams_acked ms e)
+  acked_on : (c : Carried) → Acked c → (ms : List StreamMeta) (e : End) → ((m : StreamMeta) → In m ms → In m c.stream_frames) → P e → P (streams_acked ms e)
   acked_on c was [] e inside i = i
   acked_on c was (m ∷ ms) e inside i = acked_on c was ms (stream_acked m e) (λ q j. inside q (inr j)) (s (steps.acked m) e (c, was, inside m (inl refl)) i)
 
   -- or lost
-  lost_on : (c : Carried) → IsCarriedBy sents c → (ms : List StreamMeta) (e : End) → ((m : StreamMeta) → In m ms → In m c.stream_frames) → P e → P (streams_lost ms e)
+  lost_on : (c : Carried) → Lost c → (ms : List StreamMeta) (e : End) → ((m : StreamMeta) → In m ms → In m c.stream_frames) → P e → P (streams_lost ms e)
   lost_on c was [] e inside i = i
   lost_on c was (m ∷ ms) e inside i = lost_on c was ms (stream_lost m e) (λ q j. inside q (inr j)) (s (steps.lost m) e (c, was, inside m (inl refl)) i)
 
   -- packets are acknowledged
-  packets_on : (ps : Table TrackedPacket) (e : End) → ((n : ℕ) (t : TrackedPacket) → In (n, t) ps → WasCarried took t.carried) → P e → P (packets_acked ps e)
+  packets_on : (ps : Table TrackedPacket) (e : End) → CarryIf Acked ps → P e → P (packets_acked ps e)
   packets_on [] e was i = i
   packets_on (p ∷ ps) e was i =
       let c : Carried = p.1.carried in
-      let here : WasCarried took c = was p.0 p.1 (inl refl) in
+      let here : Acked c = was p.0 p.1 (inl refl) in
       let heard : End = search_acked p e in
       let asked : End = request_acked p.0 heard in
       let knows : End = without_known c.largest_acked asked in
@@ -190,18 +187,18 @@ module _ (took : List Packet) (sents : List Sent) (P : End → Type 0) (s : Sett
       (acked_on c here c.stream_frames reset (λ m j. j) (resets_acked_keep P (λ id x j. s (steps.reset id) x tt j) c.retransmits.reset_stream knows (known_on c.largest_acked asked (s (steps.answered p.0) heard tt (s (steps.searched heard.path.discovery) e tt i)))))
 
   -- and lost
-  losses_on : (ps : Table TrackedPacket) (e : End) → ((n : ℕ) (t : TrackedPacket) → In (n, t) ps → IsCarriedBy sents t.carried) → P e → P (packets_lost ps e)
+  losses_on : (ps : Table TrackedPacket) (e : End) → CarryIf Lost ps → P e → P (packets_lost ps e)
   losses_on [] e was i = i
   losses_on (p ∷ ps) e was i =
       let c : Carried = p.1.carried in
-      let here : IsCarriedBy sents c = was p.0 p.1 (inl refl) in
+      let here : Lost c = was p.0 p.1 (inl refl) in
       losses_on ps (carried_lost c e) (λ n t j. was n t (inr j)) (s (steps.again c) (streams_lost c.stream_frames e) here (lost_on c here c.stream_frames e (λ m j. j) i))
 
   -- losses are detected
-  pub detected_on : (e : End) → AreTracked sents e.tracking.packets → P e → P (losses_detected e)
+  detected_on : (e : End) → CarryIf Lost e.tracking.packets → P e → P (losses_detected e)
   detected_on e tracked i =
       let lost = lost_by (verdict e) e.tracking.packets in
-      losses_searched P (λ d x j. s (steps.searched d) x tt j) (λ most x j. s (steps.shortens most) x tt j) e (s (steps.tracked (after_detection (verdict e) e.tracking)) (packets_lost lost e) tt (losses_on lost e (lost_carried sents (verdict e) e.tracking.packets tracked) i))
+      losses_searched P (λ d x j. s (steps.searched d) x tt j) (λ most x j. s (steps.shortens most) x tt j) e (s (steps.tracked (after_detection (verdict e) e.tracking)) (packets_lost lost e) tt (losses_on lost e (λ n t j. tracked n t (in_filter (is_lost (verdict e)) (n, t) e.tracking.packets j)) i))
 
   -- a round trip is measured, if one is
   sampled_on : (o : Option TrackedPacket) (a : AckValue) (e : End) → P e → P (sampled o a e)
@@ -209,25 +206,35 @@ module _ (took : List Packet) (sents : List Sent) (P : End → Type 0) (s : Sett
   sampled_on (Some p) a e i = s (steps.measured (sampled (Some p) a e).path.rtt (sampled (Some p) a e).path.first_after_rtt) e tt i
 
   -- an ACK frame that names these packets
-  named_on : (ps : Table TrackedPacket) (rises : Bool) (a : AckValue) (e : End) → ((n : ℕ) (t : TrackedPacket) → In (n, t) ps → WasCarried took t.carried) → AreTracked sents e.tracking.packets → P e → P (after_named ps rises a e)
+  pub named_on : (ps : Table TrackedPacket) (rises : Bool) (a : AckValue) (e : End) → CarryIf Acked ps → CarryIf Lost e.tracking.packets → P e → P (after_named ps rises a e)
   named_on [] rises a e was tracked i = i
   named_on (p ∷ ps) rises a e was tracked i =
       let o = measured rises a (p ∷ ps) in
       let left : End = without_acked (p ∷ ps) a e in
       let timed : End = sampled o a left in
-      let stay : AreTracked sents left.tracking.packets = (λ n t j. tracked n t (in_filter (λ q. not (names a q.0)) (n, t) e.tracking.packets j)) in
-      let rest : AreTracked sents timed.tracking.packets = subst (λ (x : Tracking). AreTracked sents x.packets) (sym (sampled_tracking o a left)) stay in
+      let stay : CarryIf Lost left.tracking.packets = (λ n t j. tracked n t (in_filter (λ q. not (names a q.0)) (n, t) e.tracking.packets j)) in
+      let rest : CarryIf Lost timed.tracking.packets = subst (λ (x : Tracking). CarryIf Lost x.packets) (sym (sampled_tracking o a left)) stay in
       let acked : P left = s (steps.tracked left.tracking) (packets_acked (p ∷ ps) e) tt (packets_on (p ∷ ps) e was i) in
       let taken : End = losses_taken (p ∷ ps) rises a e in
       let kept : P taken = s (steps.tracked taken.tracking) (losses_detected timed) tt (detected_on timed rest (sampled_on o a left acked)) in
       by_marks rises (length (p ∷ ps)) a taken P (λ m marking. s (steps.marked m marking) taken tt kept)
 
+-- where what is acknowledged is a STREAM frame that stood in a packet that was taken, and what is
+-- lost stood in one that was sent
+abbrev pub MayOn : List Packet → List Sent → Step → Type 0
+MayOn took sents s = MayIf (WasCarried took) (IsCarriedBy sents) s
+
+-- a fact that each such step keeps
+abbrev pub SettlesOn : List Packet → List Sent → (End → Type 0) → Type 0
+SettlesOn took sents P = SettlesIf (WasCarried took) (IsCarriedBy sents) P
+
+module _ (took : List Packet) (sents : List Sent) (P : End → Type 0) (s : SettlesOn took sents P) where
   -- losses that a timeout detects, where the clock may go on
   pub expired_on : (e : End) (now : ℕ) → ((c : Closing) (x : End) → P x → P (with_closing x c)) → ((acks : Pending) (timers : Timers) (waits : Bool) (asked : Asked) (x : End) → P x → P (with_asked (with_ping (record x { acknowledging = acks; timers = timers }) waits) asked)) → AreTracked sents e.tracking.packets → P e
       → (acks : Pending) (timers : Timers) (waits : Bool) (asked : Asked) → P (at_losses e now acks timers waits asked)
   expired_on e now passes times tracked i acks timers waits asked =
       let begins : End = with_closing e (ticked e.closing now) in
-      times acks timers waits asked (losses_detected begins) (detected_on begins tracked (passes (ticked e.closing now) e i))
+      times acks timers waits asked (losses_detected begins) (detected_on (WasCarried took) (IsCarriedBy sents) P s begins (tracked_carried sents begins.tracking.packets tracked) (passes (ticked e.closing now) e i))
 
 -- ---- frames of a packet that an end takes
 
@@ -264,7 +271,7 @@ module _ (took : List Packet) (sents : List Sent) (stands : Stands took sents) (
   ack_on : (b : Bool) (a : AckValue) (e : End) → In (ack a) frames → NamesTaken took a → AreTracked sents e.tracking.packets → P e → P (ack_taken b a e).end
   ack_on true a e among takes tracked i = i
   ack_on false a e among takes tracked i =
-      named_on took sents P c.settles (acked_by a e.tracking.packets) (is_above e.numbers.largest_acked a.largest) a (named a e) (named_carried took sents stands a e.tracking.packets takes tracked) tracked (c.names a e among i)
+      named_on (WasCarried took) (IsCarriedBy sents) P c.settles (acked_by a e.tracking.packets) (is_above e.numbers.largest_acked a.largest) a (named a e) (named_carried took sents stands a e.tracking.packets takes tracked) (tracked_carried sents e.tracking.packets tracked) (c.names a e among i)
 
   -- one frame
   frame_on : (f : FrameValue) (e : End) → In f frames → ((a : AckValue) → In (ack a) frames → NamesTaken took a) → AreTracked sents e.tracking.packets → P e → P (take_frame f e).end

@@ -58,7 +58,7 @@ none_is : (o : Option ℕ) → is_none o ≡ not (is_some o)
 none_is None = refl
 none_is (Some word) = refl
 
--- it has one only where its address wasn't validated first
+-- it has one only where its address wasn't validated before the call
 some_unvalidated : (o : Option ℕ) (validated : Bool) → (validated ≡ true → o ≡ None) → is_some o ≡ true → validated ≡ false
 some_unvalidated o false none some = refl
 some_unvalidated o true none some = (let clash : false ≡ true = sym (ap (λ (x : Option ℕ). is_some x) (none refl)) ∙ some in cc)

@@ -2,7 +2,7 @@
 -- the observer of its end knows; and the window and the size that a view shows are those that the
 -- controller shows, and was told last.
 use Rattle.std.proofs.Common.{◌≡◌, ℕ, zero, suc, List, [], ◌∷◌, ◌++◌, ◌+◌, ◌≤◌, length, take, Bool, true, false, Option, Some, None, refl, sym, ap, ◌∙◌, subst, arith}
-use Rattle.std.specs.Prelude.{if◌then◌else◌, slice_get}
+use Rattle.std.specs.Prelude.{if◌then◌else◌, slice_get, unwrap_or}
 use Rattle.std.proofs.lemmas.List.{append_assoc, append-nil}
 use Rattle.std.proofs.lemmas.Option.{slice_get_within}
 use Rattle.quic_wire_core.specs.declared.stream_id.Side.{Side}
@@ -18,19 +18,20 @@ use Rattle.quic_machine.specs.declared.run.Call.{Call}
 use Rattle.quic_machine.specs.declared.run.Call.TheVariants as calls
 use Rattle.quic_machine.specs.declared.run.Answer.{Answer}
 use Rattle.quic_machine.specs.declared.run.RunEvent.{RunEvent}
+use Rattle.quic_machine.specs.declared.run.EndView.{EndView}
 use Rattle.quic_machine.specs.declared.run.View.{View}
 use Rattle.quic_machine.specs.End.{End}
 use Rattle.quic_machine.specs.Control.{Control}
 use Rattle.quic_machine.specs.Machine.{World, reads_window, after_call, end_at, control_at, policy_at, given_by, tells, fails, view_of, heard_at, says_last}
 use Rattle.quic_machine.specs.RunLaws.{one_run, as_many_views}
-use Rattle.quic_headline.specs.Runs.{Run, Told, same_side, given_of, told_by, until, state_at, folded, LeadsTo, AreServed}
+use Rattle.quic_headline.specs.Runs.{Run, Told, same_side, state_in, given_of, told_by, told_at, until, state_at, folded, LeadsTo, AreServed}
 use Rattle.quic_headline.specs.Observer.{Sent, Watch, Lens, watch_told, lens_of, watch_from, watch, next_number}
 use Rattle.quic_headline.specs.Headline.{IsHonest, IsRun}
-use Rattle.quic_headline.specs.Polls.{window_in, mtu_in, search_at, told_by_step, IsMade}
+use Rattle.quic_headline.specs.Polls.{window_in, mtu_in, end_in, seen_of, seen_behind, search_at, told_by_step, IsMade}
 use Rattle.quic_headline.specs.Amounts.{making_at}
 use Rattle.quic_config.specs.Transport.{parameters_of}
 use Rattle.quic_headline.specs.AppLimited.{MayCount, CountsAt}
-use Rattle.quic_headline.specs.Telling.{Judging, measured_first, first_behind, TellsCall, TellsCalls, MayTell, ControllersAreTold}
+use Rattle.quic_headline.specs.Telling.{Judging, measured_first, first_behind, TellsCall, TellsCalls, validated_before, shows_validated, MayTell, ControllersAreTold}
 use Rattle.quic_machine.specs.Heard.{Heard}
 use Rattle.quic_machine.specs.Arrival.{delivered_by}
 use Rattle.quic_headline.proofs.Packets.Intakes.{folded_more}
@@ -40,7 +41,7 @@ use Rattle.quic_headline.proofs.Packets.Sight.{Sight}
 use Rattle.quic_headline.proofs.Packets.Watching.{none_comes, told_own, untimely}
 use Rattle.quic_headline.proofs.Places.Parties.{told_of, Party}
 use Rattle.quic_headline.proofs.Places.Groups.{Way, Nothing, Group}
-use Rattle.quic_headline.proofs.Places.Moments.{told_none, last_view}
+use Rattle.quic_headline.proofs.Places.Moments.{told_none, last_view, last_seen}
 use Rattle.quic_headline.proofs.Places.Placed.{start_is, party_at, Placed, placed, watch_is}
 use Rattle.quic_headline.proofs.Places.Steps.{only_polls_give}
 use Rattle.quic_headline.proofs.Held.Behind.{last_step, window_shown}
@@ -51,7 +52,7 @@ use Rattle.quic_headline.proofs.Steps.Windows.{ShowsAfter, step_shows, first_lea
 use Rattle.quic_headline.proofs.Steps.Resized.{Tells, still, both, step_tells, size_there}
 use Rattle.quic_headline.proofs.Sizes.Probed.{KnowsSearch}
 use Rattle.quic_headline.proofs.Sizes.Moves.{did_there}
-use Rattle.quic_headline.proofs.Tellings.Asked.{IsUnasked, first_unasked, call_unasked}
+use Rattle.quic_headline.proofs.Tellings.Asked.{IsUnaskedIf, first_unasked, call_unasked}
 use Rattle.quic_headline.proofs.Tellings.Acks.{IsSet}
 use Rattle.quic_headline.proofs.Tellings.First.{Measured, call_measured, delivered_set, IsFirst, first_measured, is_first}
 use Rattle.quic_headline.proofs.Tellings.Calls.{quiet_call, timeout_told, poll_call, delivery_told}
@@ -69,18 +70,44 @@ first_more l first w [] t = refl
 first_more l first w (u ∷ ts) t = first_more l (first_behind first (watch_told l u w)) (watch_told l u w) ts t
 
 -- what calls tell, and one more, at which the end may count so
-tells_more : (l : Lens) (c : TransportSettings) (validated : Bool) (may : ℕ → Bool → Type 0) (n : ℕ) (first : Option ℕ) (w : Watch) (ts : List Told) (t : Told) (told now : List congestion.Told) (limited : Bool) → TellsCalls l c validated may n first w ts told
-    → (t.state ≡ states.Open → (m : ℕ) → m ≡ n + length ts → may m limited) → TellsCall l c validated (first_after l first w ts) limited (folded (watch_told l) ts w) t now → TellsCalls l c validated may n first w (ts ++ t ∷ []) (told ++ now)
-tells_more l c validated may n first w [] t told now limited before so here = (limited, now, [], (λ opened. so opened n (omega arith)), here, refl, ap (λ (us : List congestion.Told). us ++ now) before ∙ sym (append-nil now))
+tells_more : (l : Lens) (c : TransportSettings) (validated : ℕ → Bool) (may : ℕ → Bool → Type 0) (n : ℕ) (first : Option ℕ) (w : Watch) (ts : List Told) (t : Told) (told now : List congestion.Told) (limited : Bool) → TellsCalls l c validated may n first w ts told
+    → (t.state ≡ states.Open → (m : ℕ) → m ≡ n + length ts → may m limited) → ((m : ℕ) → m ≡ n + length ts → TellsCall l c (validated m) (first_after l first w ts) limited (folded (watch_told l) ts w) t now) → TellsCalls l c validated may n first w (ts ++ t ∷ []) (told ++ now)
+tells_more l c validated may n first w [] t told now limited before so here = (limited, now, [], (λ opened. so opened n (omega arith)), here n (omega arith), refl, ap (λ (us : List congestion.Told). us ++ now) before ∙ sym (append-nil now))
 tells_more l c validated may n first w (u ∷ ts) t told now limited before so here = (
   before.0,
   before.1,
   before.2 ++ now,
   before.3,
   before.4,
-  tells_more l c validated may (suc n) (first_behind first (watch_told l u w)) (watch_told l u w) ts t before.2 now limited before.5 (λ opened m is. so opened m (omega (arith, is))) here,
+  tells_more l c validated may (suc n) (first_behind first (watch_told l u w)) (watch_told l u w) ts t before.2 now limited before.5 (λ opened m is. so opened m (omega (arith, is))) (λ m is. here m (omega (arith, is))),
   ap (λ (us : List congestion.Told). us ++ now) before.6 ∙ append_assoc before.1 before.2 now,
 )
+
+-- what the view before a call of an end shows stands behind what those before its other calls do
+shown_before : (side : Side) (seen : EndView) (state : State) (i : ℕ) (events : List RunEvent) (answers : List Answer) (views : List View) (call : Call) (a : Answer) → slice_get events i ≡ Some (record { side = side; call = call }) → slice_get answers i ≡ Some a → length views ≡ length answers
+    → slice_get (validated_before side seen.validated events views) (length (told_at side state events (take i answers) views)) ≡ Some (seen_behind side seen i views).validated
+shown_before side seen state i [] answers views call a at_event at_answer many = cc
+shown_before side seen state i (e ∷ events) [] views call a at_event at_answer many = cc
+shown_before side seen state i (e ∷ events) (b ∷ answers) [] call a at_event at_answer many = absurd (omega arith)
+shown_before side seen state zero (e ∷ events) (b ∷ answers) (v ∷ views) call a at_event at_answer many =
+    let one : e ≡ record { side = side; call = call } = cc in
+    subst (λ (f : RunEvent). slice_get (validated_before side seen.validated (f ∷ events) (v ∷ views)) 0 ≡ Some seen.validated) (sym one) (own side)
+  where
+    own : (s : Side) → slice_get ((if same_side s s then seen.validated ∷ [] else []) ++ validated_before side (end_in v side).validated events views) 0 ≡ Some seen.validated
+    own Client = refl
+    own Server = refl
+shown_before side seen state (suc i) (e ∷ events) (b ∷ answers) (v ∷ views) call a at_event at_answer many =
+    go (same_side e.side side) ∙ shown_before side (end_in v side) (state_in v side) i events answers views call a at_event at_answer (omega arith)
+  where
+    shown : List Bool
+    shown = validated_before side (end_in v side).validated events views
+
+    told : List Told
+    told = told_at side (state_in v side) events (take i answers) views
+
+    go : (c : Bool) → slice_get ((if c then seen.validated ∷ [] else []) ++ shown) (length ((if c then told_of e.call b state ∷ [] else []) ++ told)) ≡ slice_get shown (length told)
+    go true = refl
+    go false = refl
 
 -- a place has one before it
 pub view_before : (i : ℕ) (views : List View) (v : View) → slice_get views (suc i) ≡ Some v → (u : View) × (slice_get views i ≡ Some u)
@@ -94,7 +121,7 @@ reads_same control heard (calls.Poll now) e = (refl, refl, (refl, refl))
 reads_same control heard call e = (refl, refl, (refl, refl))
 
 -- and what is asked
-reads_unasked : (control : Control) (heard : Heard) (call : Call) (e : End) → IsUnasked e → IsUnasked (reads_window control heard call e)
+reads_unasked : (control : Control) (heard : Heard) (call : Call) (e : End) → IsUnaskedIf e → IsUnaskedIf (reads_window control heard call e)
 reads_unasked control heard (calls.Poll now) e i = i
 reads_unasked control heard call e i = i
 
@@ -105,9 +132,9 @@ module _ (G : Way) (g : Group Nothing G) (packets : (x y : Party) → G x y → 
   abbrev settings : Side → TransportSettings
   settings side = (end_at side r.start).transport
 
-  -- whether it began with a validated address
-  abbrev validated : Side → Bool
-  validated side = (end_at side r.start).path.validated
+  -- whether the address of its peer is seen to be validated before its call behind so many others
+  abbrev validated : Side → ℕ → Bool
+  validated side = shows_validated r side
 
   -- the number that went next as a round trip was first measured, by the first so many answers
   abbrev first_at : Side → ℕ → Option ℕ
@@ -116,7 +143,7 @@ module _ (G : Way) (g : Group Nothing G) (packets : (x y : Party) → G x y → 
   -- ---- a call of an end
 
   module _ (i : ℕ) (side : Side) (a : Answer) (w next : World) (same : (end_at side w).transport ≡ settings side)
-      (first : (end_at side w).closing.state ≡ states.Open → IsFirst (first_at side i) (end_at side w).path) (unasked : validated side ≡ true → IsUnasked (end_at side w)) where
+      (first : (end_at side w).closing.state ≡ states.Open → IsFirst (first_at side i) (end_at side w).path) (unasked : IsUnaskedIf (end_at side w)) where
     abbrev policy : Policy
     policy = policy_at side r.keys
 
@@ -129,30 +156,37 @@ module _ (G : Way) (g : Group Nothing G) (packets : (x y : Party) → G x y → 
 
     -- what may be told by a call
     abbrev Told_by : Call → Type 0
-    Told_by call = TellsCall (lens_of r side) (settings side) (validated side) (first_at side i) (end_at side w).path.app_limited (watch r side i) (told_of call a (met call).closing.state) (tells policy (met call) theirs call)
+    Told_by call = TellsCall (lens_of r side) (settings side) (end_at side w).path.validated (first_at side i) (end_at side w).path.app_limited (watch r side i) (told_of call a (met call).closing.state) (tells policy (met call) theirs call)
 
     own_tells : (call : Call) → IsMade r i side call a w next → Told_by call
     own_tells (calls.Deliver delivery) m =
         let h = call_holds G g r end honest run i side (calls.Deliver delivery) a w next (λ id is. cc) tt m in
         let x : Party = calling r i w side (calls.Deliver delivery) h.sents in
         let y : Party = party_at r i w (other_side side) h.theirs in
-        subst (λ (v : Watch). TellsCall (lens_of r side) (settings side) (validated side) (first_at side i) (end_at side w).path.app_limited v (told_of (calls.Deliver delivery) a (end_at side w).closing.state) (tells policy (end_at side w) theirs (calls.Deliver delivery))) (sym h.seen)
-        (delivery_told x y h.joined (meets y x (packets y x h.takes)) (sight x y h.gives) (search x y h.gives) (quiet x y h.gives) (packets x y h.gives).gives.next (validated side) (first_at side i) (end_at side w).path.app_limited refl same (λ opened. first_measured (first_at side i) (next_number x.sents) x.end.path (first opened)) unasked (packets y x h.takes).alone delivery a m.step.answer (made_served r i side (calls.Deliver delivery) a w next m))
+        subst (λ (v : Watch). TellsCall (lens_of r side) (settings side) (end_at side w).path.validated (first_at side i) (end_at side w).path.app_limited v (told_of (calls.Deliver delivery) a (end_at side w).closing.state) (tells policy (end_at side w) theirs (calls.Deliver delivery))) (sym h.seen)
+        (delivery_told x y h.joined (meets y x (packets y x h.takes)) (sight x y h.gives) (search x y h.gives) (quiet x y h.gives) (packets x y h.gives).gives.next (end_at side w).path.validated (first_at side i) (end_at side w).path.app_limited refl same (λ opened. first_measured (first_at side i) (next_number x.sents) x.end.path (first opened)) unasked (packets y x h.takes).alone delivery a m.step.answer (made_served r i side (calls.Deliver delivery) a w next m))
     own_tells (calls.Timeout now) m =
         let h = call_holds G g r end honest run i side (calls.Timeout now) a w next (λ id is. cc) tt m in
         let x : Party = calling r i w side (calls.Timeout now) h.sents in
         let y : Party = party_at r i w (other_side side) h.theirs in
-        subst (λ (v : Watch). TellsCall (lens_of r side) (settings side) (validated side) (first_at side i) (end_at side w).path.app_limited v (told_of (calls.Timeout now) a (end_at side w).closing.state) (tells policy (end_at side w) theirs (calls.Timeout now))) (sym h.seen)
-        (timeout_told x y h.joined (meets y x (packets y x h.takes)) (sight x y h.gives) (search x y h.gives) (quiet x y h.gives) (packets x y h.gives).gives.next (validated side) (first_at side i) (end_at side w).path.app_limited refl same (λ opened. first_measured (first_at side i) (next_number x.sents) x.end.path (first opened)) unasked now a m.step.answer)
+        subst (λ (v : Watch). TellsCall (lens_of r side) (settings side) (end_at side w).path.validated (first_at side i) (end_at side w).path.app_limited v (told_of (calls.Timeout now) a (end_at side w).closing.state) (tells policy (end_at side w) theirs (calls.Timeout now))) (sym h.seen)
+        (timeout_told x y h.joined (meets y x (packets y x h.takes)) (sight x y h.gives) (search x y h.gives) (quiet x y h.gives) (packets x y h.gives).gives.next (end_at side w).path.validated (first_at side i) (end_at side w).path.app_limited refl same (λ opened. first_measured (first_at side i) (next_number x.sents) x.end.path (first opened)) unasked now a m.step.answer)
     own_tells (calls.Poll now) m =
         let h = call_holds G g r end honest run i side (calls.Poll now) a w next (λ id is. cc) tt m in
         let x : Party = calling r i w side (calls.Poll now) h.sents in
         let y : Party = party_at r i w (other_side side) h.theirs in
-        subst (λ (v : Watch). TellsCall (lens_of r side) (settings side) (validated side) (first_at side i) (end_at side w).path.app_limited v (told_of (calls.Poll now) a (met (calls.Poll now)).closing.state) (tells policy (met (calls.Poll now)) theirs (calls.Poll now))) (sym h.seen)
-        (poll_call x y h.joined (meets y x (packets y x h.takes)) (sight x y h.gives) (search x y h.gives) (quiet x y h.gives) (packets x y h.gives).gives.next (validated side) (first_at side i) (end_at side w).path.app_limited refl same (λ opened. first_measured (first_at side i) (next_number x.sents) x.end.path (record { is = (first opened).is; none = (first opened).none })) unasked (packets x y h.gives).owes now a m.step.answer (made_served r i side (calls.Poll now) a w next m) (sight _ y h.behind).own)
+        subst (λ (v : Watch). TellsCall (lens_of r side) (settings side) (end_at side w).path.validated (first_at side i) (end_at side w).path.app_limited v (told_of (calls.Poll now) a (met (calls.Poll now)).closing.state) (tells policy (met (calls.Poll now)) theirs (calls.Poll now))) (sym h.seen)
+        (poll_call x y h.joined (meets y x (packets y x h.takes)) (sight x y h.gives) (search x y h.gives) (quiet x y h.gives) (packets x y h.gives).gives.next (end_at side w).path.validated (first_at side i) (end_at side w).path.app_limited refl same (λ opened. first_measured (first_at side i) (next_number x.sents) x.end.path (record { is = (first opened).is; none = (first opened).none })) unasked (packets x y h.gives).owes now a m.step.answer (made_served r i side (calls.Poll now) a w next m) (sight _ y h.behind).own)
     own_tells call m =
         let t : Told = told_of call a (end_at side w).closing.state in
-        quiet_call (lens_of r side) (settings side) (validated side) (first_at side i) (end_at side w).path.app_limited (watch r side i) t (none_comes (lens_of r side) t (watch r side i).intake refl) (untimely t.state call refl) (only_polls_give policy (end_at side w) theirs call a refl m.step.answer)
+        quiet_call (lens_of r side) (settings side) (end_at side w).path.validated (first_at side i) (end_at side w).path.app_limited (watch r side i) t (none_comes (lens_of r side) t (watch r side i).intake refl) (untimely t.state call refl) (only_polls_give policy (end_at side w) theirs call a refl m.step.answer)
+
+  -- by the views it is seen before a call whether the address of the peer is validated
+  shown : (i : ℕ) (side : Side) (call : Call) (a : Answer) (w next : World) → IsMade r i side call a w next → (n : ℕ) → n ≡ length (until r side i) → (end_at side w).path.validated ≡ validated side n
+  shown i side call a w next m n is =
+      sym (ap (λ (u : EndView). u.validated) (last_seen side r.keys i r.start w r.events r.answers r.views m.leads))
+      ∙ ap (λ (o : Option Bool). unwrap_or o true) (sym (shown_before side (seen_of side r.start) (end_at side r.start).closing.state i r.events r.answers r.views call a m.at.event m.at.answer (as_many_views r.keys r.start end r.events r.answers r.views run.follows)))
+      ∙ ap (λ (k : ℕ). validated side k) (sym is)
 
   -- ---- what is measured
 
@@ -188,8 +222,8 @@ module _ (G : Way) (g : Group Nothing G) (packets : (x y : Party) → G x y → 
     grown : until r side (suc i) ≡ until r side i ++ t ∷ []
     grown = told_grown i side side call a w next m ∙ ap (λ (ts : List Told). until r side i ++ ts) (told_here side (state_at r side i) call a)
 
-    seen_behind : watch r side (suc i) ≡ watch_told l t (watch r side i)
-    seen_behind = ap (λ (ts : List Told). folded (watch_told l) ts begins) grown ∙ folded_more (watch_told l) (until r side i) t begins
+    watch_behind : watch r side (suc i) ≡ watch_told l t (watch r side i)
+    watch_behind = ap (λ (ts : List Told). folded (watch_told l) ts begins) grown ∙ folded_more (watch_told l) (until r side i) t begins
 
     after : Placed G r end side (suc i)
     after = placed G g r end honest run side (suc i) m.served
@@ -218,7 +252,7 @@ module _ (G : Way) (g : Group Nothing G) (packets : (x y : Party) → G x y → 
 
     -- by what its losses are judged
     abbrev judged : Judging
-    judged = record { terms = l.terms; settings = settings side; validated = validated side; next = next_number (watch r side i).own; first = first_at side i; limited = e.path.app_limited }
+    judged = record { terms = l.terms; settings = settings side; validated = e.path.validated; next = next_number (watch r side i).own; first = first_at side i; limited = e.path.app_limited }
 
     set : IsSet judged e
     set =
@@ -263,7 +297,7 @@ module _ (G : Way) (g : Group Nothing G) (packets : (x y : Party) → G x y → 
         let is : first_at side (suc i) ≡ measured_first (first_at side i) next_seen left.path.rtt.smoothed =
         subst (λ (ts : List Told). first_after l None begins ts ≡ first_behind (first_at side i) (folded (watch_told l) ts begins)) (sym grown) (first_more l None begins (until r side i) t)
         ∙ ap (λ (x : Rtt). measured_first (first_at side i) next_seen x.smoothed) rtt_is in
-        subst (λ (o : Option ℕ). IsFirst o left.path) (sym is) (is_first (first_at side i) next_seen left.path (measures call m seen_behind))
+        subst (λ (o : Option ℕ). IsFirst o left.path) (sym is) (is_first (first_at side i) next_seen left.path (measures call m watch_behind))
 
   -- ---- over the run
 
@@ -275,7 +309,7 @@ module _ (G : Way) (g : Group Nothing G) (packets : (x y : Party) → G x y → 
     sized : Tells (search_at side r.start) told (search_at side w)
     same : (end_at side w).transport ≡ settings side
     first : (end_at side w).closing.state ≡ states.Open → IsFirst (first_at side i) (end_at side w).path
-    unasked : validated side ≡ true → IsUnasked (end_at side w)
+    unasked : IsUnaskedIf (end_at side w)
 
   -- before the first event
   at_first : (side : Side) (w : World) → w ≡ r.start → Was side zero w
@@ -292,12 +326,12 @@ module _ (G : Way) (g : Group Nothing G) (packets : (x y : Party) → G x y → 
       none : first_at side zero ≡ None
       none = ap (λ (ts : List Told). first_after (lens_of r side) None (watch_from (end_at side r.start) (given_of r side)) ts) (told_none side r.events r.views (end_at side r.start).closing.state)
 
-      asks_nothing : validated side ≡ true → IsUnasked (end_at side r.start)
+      asks_nothing : IsUnaskedIf (end_at side r.start)
       asks_nothing =
           let s = honest.start in
           let m = making_at side r.start s in
           let other = making_at (other_side side) r.start s in
-          subst (λ (e : End). e.path.validated ≡ true → IsUnasked e) (sym (start_is r.start s side)) (first_unasked side m.settings m.windows (parameters_of other.settings) m.id other.id m.moment m.validated m.words)
+          subst IsUnaskedIf (sym (start_is r.start s side)) (first_unasked side m.settings m.windows (parameters_of other.settings) m.id other.id m.moment m.validated m.words)
 
       at_start : IsFirst (first_at side zero) (end_at side r.start).path
       at_start =
@@ -313,7 +347,7 @@ module _ (G : Way) (g : Group Nothing G) (packets : (x y : Party) → G x y → 
     sized = both (search_at side r.start) (search_at side w) (search_at side next) b.told now b.sized (step_tells side r.keys w next event a served m.step);
     same = stays side by call m ∙ b.same;
     first = first side by call m b.same b.first;
-    unasked = λ validated. unasked side by call m (b.unasked validated);
+    unasked = unasked side by call m b.unasked;
   }
     where
       event : RunEvent
@@ -343,16 +377,16 @@ module _ (G : Way) (g : Group Nothing G) (packets : (x y : Party) → G x y → 
       stays Client Server call m = ap (λ (v : World). v.client.transport) m.step.others
       stays Server Client call m = ap (λ (v : World). v.server.transport) m.step.others
 
-      own_unasked : (side : Side) (call : Call) → IsMade r i side call a w next → IsUnasked (end_at side w) → IsUnasked (end_at side next)
+      own_unasked : (side : Side) (call : Call) → IsMade r i side call a w next → IsUnaskedIf (end_at side w) → IsUnaskedIf (end_at side next)
       own_unasked side call m asks =
-          subst IsUnasked (sym (made_end r i side call a w next m))
+          subst IsUnaskedIf (sym (made_end r i side call a w next m))
           (call_unasked (policy_at side r.keys) (reads_window (control_at side w) (heard_at side w) call (end_at side w)) (given_by (other_side side) w) call a (reads_unasked (control_at side w) (heard_at side w) call (end_at side w) asks))
 
-      unasked : (side by : Side) (call : Call) → IsMade r i by call a w next → IsUnasked (end_at side w) → IsUnasked (end_at side next)
+      unasked : (side by : Side) (call : Call) → IsMade r i by call a w next → IsUnaskedIf (end_at side w) → IsUnaskedIf (end_at side next)
       unasked Client Client call m asks = own_unasked Client call m asks
       unasked Server Server call m asks = own_unasked Server call m asks
-      unasked Client Server call m asks = subst (λ (v : World). IsUnasked v.client) (sym m.step.others) asks
-      unasked Server Client call m asks = subst (λ (v : World). IsUnasked v.server) (sym m.step.others) asks
+      unasked Client Server call m asks = subst (λ (v : World). IsUnaskedIf v.client) (sym m.step.others) asks
+      unasked Server Client call m asks = subst (λ (v : World). IsUnaskedIf v.server) (sym m.step.others) asks
 
       first : (side by : Side) (call : Call) → IsMade r i by call a w next → (end_at side w).transport ≡ settings side → ((end_at side w).closing.state ≡ states.Open → IsFirst (first_at side i) (end_at side w).path)
           → (end_at side next).closing.state ≡ states.Open → IsFirst (first_at side (suc i)) (end_at side next).path
@@ -369,7 +403,7 @@ module _ (G : Way) (g : Group Nothing G) (packets : (x y : Party) → G x y → 
       may = subst (λ (ts : List Told). TellsCalls (lens_of r side) (settings side) (validated side) (CountsAt r side) 0 None (watch_from (end_at side r.start) (given_of r side)) ts (b.told ++ now)) (sym more) (go side by call m b.told b.may b.same b.first b.unasked state)
         where
           -- its own call
-          mine : (side : Side) (call : Call) → IsMade r i side call a w next → (told : List congestion.Told) → MayTell r side i told → (end_at side w).transport ≡ settings side → ((end_at side w).closing.state ≡ states.Open → IsFirst (first_at side i) (end_at side w).path) → (validated side ≡ true → IsUnasked (end_at side w)) → state_at r side i ≡ (end_at side w).closing.state
+          mine : (side : Side) (call : Call) → IsMade r i side call a w next → (told : List congestion.Told) → MayTell r side i told → (end_at side w).transport ≡ settings side → ((end_at side w).closing.state ≡ states.Open → IsFirst (first_at side i) (end_at side w).path) → IsUnaskedIf (end_at side w) → state_at r side i ≡ (end_at side w).closing.state
               → TellsCalls (lens_of r side) (settings side) (validated side) (CountsAt r side) 0 None (watch_from (end_at side r.start) (given_of r side)) (until r side i ++ told_of call a (state_at r side i) ∷ []) (told ++ tells (policy_at side r.keys) (reads_window (control_at side w) (heard_at side w) call (end_at side w)) (given_by (other_side side) w) call)
           mine side call m told may same first asks state =
               let place = slice_get_within r.answers i a m.at.answer in
@@ -379,7 +413,8 @@ module _ (G : Way) (g : Group Nothing G) (packets : (x y : Party) → G x y → 
               let said : List congestion.Told = tells (policy_at side r.keys) met (given_by (other_side side) w) call in
               subst (λ (s : State). TellsCalls (lens_of r side) (settings side) (validated side) (CountsAt r side) 0 None (watch_from (end_at side r.start) (given_of r side)) (until r side i ++ told_of call a s ∷ []) (told ++ said)) ((reads_same (control_at side w) (heard_at side w) call (end_at side w)).0 ∙ sym state)
               (tells_more (lens_of r side) (settings side) (validated side) (CountsAt r side) 0 None (watch_from (end_at side r.start) (given_of r side)) (until r side i) (told_of call a met.closing.state) told said (end_at side w).path.app_limited may
-              (λ opened n is. record { place = i; as_many = omega (arith, is); counts = counts i side w within m.leads (served_before r.answers i m.served) (sym (reads_same (control_at side w) (heard_at side w) call (end_at side w)).0 ∙ opened) }) (own_tells i side a w next same first asks call m))
+              (λ opened n is. record { place = i; as_many = omega (arith, is); counts = counts i side w within m.leads (served_before r.answers i m.served) (sym (reads_same (control_at side w) (heard_at side w) call (end_at side w)).0 ∙ opened) })
+              (λ n is. subst (λ (b : Bool). TellsCall (lens_of r side) (settings side) b (first_at side i) (end_at side w).path.app_limited (watch r side i) (told_of call a met.closing.state) said) (shown i side call a w next m n (omega (arith, is))) (own_tells i side a w next same first asks call m)))
 
           -- a call of the other end
           theirs : (side : Side) (told : List congestion.Told) → MayTell r side i told → TellsCalls (lens_of r side) (settings side) (validated side) (CountsAt r side) 0 None (watch_from (end_at side r.start) (given_of r side)) (until r side i ++ []) (told ++ [])
@@ -387,7 +422,7 @@ module _ (G : Way) (g : Group Nothing G) (packets : (x y : Party) → G x y → 
               subst (λ (ts : List Told). TellsCalls (lens_of r side) (settings side) (validated side) (CountsAt r side) 0 None (watch_from (end_at side r.start) (given_of r side)) ts (told ++ [])) (sym (append-nil (until r side i)))
               (subst (λ (us : List congestion.Told). MayTell r side i us) (sym (append-nil told)) may)
 
-          go : (side by : Side) (call : Call) → IsMade r i by call a w next → (told : List congestion.Told) → MayTell r side i told → (end_at side w).transport ≡ settings side → ((end_at side w).closing.state ≡ states.Open → IsFirst (first_at side i) (end_at side w).path) → (validated side ≡ true → IsUnasked (end_at side w)) → state_at r side i ≡ (end_at side w).closing.state
+          go : (side by : Side) (call : Call) → IsMade r i by call a w next → (told : List congestion.Told) → MayTell r side i told → (end_at side w).transport ≡ settings side → ((end_at side w).closing.state ≡ states.Open → IsFirst (first_at side i) (end_at side w).path) → IsUnaskedIf (end_at side w) → state_at r side i ≡ (end_at side w).closing.state
               → TellsCalls (lens_of r side) (settings side) (validated side) (CountsAt r side) 0 None (watch_from (end_at side r.start) (given_of r side)) (until r side i ++ told_by side (state_at r side i) (record { side = by; call = call }) a) (told ++ told_by_step side r.keys w (record { side = by; call = call }))
           go Client Client call m told may same first asks state = mine Client call m told may same first asks state
           go Server Server call m told may same first asks state = mine Server call m told may same first asks state

@@ -154,17 +154,17 @@ module _ (Q : Standing → Type 0) where
   acks_stand true e i = i
   acks_stand false e i = i
 
-  module _ (words : ℕ → ℕ) (anew : (n moment : ℕ) (s : Standing) → Q s → Q (asked_anew (words n) moment s)) (stops : (s : Standing) → Q s → Q (asked_no_more s)) where
-    path_stands : (b : Bool) (e : End) → Of e → Of (path_expired words b e)
-    path_stands true e i = go (nat_lt e.validation.drawn most_challenges)
+  module _ (words : ℕ → ℕ) (stops : (s : Standing) → Q s → Q (asked_no_more s)) where
+    path_stands : (b : Bool) → (b ≡ true → (n moment : ℕ) (s : Standing) → Q s → Q (asked_anew (words n) moment s)) → (e : End) → Of e → Of (path_expired words b e)
+    path_stands true anew e i = go (nat_lt e.validation.drawn most_challenges)
       where
         go : (b : Bool) → Of (challenged_anew words b e)
-        go true = anew (words_drawn e) (validation_moment e) (standing e) i
+        go true = anew refl (words_drawn e) (validation_moment e) (standing e) i
         go false = stops (standing e) i
-    path_stands false e i = i
+    path_stands false anew e i = i
 
-    pub expired_stands : (x : Expiry) (e : End) → Of e → Of (after_expiry words x e)
-    expired_stands x e i = go x.idle
+    pub expired_stands : (x : Expiry) → (x.path ≡ true → (n moment : ℕ) (s : Standing) → Q s → Q (asked_anew (words n) moment s)) → (e : End) → Of e → Of (after_expiry words x e)
+    expired_stands x anew e i = go x.idle
       where
         lost : End
         lost = loss_expired x.loss e
@@ -183,7 +183,7 @@ module _ (Q : Standing → Type 0) where
 
         go : (b : Bool) → Of (unless_idle b words x lost)
         go true = stops (standing lost) still
-        go false = acks_stand x.acks paced (paced_stands x.pacing alive (alive_stands x.keep_alive asked (path_stands x.path lost still)))
+        go false = acks_stand x.acks paced (paced_stands x.pacing alive (alive_stands x.keep_alive asked (path_stands x.path anew lost still)))
 
   -- what stays where the peer is asked anew, if a moment came, and where it isn't asked any more,
   -- stays by any call that is no poll and no delivery
@@ -191,7 +191,7 @@ module _ (Q : Standing → Type 0) where
   call_stands p e theirs call a apart silent anew stops i = by_plain_call p e theirs Of call a keep
     where
       keep : Plain p e call Of
-      keep (cases.times now expiry) may = expired_stands p.words (anew may) stops expiry (with_closing e (ticked e.closing now)) i
+      keep (cases.times now expiry) may = expired_stands p.words stops expiry (λ comes. anew may) (with_closing e (ticked e.closing now)) i
       keep (cases.polls now) may = (let clash : true ≡ false = sym may ∙ silent in cc)
       keep (cases.hears arrival d) may = (let clash : true ≡ false = sym may ∙ apart in cc)
       keep (cases.closes reason f now) may = stops (standing e) i

@@ -7,10 +7,11 @@ use Rattle.quic_machine.specs.Policy.{Policy}
 use Rattle.quic_machine.specs.End.{policy_of}
 use Rattle.quic_headline.specs.Alone.{Lone}
 use Rattle.quic_headline.specs.Nonces.{SealedOnce}
-use Rattle.quic_headline.specs.LoneAcks.{AcksTaken}
+use Rattle.quic_headline.specs.LoneAcks.{AcksTaken, CodesAreSmall}
 use Rattle.quic_connection_parts.specs.Telling.{windows_of}
 use Rattle.quic_connection_parts.specs.Drawn.{words_of}
 use Rattle.quic_connection.specs.Lone.{lone_of}
+use Rattle.quic_connection.proofs.Codes.{first_small}
 use Rattle.quic_connection.proofs.Lone.{gives_follow}
 use Rattle.quic_connection.proofs.alone.run_alone.Goals as goal
 
@@ -95,11 +96,12 @@ returns-clause-seals_once g c = λ new.
     subst (SealedOnce p) (sym added) (c.seals_once.ensures p c.args.theirs.now from to (take (length c.make_calls.result.answers.items) c.args.calls.now) c.make_calls.result.answers.items given.more new given.gives)
 
 pub returns-clause-acks_only_taken : goal.returns-clause-acks_only_taken
-returns-clause-acks_only_taken g c = λ new.
+returns-clause-acks_only_taken g c = λ fit.
     let given = c.make_calls.ensures.given in
     let p : Policy = policy_of g.H.HeaderKey.protection g.K.PacketKey.aead g.K.PacketKey.seal_limit g.K.PacketKey.refusal_limit (words_of g.R.Rng.stream) c.args.end.now in
     let from : Lone = lone_of (windows_of g.C.Controller.steps g.C.Controller.window_of) c.args.end.now in
     let to : Lone = lone_of (windows_of g.C.Controller.steps g.C.Controller.window_of) c.make_calls.new.end in
     let made = take (length c.make_calls.result.answers.items) c.args.calls.now in
     let added : drop (length c.args.given.now.items) c.make_calls.new.given.items ≡ given.more = ap (λ (ds : List (List ℕ)). drop (length c.args.given.now.items) ds) given.behind ∙ drop_at c.args.given.now.items given.more (length c.args.given.now.items) refl in
-    subst (AcksTaken p c.args.theirs.now [] made c.make_calls.result.answers.items) (sym added) (c.acks_only_taken.ensures p c.args.theirs.now from to made c.make_calls.result.answers.items given.more new given.gives)
+    let small : CodesAreSmall made = first_small (length c.make_calls.result.answers.items) c.args.calls.now c.show_codes.ensures in
+    subst (AcksTaken p c.args.theirs.now [] made c.make_calls.result.answers.items) (sym added) (c.acks_only_taken.ensures p c.args.theirs.now from to made c.make_calls.result.answers.items given.more fit small given.gives)
