@@ -1,6 +1,6 @@
 -- The run in which a window grows at a server whose peer's address becomes validated, event by
 -- event, and a machine whose controller is told of no acknowledgement.
-use Rattle.std.proofs.Common.{◌≡◌, ℕ, ◌+◌, ◌-◌, min, Bool, true, false, not, ◌&&◌, List, [], ◌∷◌, ◌++◌, filter, replicate, length, Option, Some, None, Ok, refl, inl, sym, ap, ◌∙◌, subst, arith}
+use Rattle.std.proofs.Common.{◌≡◌, ℕ, ◌+◌, min, Bool, true, false, not, ◌&&◌, List, [], ◌∷◌, ◌++◌, filter, replicate, length, Option, Some, None, Ok, refl, inl, sym, ap, ◌∙◌, subst, arith}
 use Rattle.std.specs.Prelude.{if◌then◌else◌, slice_get}
 use Rattle.std.specs.List.{list_any}
 use Rattle.quic_time.specs.Rtt.{Rtt}

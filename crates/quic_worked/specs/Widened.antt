@@ -1,9 +1,9 @@
--- A run in which a window grows as datagrams are acknowledged (RFC 9002, section 7.3.1), at a server
--- whose peer's address becomes validated: that in which the peer answers what the server asked,
--- with a controller at the server that shows twice its window once it was told of an
+-- A run in which a window grows as datagrams are acknowledged (RFC 9002, section 7.3.1), at a
+-- server whose peer's address becomes validated: that in which the peer answers what the server
+-- asked, with a controller at the server that shows twice its window once it was told of an
 -- acknowledgement. One more datagram is acknowledged then. And a machine whose controller is told
 -- of no acknowledgement, though its challenge was answered.
-use Rattle.std.specs.Prelude.{ℕ, Bool, true, false, if◌then◌else◌, List, [], ◌∷◌, ◌++◌, replicate, Some, None}
+use Rattle.std.specs.Prelude.{ℕ, Bool, true, false, if◌then◌else◌, List, [], ◌∷◌, ◌++◌, Some, None}
 use Rattle.std.specs.List.{list_any}
 use Rattle.quic_time.specs.Rtt.{assumed_rtt, with_sample}
 use Rattle.quic_congestion.specs.Congestion.{Told, Sent, Acked, AcksEnded}
