@@ -1,6 +1,6 @@
 //! What an application does at an end.
+use crate::endpoint::Endpoint;
 use crate::fault::Fault;
-use crate::pair::End;
 use quic_connection::{
     Chunk, Chunks, Dir, Event, ReadError, ReadableError, StreamEvent, StreamId, WriteError,
 };
@@ -25,12 +25,12 @@ pub fn pattern(alloc: Global) -> Result<Vec<u8>, AllocError> {
 }
 
 /// Opens a stream of a kind, unless the peer's limit is reached.
-pub fn open(end: &mut End, dir: Dir) -> Option<StreamId> {
+pub fn open(end: &mut impl Endpoint, dir: Dir) -> Option<StreamId> {
     end.streams().open(dir)
 }
 
 /// Accepts a stream of a kind that the peer opened, if one is left.
-pub fn accept(end: &mut End, dir: Dir) -> Option<StreamId> {
+pub fn accept(end: &mut impl Endpoint, dir: Dir) -> Option<StreamId> {
     end.streams().accept(dir)
 }
 
@@ -42,7 +42,7 @@ pub fn accept(end: &mut End, dir: Dir) -> Option<StreamId> {
 ///   taken.
 /// - [`Fault::Stopped`]: the peer sent STOP_SENDING for the stream. No byte is taken.
 /// - [`Fault::Memory`]: an allocation fails. No byte is taken.
-pub fn write(end: &mut End, id: StreamId, data: &[u8]) -> Result<usize, Fault> {
+pub fn write(end: &mut impl Endpoint, id: StreamId, data: &[u8]) -> Result<usize, Fault> {
     match end.send_stream(id).write(data) {
         Ok(count) => Ok(count),
         Err(WriteError::Blocked) => Ok(0),
@@ -60,7 +60,7 @@ pub fn write(end: &mut End, id: StreamId, data: &[u8]) -> Result<usize, Fault> {
 /// - [`Fault::WriteBlocked`]: not all bytes may be written. Those that may be are.
 /// - [`Fault::Memory`]: an allocation fails. All bytes may be written by then, and the stream isn't
 ///   ended.
-pub fn write_all(end: &mut End, id: StreamId, data: &[u8]) -> Result<(), Fault> {
+pub fn write_all(end: &mut impl Endpoint, id: StreamId, data: &[u8]) -> Result<(), Fault> {
     if write(end, id, data)? != data.len() {
         return Err(Fault::WriteBlocked);
     }
@@ -75,7 +75,7 @@ pub fn write_all(end: &mut End, id: StreamId, data: &[u8]) -> Result<(), Fault> 
 ///   changes.
 /// - [`Fault::Stopped`]: the peer sent STOP_SENDING for the stream. Nothing changes.
 /// - [`Fault::Memory`]: an allocation fails. Nothing changes.
-pub fn finish(end: &mut End, id: StreamId) -> Result<(), Fault> {
+pub fn finish(end: &mut impl Endpoint, id: StreamId) -> Result<(), Fault> {
     end.send_stream(id).finish()?;
     Ok(())
 }
@@ -85,7 +85,7 @@ pub fn finish(end: &mut End, id: StreamId) -> Result<(), Fault> {
 /// # Errors
 ///
 /// - [`Fault::Lost`]: the connection was lost. The events before that are taken.
-pub fn take_events(end: &mut End) -> Result<(), Fault> {
+pub fn take_events(end: &mut impl Endpoint) -> Result<(), Fault> {
     for _ in 0..u64::MAX {
         match end.poll() {
             Some(Event::Lost(_)) => return Err(Fault::Lost),
@@ -127,7 +127,7 @@ impl Events {
     /// # Errors
     ///
     /// - [`Fault::Lost`]: the connection was lost. The events before that are taken.
-    pub fn next(&mut self, end: &mut End) -> Result<Option<StreamId>, Fault> {
+    pub fn next(&mut self, end: &mut impl Endpoint) -> Result<Option<StreamId>, Fault> {
         for _ in 0..u64::MAX {
             if let Some(dir) = self.accepts {
                 match accept(end, dir) {
@@ -200,7 +200,11 @@ impl Reader {
     ///
     /// - [`Fault::Lost`]: the connection was lost. What was read before is counted.
     /// - [`Fault`]: as [`read`](Self::read) answers. What was read before is counted.
-    pub fn read_all(&mut self, end: &mut End, events: &mut Events) -> Result<bool, Fault> {
+    pub fn read_all(
+        &mut self,
+        end: &mut impl Endpoint,
+        events: &mut Events,
+    ) -> Result<bool, Fault> {
         let mut has_ended = false;
         for _ in 0..u64::MAX {
             let Some(id) = events.next(end)? else {
@@ -220,7 +224,7 @@ impl Reader {
     /// - [`Fault::OtherBytes`]: other bytes came than are expected. What was read before is
     ///   counted.
     /// - [`Fault::Memory`]: an allocation fails. What was read before is counted.
-    pub fn read(&mut self, end: &mut End, id: StreamId) -> Result<bool, Fault> {
+    pub fn read(&mut self, end: &mut impl Endpoint, id: StreamId) -> Result<bool, Fault> {
         match end.recv_stream(id).read(true) {
             Ok(mut chunks) => {
                 let ended = self.take_all(&mut chunks)?;

@@ -1,8 +1,9 @@
 //! One stream is written from a buffer, and read whenever it is readable, or once all has come.
 use crate::application::{Events, PATTERN, Reader, pattern};
+use crate::endpoint::Endpoint;
 use crate::fault::Fault;
 use crate::figures::Figures;
-use crate::pair::{End, Pair, Work};
+use crate::pair::{Pair, Work};
 use crate::sender::Sender;
 use crate::streams::hold_open;
 use std::rt::Clock;
@@ -56,7 +57,7 @@ struct Bulk {
 }
 
 impl Work for Bulk {
-    fn client(&mut self, end: &mut End) -> Result<(), Fault> {
+    fn client(&mut self, end: &mut impl Endpoint) -> Result<(), Fault> {
         let _ = self.client.next(end)?;
         if self.client.take_writable() {
             self.sender.unblock();
@@ -64,7 +65,7 @@ impl Work for Bulk {
         self.sender.send(end, &self.source)
     }
 
-    fn server(&mut self, end: &mut End) -> Result<bool, Fault> {
+    fn server(&mut self, end: &mut impl Endpoint) -> Result<bool, Fault> {
         if self.waits && self.client.finished == 0 {
             return Ok(false);
         }
@@ -99,14 +100,14 @@ fn expected<R: AllocGlobal>(rt: &R, plan: &Plan) -> Result<Option<Vec<u8>>, Faul
 /// - [`Fault`]: as [`Pair::measure`] answers.
 pub fn run<R: Clock + CpuClock + AllocGlobal>(
     rt: &R,
-    pair: &mut Pair,
+    pair: &mut Pair<impl Endpoint>,
     plan: &Plan,
 ) -> Result<Figures, Fault> {
     hold_open(pair, plan.idle)?;
     let mut work = Bulk {
         waits: plan.waits,
         source: pattern(rt.alloc())?,
-        sender: Sender::open(&mut pair.ends.as_mut().client, plan.bytes, plan.write)?,
+        sender: Sender::open(pair.client.as_mut(), plan.bytes, plan.write)?,
         client: Events::new(),
         server: Events::new(),
         reader: Reader::of_pieces(expected(rt, plan)?, plan.read),

@@ -1,8 +1,9 @@
 //! Each end writes a stream and reads that of the other, both at the same time.
 use crate::application::{Events, PATTERN, Reader, pattern};
+use crate::endpoint::Endpoint;
 use crate::fault::Fault;
 use crate::figures::Figures;
-use crate::pair::{End, Pair, Work};
+use crate::pair::{Pair, Work};
 use crate::sender::Sender;
 use std::rt::Clock;
 use std::time::CpuClock;
@@ -17,7 +18,7 @@ struct Party {
 
 impl Party {
     /// One that writes so many bytes.
-    fn new(end: &mut End, bytes: u64) -> Result<Self, Fault> {
+    fn new(end: &mut impl Endpoint, bytes: u64) -> Result<Self, Fault> {
         Ok(Party {
             sender: Sender::open(end, bytes, PATTERN)?,
             events: Events::new(),
@@ -26,7 +27,7 @@ impl Party {
     }
 
     /// Reads what came, and writes what may be written.
-    fn act(&mut self, end: &mut End, source: &[u8]) -> Result<(), Fault> {
+    fn act(&mut self, end: &mut impl Endpoint, source: &[u8]) -> Result<(), Fault> {
         self.reader.read_all(end, &mut self.events)?;
         if self.events.take_writable() {
             self.sender.unblock();
@@ -44,11 +45,11 @@ struct Duplex {
 }
 
 impl Work for Duplex {
-    fn client(&mut self, end: &mut End) -> Result<(), Fault> {
+    fn client(&mut self, end: &mut impl Endpoint) -> Result<(), Fault> {
         self.client.act(end, &self.source)
     }
 
-    fn server(&mut self, end: &mut End) -> Result<bool, Fault> {
+    fn server(&mut self, end: &mut impl Endpoint) -> Result<bool, Fault> {
         self.server.act(end, &self.source)?;
         Ok(self.client.reader.ended > 0 && self.server.reader.ended > 0)
     }
@@ -77,14 +78,13 @@ impl Work for Duplex {
 /// - [`Fault`]: as [`Pair::measure`] answers.
 pub fn run<R: Clock + CpuClock + AllocGlobal>(
     rt: &R,
-    pair: &mut Pair,
+    pair: &mut Pair<impl Endpoint>,
     bytes: u64,
 ) -> Result<Figures, Fault> {
-    let ends = pair.ends.as_mut();
     let mut work = Duplex {
         source: pattern(rt.alloc())?,
-        client: Party::new(&mut ends.client, bytes)?,
-        server: Party::new(&mut ends.server, bytes)?,
+        client: Party::new(pair.client.as_mut(), bytes)?,
+        server: Party::new(pair.server.as_mut(), bytes)?,
     };
     pair.measure(rt, &mut work)
 }

@@ -1,4 +1,5 @@
 //! What the lanes alone cost: datagrams of 1200 bytes go through one, each copied once.
+use crate::endpoint::Endpoint;
 use crate::fault::Fault;
 use crate::figures::{Figures, Watch};
 use crate::lane::Lane;
@@ -43,7 +44,11 @@ fn take_all(lane: &mut Lane) -> u64 {
 ///
 /// - [`Fault::Clock`]: a clock can't be read.
 /// - [`Fault::Memory`]: an allocation fails. Datagrams may be left in the lane.
-pub fn run<R: Clock + CpuClock>(rt: &R, pair: &mut Pair, count: u64) -> Result<Figures, Fault> {
+pub fn run<R: Clock + CpuClock>(
+    rt: &R,
+    pair: &mut Pair<impl Endpoint>,
+    count: u64,
+) -> Result<Figures, Fault> {
     pair.begin();
     let watch = Watch::start(rt)?;
     let mut sum = 0u64;

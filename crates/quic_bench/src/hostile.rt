@@ -7,6 +7,7 @@ mod peer;
 mod tally;
 mod victim;
 
+use crate::endpoint::Endpoint;
 use crate::fault::Fault;
 use crate::figures::{Figures, Watch};
 use crate::hostile::attack::{Attack, Plan};
@@ -57,14 +58,14 @@ impl Siege {
     }
 
     /// The peer sends a datagram, which the server takes; then it and its application have a turn.
-    fn round(&mut self, pair: &mut Pair, plan: &Plan) -> Result<(), Fault> {
+    fn round(&mut self, pair: &mut Pair<impl Endpoint>, plan: &Plan) -> Result<(), Fault> {
         if plan.acknowledges {
             pair.now = pair.now.saturating_add(ONE_WAY);
         } else {
             self.peer.owed.clear();
         }
         self.peer.compose(plan)?;
-        let server = &mut pair.ends.as_mut().server;
+        let server = pair.server.as_mut();
         let now = Instant::from_nanos(pair.now);
         let answer = server.receive(now, None, &mut self.peer.datagram);
         if !is_due(plan.attack, &answer) {
@@ -76,7 +77,12 @@ impl Siege {
     }
 
     /// So many rounds.
-    fn rounds(&mut self, pair: &mut Pair, plan: &Plan, count: u64) -> Result<(), Fault> {
+    fn rounds(
+        &mut self,
+        pair: &mut Pair<impl Endpoint>,
+        plan: &Plan,
+        count: u64,
+    ) -> Result<(), Fault> {
         for _ in 0..count {
             self.round(pair, plan)?;
         }
@@ -84,11 +90,16 @@ impl Siege {
     }
 
     /// What comes before an attack.
-    fn prepare(&mut self, alloc: Global, pair: &mut Pair, plan: &Plan) -> Result<(), Fault> {
+    fn prepare(
+        &mut self,
+        alloc: Global,
+        pair: &mut Pair<impl Endpoint>,
+        plan: &Plan,
+    ) -> Result<(), Fault> {
         match plan.attack {
             Attack::Forgotten => {
                 // This PING is never acknowledged.
-                pair.ends.as_mut().server.ping();
+                pair.server.as_mut().ping();
                 self.rounds(pair, &Plan::before(Attack::Pings, 0), TO_FORGET)?;
             }
             Attack::LongerIds => self.fill(alloc, pair)?,
@@ -102,8 +113,8 @@ impl Siege {
 
     /// Messages wait at the server that the window doesn't let go, and behind them one that is as
     /// long as it may be.
-    fn fill(&mut self, alloc: Global, pair: &mut Pair) -> Result<(), Fault> {
-        let server = &mut pair.ends.as_mut().server;
+    fn fill(&mut self, alloc: Global, pair: &mut Pair<impl Endpoint>) -> Result<(), Fault> {
+        let server = pair.server.as_mut();
         queue_messages(server, alloc, FILLING, 1)?;
         self.victim.transmit(server, pair.now, &mut self.peer.owed)?;
         queue_messages(server, alloc, WAITING, 1)?;
@@ -111,9 +122,9 @@ impl Siege {
     }
 
     /// The datagram comes that is to be repeated.
-    fn take_first(&mut self, pair: &mut Pair, plan: &Plan) -> Result<(), Fault> {
+    fn take_first(&mut self, pair: &mut Pair<impl Endpoint>, plan: &Plan) -> Result<(), Fault> {
         self.peer.compose(plan)?;
-        let server = &mut pair.ends.as_mut().server;
+        let server = pair.server.as_mut();
         match server.receive(Instant::from_nanos(pair.now), None, &mut self.peer.datagram) {
             Received::Taken => self.victim.act(server, true),
             answer => Err(answer.into()),
@@ -133,7 +144,7 @@ impl Siege {
 /// - [`Fault::Clock`]: a clock can't be read.
 pub fn run<R: Clock + CpuClock + AllocGlobal>(
     rt: &R,
-    pair: &mut Pair,
+    pair: &mut Pair<impl Endpoint>,
     plan: &Plan,
 ) -> Result<Figures, Fault> {
     let mut siege = Siege::new(rt.alloc());

@@ -56,6 +56,8 @@ mod application;
 mod bulk;
 mod connections;
 mod duplex;
+mod end;
+mod endpoint;
 mod fault;
 mod figures;
 mod floor;
@@ -70,6 +72,8 @@ mod streams;
 mod task;
 
 use crate::bulk::Plan;
+use crate::end::End;
+use crate::endpoint::Endpoint;
 use crate::fault::Fault;
 use crate::figures::{Figures, Memory};
 use crate::hostile::attack::Attack;
@@ -164,9 +168,9 @@ fn show<R: Runtime>(
 }
 
 /// Does what a task asks for once: the figures.
-fn work<R: Runtime + CpuClock + AllocGlobal>(
-    rt: &R,
-    pair: &mut Pair,
+fn work(
+    rt: &(impl Runtime + CpuClock + AllocGlobal),
+    pair: &mut Pair<impl Endpoint>,
     workload: Workload,
 ) -> Result<Figures, Fault> {
     match workload {
@@ -198,19 +202,21 @@ fn work<R: Runtime + CpuClock + AllocGlobal>(
 }
 
 /// Does a task, and prints its figures.
-fn perform<R: Runtime + CpuClock + AllocGlobal>(rt: &R, form: Form, task: &Task) -> Result<()> {
+fn perform<E: Endpoint>(
+    rt: &(impl Runtime + CpuClock + AllocGlobal),
+    form: Form,
+    task: &Task,
+) -> Result<()> {
     let limits = task.limits()?;
-    let mut pair = Pair::new(rt.alloc(), &limits, task.network.batch)?;
-    let outcome = repeat(rt, form, &mut pair, task);
-    drop(pair);
-    outcome
+    let mut pair = Pair::<E>::new(rt.alloc(), &limits, task.network.batch)?;
+    repeat(rt, form, &mut pair, task)
 }
 
 /// Lets both ends come to rest, and does a task as often as it asks for.
-fn repeat<R: Runtime + CpuClock + AllocGlobal>(
-    rt: &R,
+fn repeat(
+    rt: &(impl Runtime + CpuClock + AllocGlobal),
     form: Form,
-    pair: &mut Pair,
+    pair: &mut Pair<impl Endpoint>,
     task: &Task,
 ) -> Result<()> {
     pair.settle()?;
@@ -224,12 +230,12 @@ fn repeat<R: Runtime + CpuClock + AllocGlobal>(
 }
 
 /// Does a little of each workload.
-fn check<R: Runtime + CpuClock + AllocGlobal>(rt: &R) -> Result<bool> {
+fn check<E: Endpoint>(rt: &(impl Runtime + CpuClock + AllocGlobal)) -> Result<bool> {
     for line in CHECKS {
         let Some(task) = Task::read(rt.alloc(), line)? else {
             return Ok(false);
         };
-        perform(rt, Form::Counts, &task)?;
+        perform::<E>(rt, Form::Counts, &task)?;
     }
     Ok(true)
 }
@@ -245,20 +251,20 @@ fn arguments<R: Runtime + AllocGlobal>(rt: &R) -> Result<String> {
 }
 
 /// Does what the arguments ask for: whether it is known.
-fn run<R: Runtime + CpuClock + AllocGlobal>(rt: &R) -> Result<bool> {
+fn run<E: Endpoint>(rt: &(impl Runtime + CpuClock + AllocGlobal)) -> Result<bool> {
     let line = arguments(rt)?;
     if line.as_str() == "check " {
-        return check(rt);
+        return check::<E>(rt);
     }
     let Some(task) = Task::read(rt.alloc(), line.as_str())? else {
         return Ok(false);
     };
-    perform(rt, Form::All, &task)?;
+    perform::<E>(rt, Form::All, &task)?;
     Ok(true)
 }
 
 fn main(rt: HostRuntime) -> ExitCode {
-    match run(&rt) {
+    match run::<End>(&rt) {
         Ok(true) => ExitCode::SUCCESS,
         Ok(false) => {
             let _ = eprintln!(rt; "unsupported: see the head of src/main.rt");

@@ -1,8 +1,9 @@
 //! Messages go, of which so many at most are under way.
 use crate::application::{PATTERN, pattern, take_events};
+use crate::endpoint::Endpoint;
 use crate::fault::Fault;
 use crate::figures::Figures;
-use crate::pair::{End, Pair, Work};
+use crate::pair::{Pair, Work};
 use quic_connection::{Copies, SendDatagramError};
 use std::rt::Clock;
 use std::time::CpuClock;
@@ -21,7 +22,7 @@ struct Messages {
 
 impl Messages {
     /// Sends a message: whether there was room for it.
-    fn send_one(&mut self, end: &mut End) -> Result<bool, Fault> {
+    fn send_one(&mut self, end: &mut impl Endpoint) -> Result<bool, Fault> {
         let data = self.data.as_slice();
         let mut datagrams = end.datagrams();
         if datagrams.send_buffer_space() < data.len() {
@@ -47,7 +48,7 @@ impl Messages {
 }
 
 impl Work for Messages {
-    fn client(&mut self, end: &mut End) -> Result<(), Fault> {
+    fn client(&mut self, end: &mut impl Endpoint) -> Result<(), Fault> {
         take_events(end)?;
         let most = self.received.saturating_add(self.ahead).min(self.count);
         for _ in self.sent..most {
@@ -58,7 +59,7 @@ impl Work for Messages {
         Ok(())
     }
 
-    fn server(&mut self, end: &mut End) -> Result<bool, Fault> {
+    fn server(&mut self, end: &mut impl Endpoint) -> Result<bool, Fault> {
         take_events(end)?;
         for _ in 0..u64::MAX {
             let Some(message) = end.datagrams().recv() else {
@@ -86,7 +87,7 @@ impl Work for Messages {
 /// - [`Fault`]: as [`Pair::measure`] answers.
 pub fn run<R: Clock + CpuClock + AllocGlobal>(
     rt: &R,
-    pair: &mut Pair,
+    pair: &mut Pair<impl Endpoint>,
     count: u64,
     size: u64,
     ahead: u64,

@@ -2,28 +2,15 @@
 //! driven: at each moment first the client, then the server, each over and over while datagrams
 //! are due: it takes up to `batch` of them and a due timeout, its application acts, and it sends
 //! until it gives nothing. Then the next moment is the least of timers and arrivals.
+use crate::endpoint::Endpoint;
 use crate::fault::Fault;
 use crate::figures::{Figures, Watch};
-use crate::lane::{Datagram, LEAST_MTU, Lane, Link, earlier};
-use quic_connection::{
-    AckFrequencyConfig, Config, ConfigError, Connection, DropReason, EcnCodepoint, Ends, Instant,
-    Making, NewReno, NewRenoConfig, Received, TransportConfig,
-};
-use quic_keys::{PlainHeaderKey, PlainKey, Words, keys_for};
-use quic_wire_core::{ConnectionId, Side, VarInt};
-use std::alloc::{AllocError, Global};
-use std::mem;
+use crate::lane::{Datagram, Lane, Link, earlier};
+use quic_connection::{DropReason, EcnCodepoint, Instant, Received};
+use quic_wire_core::{Side, VarInt};
+use std::alloc::Global;
 use std::rt::Clock;
 use std::time::CpuClock;
-
-/// One end, with null keys.
-pub type End = Connection<PlainHeaderKey, PlainKey, Words, NewReno>;
-
-/// Two of them.
-pub type BothEnds = Ends<PlainHeaderKey, PlainKey, Words, NewReno>;
-
-/// Every random word of an end.
-const RANDOM_WORD: u64 = 63;
 
 /// The network between the ends, and how the ends are driven.
 #[derive(Clone, Copy)]
@@ -75,14 +62,14 @@ pub trait Work {
     /// # Errors
     ///
     /// - [`Fault`]: the work can't go on, by its application.
-    fn client(&mut self, end: &mut End) -> Result<(), Fault>;
+    fn client(&mut self, end: &mut impl Endpoint) -> Result<(), Fault>;
 
     /// The server's turn: whether its application has everything.
     ///
     /// # Errors
     ///
     /// - [`Fault`]: the work can't go on, by its application.
-    fn server(&mut self, end: &mut End) -> Result<bool, Fault>;
+    fn server(&mut self, end: &mut impl Endpoint) -> Result<bool, Fault>;
 
     /// How many units of work the server's application has.
     fn units(&self) -> u64;
@@ -96,11 +83,11 @@ pub trait Work {
 struct Rest;
 
 impl Work for Rest {
-    fn client(&mut self, _end: &mut End) -> Result<(), Fault> {
+    fn client(&mut self, _end: &mut impl Endpoint) -> Result<(), Fault> {
         Ok(())
     }
 
-    fn server(&mut self, _end: &mut End) -> Result<bool, Fault> {
+    fn server(&mut self, _end: &mut impl Endpoint) -> Result<bool, Fault> {
         Ok(false)
     }
 
@@ -113,12 +100,16 @@ impl Work for Rest {
     }
 }
 
-/// A client and a server, and the lanes between them. It is dropped by name: a proof takes long
-/// where a function lets go of two ends at its end.
+/// A client and a server. They lie on the heap, so that a pair is small.
+pub type BothEnds<E> = (Box<E>, Box<E>);
+
+/// A client and a server, and the lanes between them.
 #[derive(Drop)]
-pub struct Pair {
-    /// Both ends. They lie on the heap, so that a pair is small.
-    pub ends: Box<BothEnds>,
+pub struct Pair<E> {
+    /// The client.
+    pub client: Box<E>,
+    /// The server.
+    pub server: Box<E>,
     /// From the client to the server.
     pub up: Lane,
     /// From the server to the client.
@@ -132,61 +123,14 @@ pub struct Pair {
     start: u64,
 }
 
-/// The first id of an end.
-fn id_of(side: Side) -> ConnectionId {
-    match side {
-        Side::Client => ConnectionId::new(&[0xc0; 8]),
-        Side::Server => ConnectionId::new(&[0x50; 8]),
-    }
-}
-
-/// The settings of an end. Datagrams keep the size that every lane carries, unless a larger one is
-/// looked for, and no idle timeout runs, so that both ends can rest.
-fn transport(limits: &Limits) -> TransportConfig {
-    let mut transport = TransportConfig::default();
-    transport.initial_mtu(LEAST_MTU);
-    transport.min_mtu(LEAST_MTU);
-    if !limits.searches {
-        transport.mtu_discovery_config(None);
-    }
-    transport.max_idle_timeout(None);
-    transport.max_concurrent_uni_streams(limits.streams);
-    transport.max_concurrent_bidi_streams(limits.streams);
-    transport.stream_receive_window(limits.window);
-    transport.send_window(limits.window.into_inner().saturating_mul(8));
-    if let Some(threshold) = limits.threshold {
-        let mut frequency = AckFrequencyConfig::default();
-        frequency.ack_eliciting_threshold(threshold);
-        transport.ack_frequency_config(Some(frequency));
-    }
-    transport
-}
-
-/// What an end with these limits is made of.
-fn making(side: Side, limits: &Limits) -> Making<NewRenoConfig, PlainHeaderKey, PlainKey, Words> {
-    Making {
-        config: Config::new(transport(limits), NewRenoConfig::default()),
-        id: id_of(side),
-        keys: keys_for(side),
-        random: Words::word(RANDOM_WORD),
-        validated: true,
-    }
-}
-
 /// Two ends at the moment 0.
-fn new_ends(alloc: Global, limits: &Limits) -> Result<BothEnds, ConfigError> {
-    let now = Instant::from_nanos(0);
-    let client = making(Side::Client, limits);
-    let server = making(Side::Server, limits);
-    Ends::new(alloc, now, client, server)
+fn new_ends<E: Endpoint>(alloc: Global, limits: &Limits) -> Result<BothEnds<E>, Fault> {
+    let client = E::new(alloc, Side::Client, limits)?;
+    let server = E::new(alloc, Side::Server, limits)?;
+    Ok((client, server))
 }
 
-/// These ends on the heap. An `Err` is want of memory.
-fn boxed(alloc: Global, ends: BothEnds) -> Result<Box<BothEnds>, AllocError> {
-    Ok(Box::new(alloc, ends)?)
-}
-
-impl Pair {
+impl<E: Endpoint> Pair<E> {
     /// Two ends at the moment 0, which take so many datagrams before they may send.
     ///
     /// # Errors
@@ -194,9 +138,10 @@ impl Pair {
     /// - [`Fault::Config`]: the endpoints can't be made.
     /// - [`Fault::Memory`]: an allocation fails.
     pub fn new(alloc: Global, limits: &Limits, batch: u64) -> Result<Self, Fault> {
-        let ends = boxed(alloc, new_ends(alloc, limits)?)?;
+        let (client, server) = new_ends(alloc, limits)?;
         Ok(Pair {
-            ends,
+            client,
+            server,
             up: Lane::new(alloc, limits.link),
             down: Lane::new(alloc, limits.link),
             limits: limits.copied(),
@@ -213,17 +158,24 @@ impl Pair {
     /// - [`Fault::Config`]: the endpoints can't be made. The old ones stay.
     /// - [`Fault::Memory`]: an allocation fails. The old ones stay.
     pub fn renew(&mut self, alloc: Global) -> Result<(), Fault> {
-        let ends = boxed(alloc, new_ends(alloc, &self.limits)?)?;
-        drop(mem::replace(&mut self.ends, ends));
+        let (client, server) = new_ends(alloc, &self.limits)?;
+        self.client = client;
+        self.server = server;
         Ok(())
     }
 
     /// Both ends, without the lanes between them.
-    pub fn into_ends(self) -> Box<BothEnds> {
-        let Pair { ends, up, down, .. } = self;
+    pub fn into_ends(self) -> BothEnds<E> {
+        let Pair {
+            client,
+            server,
+            up,
+            down,
+            ..
+        } = self;
         drop(up);
         drop(down);
-        ends
+        (client, server)
     }
 
     /// Each end learns the round trip from a PING, as from a handshake, and both come to rest.
@@ -232,9 +184,8 @@ impl Pair {
     ///
     /// - [`Fault`]: as [`run`](Self::run) answers.
     pub fn settle(&mut self) -> Result<(), Fault> {
-        let ends = self.ends.as_mut();
-        ends.client.ping();
-        ends.server.ping();
+        self.client.as_mut().ping();
+        self.server.as_mut().ping();
         self.run_until(self.limits.link.delay.saturating_mul(20), &mut Rest)
     }
 
@@ -339,7 +290,7 @@ impl Pair {
     /// The client acts while datagrams are due.
     fn client_turn<W: Work>(&mut self, work: &mut W) -> Result<(), Fault> {
         for _ in 0..u64::MAX {
-            let client = &mut self.ends.as_mut().client;
+            let client = self.client.as_mut();
             let more = take(client, &mut self.down, self.now, self.batch)?;
             work.client(client)?;
             transmit(client, &mut self.up, self.now)?;
@@ -354,7 +305,7 @@ impl Pair {
     fn server_turn<W: Work>(&mut self, work: &mut W) -> Result<bool, Fault> {
         let mut is_done = false;
         for _ in 0..u64::MAX {
-            let server = &mut self.ends.as_mut().server;
+            let server = self.server.as_mut();
             let more = take(server, &mut self.up, self.now, self.batch)?;
             is_done |= work.server(server)?;
             transmit(server, &mut self.down, self.now)?;
@@ -367,20 +318,22 @@ impl Pair {
 
     /// The next moment at which a timer expires or a datagram arrives.
     fn next_moment(&self) -> Option<u64> {
-        let ends = self.ends.as_ref();
-        let timers = earlier(timer_of(&ends.client), timer_of(&ends.server));
+        let timers = earlier(
+            timer_of(self.client.as_ref()),
+            timer_of(self.server.as_ref()),
+        );
         let arrivals = earlier(self.up.next_arrival(), self.down.next_arrival());
         earlier(timers, arrivals)
     }
 }
 
 /// The moment at which the next timer of an end expires.
-fn timer_of(end: &End) -> Option<u64> {
+fn timer_of(end: &impl Endpoint) -> Option<u64> {
     Some(end.poll_timeout()?.as_nanos())
 }
 
 /// Takes datagrams that are due, so many at most, and a due timeout: whether more are due.
-fn take(end: &mut End, inbox: &mut Lane, now: u64, batch: u64) -> Result<bool, Fault> {
+fn take(end: &mut impl Endpoint, inbox: &mut Lane, now: u64, batch: u64) -> Result<bool, Fault> {
     for _ in 0..batch {
         let Some(datagram) = inbox.pop_due(now) else {
             break;
@@ -404,7 +357,7 @@ fn take(end: &mut End, inbox: &mut Lane, now: u64, batch: u64) -> Result<bool, F
 /// - [`Fault::Closed`]: the datagram broke a rule, which closed the endpoint.
 /// - [`Fault::Failed`]: an allocation fails, or did before.
 pub fn receive(
-    end: &mut End,
+    end: &mut impl Endpoint,
     now: u64,
     ecn: Option<EcnCodepoint>,
     bytes: &mut [u8],
@@ -421,7 +374,7 @@ pub fn receive(
 /// # Errors
 ///
 /// - [`Fault::Failed`]: an allocation fails, or did before.
-pub fn expire(end: &mut End, now: u64) -> Result<(), Fault> {
+pub fn expire(end: &mut impl Endpoint, now: u64) -> Result<(), Fault> {
     if let Some(moment) = timer_of(end)
         && moment <= now
     {
@@ -437,7 +390,7 @@ pub fn expire(end: &mut End, now: u64) -> Result<(), Fault> {
 /// - [`Fault::Failed`]: an allocation fails within the endpoint, or did before. What was sent
 ///   before stays sent.
 /// - [`Fault::Memory`]: an allocation fails beside it. What was sent before stays sent.
-pub fn transmit(end: &mut End, outbox: &mut Lane, now: u64) -> Result<(), Fault> {
+pub fn transmit(end: &mut impl Endpoint, outbox: &mut Lane, now: u64) -> Result<(), Fault> {
     for _ in 0..u64::MAX {
         let mut bytes = outbox.buffer()?;
         match end.poll_transmit(Instant::from_nanos(now), &mut bytes)? {

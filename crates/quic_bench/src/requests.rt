@@ -1,8 +1,9 @@
 //! Requests go on two-way streams, and each is answered on its own.
 use crate::application::{Events, PATTERN, Reader, open, pattern, write_all};
+use crate::endpoint::Endpoint;
 use crate::fault::Fault;
 use crate::figures::Figures;
-use crate::pair::{End, Pair, Work};
+use crate::pair::{Pair, Work};
 use quic_connection::Dir;
 use std::alloc::{AllocError, Global};
 use std::rt::Clock;
@@ -24,7 +25,7 @@ struct Requests {
 
 impl Requests {
     /// Sends a request: whether a stream may be opened.
-    fn ask(&mut self, end: &mut End) -> Result<bool, Fault> {
+    fn ask(&mut self, end: &mut impl Endpoint) -> Result<bool, Fault> {
         let Some(id) = open(end, Dir::Bi) else {
             return Ok(false);
         };
@@ -34,7 +35,7 @@ impl Requests {
     }
 
     /// Takes what came of one request, and answers it once it has come: whether one came.
-    fn serve(&mut self, end: &mut End) -> Result<bool, Fault> {
+    fn serve(&mut self, end: &mut impl Endpoint) -> Result<bool, Fault> {
         let Some(id) = self.server.next(end)? else {
             return Ok(false);
         };
@@ -46,7 +47,7 @@ impl Requests {
 }
 
 impl Work for Requests {
-    fn client(&mut self, end: &mut End) -> Result<(), Fault> {
+    fn client(&mut self, end: &mut impl Endpoint) -> Result<(), Fault> {
         self.answers.read_all(end, &mut self.client)?;
         let most = self
             .answers
@@ -61,7 +62,7 @@ impl Work for Requests {
         Ok(())
     }
 
-    fn server(&mut self, end: &mut End) -> Result<bool, Fault> {
+    fn server(&mut self, end: &mut impl Endpoint) -> Result<bool, Fault> {
         for _ in 0..u64::MAX {
             if !self.serve(end)? {
                 break;
@@ -94,7 +95,7 @@ fn data(alloc: Global, size: u64) -> Result<Vec<u8>, AllocError> {
 /// - [`Fault`]: as [`Pair::measure`] answers.
 pub fn run<R: Clock + CpuClock + AllocGlobal>(
     rt: &R,
-    pair: &mut Pair,
+    pair: &mut Pair<impl Endpoint>,
     count: u64,
     size: u64,
     answer: u64,

@@ -1,7 +1,7 @@
 //! Writes one stream from a buffer.
 use crate::application::{PATTERN, finish, open, write};
+use crate::endpoint::Endpoint;
 use crate::fault::Fault;
-use crate::pair::End;
 use quic_connection::{Dir, StreamId};
 
 /// Writes so many bytes on a stream.
@@ -24,7 +24,7 @@ impl Sender {
     /// # Errors
     ///
     /// - [`Fault::NoStream`]: the peer's limit is reached. No stream is opened.
-    pub fn open(end: &mut End, bytes: u64, piece: usize) -> Result<Self, Fault> {
+    pub fn open(end: &mut impl Endpoint, bytes: u64, piece: usize) -> Result<Self, Fault> {
         Ok(Sender {
             id: open(end, Dir::Uni).ok_or(Fault::NoStream)?,
             bytes,
@@ -48,7 +48,7 @@ impl Sender {
     /// - [`Fault::ClosedStream`]: the stream was finished or reset.
     /// - [`Fault::Stopped`]: the peer sent STOP_SENDING for the stream.
     /// - [`Fault::Memory`]: an allocation fails. What was written before stays written.
-    pub fn send(&mut self, end: &mut End, source: &[u8]) -> Result<(), Fault> {
+    pub fn send(&mut self, end: &mut impl Endpoint, source: &[u8]) -> Result<(), Fault> {
         for _ in 0..u64::MAX {
             if self.is_finished || self.is_blocked {
                 break;
@@ -63,7 +63,7 @@ impl Sender {
     }
 
     /// Writes what may be written at once of what is left: how many bytes.
-    fn write_piece(&mut self, end: &mut End, source: &[u8]) -> Result<u64, Fault> {
+    fn write_piece(&mut self, end: &mut impl Endpoint, source: &[u8]) -> Result<u64, Fault> {
         let at = (self.sent % PATTERN as u64) as usize;
         let left = self.bytes.saturating_sub(self.sent);
         let piece = left.min(self.piece as u64) as usize;

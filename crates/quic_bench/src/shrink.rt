@@ -1,8 +1,9 @@
 //! One stream is written and read on a path that carries less once half of its bytes have arrived.
 use crate::application::{Events, PATTERN, Reader, pattern};
+use crate::endpoint::Endpoint;
 use crate::fault::Fault;
 use crate::figures::{Figures, Watch};
-use crate::pair::{End, Pair, Work};
+use crate::pair::{Pair, Work};
 use crate::sender::Sender;
 use std::io;
 use std::rt::Clock;
@@ -36,7 +37,7 @@ struct Flow {
 
 impl Flow {
     /// The end that writes has a turn.
-    fn write(&mut self, end: &mut End) -> Result<(), Fault> {
+    fn write(&mut self, end: &mut impl Endpoint) -> Result<(), Fault> {
         let _ = self.sending.next(end)?;
         if self.sending.take_writable() {
             self.sender.unblock();
@@ -45,14 +46,14 @@ impl Flow {
     }
 
     /// The end that reads has a turn.
-    fn read(&mut self, end: &mut End) -> Result<(), Fault> {
+    fn read(&mut self, end: &mut impl Endpoint) -> Result<(), Fault> {
         self.reader.read_all(end, &mut self.reading)?;
         Ok(())
     }
 }
 
 impl Work for Flow {
-    fn client(&mut self, end: &mut End) -> Result<(), Fault> {
+    fn client(&mut self, end: &mut impl Endpoint) -> Result<(), Fault> {
         if self.goes_back {
             self.read(end)
         } else {
@@ -60,7 +61,7 @@ impl Work for Flow {
         }
     }
 
-    fn server(&mut self, end: &mut End) -> Result<bool, Fault> {
+    fn server(&mut self, end: &mut impl Endpoint) -> Result<bool, Fault> {
         if self.goes_back {
             self.write(end)?;
         } else {
@@ -79,17 +80,16 @@ impl Work for Flow {
 }
 
 /// The end from which the bytes go.
-fn writer<'a>(pair: &'a mut Pair, plan: &Plan) -> &'a mut End {
-    let ends = pair.ends.as_mut();
+fn writer<'a, E: Endpoint>(pair: &'a mut Pair<E>, plan: &Plan) -> &'a mut E {
     if plan.goes_back {
-        &mut ends.server
+        pair.server.as_mut()
     } else {
-        &mut ends.client
+        pair.client.as_mut()
     }
 }
 
 /// Prints the size of datagrams at the end that wrote, and how many black holes it found.
-fn print_path<R: Print>(rt: &R, end: &End) -> io::Result<()> {
+fn print_path<R: Print>(rt: &R, end: &impl Endpoint) -> io::Result<()> {
     let path = end.stats().path;
     let (size, holes) = (path.current_mtu, path.black_holes_detected);
     println!(rt; "current_mtu={size} black_holes_detected={holes}")
@@ -106,7 +106,7 @@ fn print_path<R: Print>(rt: &R, end: &End) -> io::Result<()> {
 /// - [`Fault::Print`]: what is found of the path can't be printed.
 pub fn run<R: Clock + CpuClock + Print + AllocGlobal>(
     rt: &R,
-    pair: &mut Pair,
+    pair: &mut Pair<impl Endpoint>,
     plan: &Plan,
 ) -> Result<Figures, Fault> {
     let mut flow = Flow {

@@ -1,8 +1,9 @@
 //! Streams are opened, written, finished and read to their ends, beside others that stay open.
 use crate::application::{Events, PATTERN, Reader, open, pattern, take_events, write, write_all};
+use crate::endpoint::Endpoint;
 use crate::fault::Fault;
 use crate::figures::Figures;
-use crate::pair::{End, Pair, Work};
+use crate::pair::{Pair, Work};
 use quic_connection::Dir;
 use std::rt::Clock;
 use std::time::CpuClock;
@@ -18,7 +19,7 @@ struct Idle {
 
 impl Idle {
     /// Opens a stream and writes its byte.
-    fn open_one(&mut self, end: &mut End) -> Result<(), Fault> {
+    fn open_one(&mut self, end: &mut impl Endpoint) -> Result<(), Fault> {
         let id = open(end, Dir::Uni).ok_or(Fault::NoStream)?;
         if write(end, id, &[1])? != 1 {
             return Err(Fault::WriteBlocked);
@@ -29,7 +30,7 @@ impl Idle {
 }
 
 impl Work for Idle {
-    fn client(&mut self, end: &mut End) -> Result<(), Fault> {
+    fn client(&mut self, end: &mut impl Endpoint) -> Result<(), Fault> {
         take_events(end)?;
         for _ in self.opened..self.count {
             self.open_one(end)?;
@@ -37,7 +38,7 @@ impl Work for Idle {
         Ok(())
     }
 
-    fn server(&mut self, end: &mut End) -> Result<bool, Fault> {
+    fn server(&mut self, end: &mut impl Endpoint) -> Result<bool, Fault> {
         self.reader.read_all(end, &mut self.events)?;
         Ok(self.reader.bytes == self.count)
     }
@@ -64,7 +65,7 @@ struct Streams {
 
 impl Streams {
     /// Opens a stream, writes all its bytes and finishes it: whether one may be opened.
-    fn send_one(&mut self, end: &mut End) -> Result<bool, Fault> {
+    fn send_one(&mut self, end: &mut impl Endpoint) -> Result<bool, Fault> {
         let Some(id) = open(end, Dir::Uni) else {
             return Ok(false);
         };
@@ -75,7 +76,7 @@ impl Streams {
 }
 
 impl Work for Streams {
-    fn client(&mut self, end: &mut End) -> Result<(), Fault> {
+    fn client(&mut self, end: &mut impl Endpoint) -> Result<(), Fault> {
         take_events(end)?;
         let most = self
             .reader
@@ -90,7 +91,7 @@ impl Work for Streams {
         Ok(())
     }
 
-    fn server(&mut self, end: &mut End) -> Result<bool, Fault> {
+    fn server(&mut self, end: &mut impl Endpoint) -> Result<bool, Fault> {
         self.reader.read_all(end, &mut self.events)?;
         Ok(self.reader.ended == self.count)
     }
@@ -113,7 +114,7 @@ impl Work for Streams {
 /// - [`Fault`]: as [`Pair::measure`] answers.
 pub fn run<R: Clock + CpuClock + AllocGlobal>(
     rt: &R,
-    pair: &mut Pair,
+    pair: &mut Pair<impl Endpoint>,
     count: u64,
     size: u64,
     at_once: u64,
@@ -149,7 +150,7 @@ fn to_hold(count: u64) -> Idle {
 /// # Errors
 ///
 /// - [`Fault`]: as [`Pair::run`] answers.
-pub fn hold_open(pair: &mut Pair, count: u64) -> Result<(), Fault> {
+pub fn hold_open(pair: &mut Pair<impl Endpoint>, count: u64) -> Result<(), Fault> {
     if count == 0 {
         return Ok(());
     }
@@ -163,7 +164,7 @@ pub fn hold_open(pair: &mut Pair, count: u64) -> Result<(), Fault> {
 /// - [`Fault`]: as [`Pair::measure`] answers.
 pub fn run_idle<R: Clock + CpuClock>(
     rt: &R,
-    pair: &mut Pair,
+    pair: &mut Pair<impl Endpoint>,
     count: u64,
 ) -> Result<Figures, Fault> {
     pair.measure(rt, &mut to_hold(count))

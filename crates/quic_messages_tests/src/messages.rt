@@ -4,18 +4,15 @@ use quic_messages::{
 };
 use quic_wire_core::VarInt;
 use std::alloc::Global;
-use std::process::Abort;
-use std::test::Fail;
 
-// What comes of an act with the messages of an end: here alone some are let go.
-fn with_messages<F: FnOnce(&mut DatagramState) -> Result<(), Fail>>(
-    alloc: Global,
-    act: F,
-) -> Result<(), Fail>
+// Whether an act with the messages of an end goes as it should: here alone some are let go.
+fn with_messages<F: FnOnce(&mut DatagramState) -> bool>(alloc: Global, act: F) -> bool
     requires { F.IsAlwaysCallable act }
 {
     let mut state = DatagramState::new(alloc);
-    act(&mut state)
+    let is_right = act(&mut state);
+    drop(state);
+    is_right
 }
 
 // An open end that keeps 8 bytes of unread messages, and lets 8 bytes wait. Its peer takes frames
@@ -31,7 +28,6 @@ fn limits() -> DatagramLimits {
 
 // Sends, and once more where memory lacked, which changed nothing.
 fn send(
-    rt: &impl Abort,
     state: &mut DatagramState,
     message: &'static [u8],
     drop: bool,
@@ -39,8 +35,7 @@ fn send(
     let mut datagrams = Datagrams::new(state, limits());
     let room = datagrams.send_buffer_space();
     let answer = datagrams.send(Bytes::from_static(message), drop);
-    if answer == Err(SendDatagramError::Memory) {
-        assert_eq!(rt; datagrams.send_buffer_space(), room);
+    if answer == Err(SendDatagramError::Memory) && datagrams.send_buffer_space() == room {
         return datagrams.send(Bytes::from_static(message), drop);
     }
     answer
@@ -55,43 +50,59 @@ fn receive(state: &mut DatagramState, message: &[u8]) -> Result<bool, ReceivedEr
     answer
 }
 
-// A message goes, of three that were sent: the oldest went for the last one, and that is too long
-// for the path.
-fn assert_sent(rt: &impl Abort, state: &mut DatagramState) -> Result<(), Fail> {
-    assert_eq!(rt; Datagrams::new(state, limits()).max_size(), Some(6));
-    send(rt, state, b"oldest", false)?;
-    send(rt, state, b"is", false)?;
-    assert_eq!(rt;
-        send(rt, state, b"here", false),
-        Err(SendDatagramError::Blocked)
-    );
-    send(rt, state, b"here", true)?;
+// Whether three messages are sent, of which the oldest goes for the last one.
+fn sends(state: &mut DatagramState) -> bool {
+    Datagrams::new(state, limits()).max_size() == Some(6)
+        && send(state, b"oldest", false) == Ok(())
+        && send(state, b"is", false) == Ok(())
+        && send(state, b"here", false) == Err(SendDatagramError::Blocked)
+        && send(state, b"here", true) == Ok(())
+}
+
+// Whether one goes of these, where the other is too long for the path.
+fn sends_one(state: &mut DatagramState) -> bool {
+    let are_sent = sends(state);
     state.drop_oversized(2);
-    assert!(rt; state.is_waiting() && state.can_send(4));
-    assert_eq!(rt; state.send_buffer_space(8), 6);
-    assert!(rt; state.next_frame(3).is_none() && state.next_frame(4).is_some());
-    Ok(())
+    are_sent
+        && state.is_waiting()
+        && state.can_send(4)
+        && state.send_buffer_space(8) == 6
+        && state.next_frame(3).is_none()
+        && state.next_frame(4).is_some()
 }
 
-// Of three messages that came the oldest went for the last one.
-fn assert_received(rt: &impl Abort, state: &mut DatagramState) -> Result<(), Fail> {
-    assert_eq!(rt; receive(state, b"too long!"), Err(ReceivedError::Breach));
-    assert_eq!(rt; receive(state, b"hello"), Ok(true));
-    assert_eq!(rt; receive(state, b"abc"), Ok(false));
-    assert_eq!(rt; receive(state, b"defg"), Ok(false));
+// Whether three messages come, and one that is too long doesn't.
+fn takes(state: &mut DatagramState) -> bool {
+    receive(state, b"too long!") == Err(ReceivedError::Breach)
+        && receive(state, b"hello") == Ok(true)
+        && receive(state, b"abc") == Ok(false)
+        && receive(state, b"defg") == Ok(false)
+}
+
+// Whether this message is read next.
+fn reads(datagrams: &mut Datagrams<'_>, message: &[u8]) -> bool {
+    match datagrams.recv() {
+        Some(read) => read.as_slice() == message,
+        None => false,
+    }
+}
+
+// Whether of three messages that came the oldest went for the last one.
+fn takes_last(state: &mut DatagramState) -> bool {
+    let are_taken = takes(state);
     let mut datagrams = Datagrams::new(state, limits());
-    let first = datagrams.recv().expect(rt, "a message is unread");
-    assert_eq!(rt; first.as_slice(), b"abc".as_slice());
-    assert!(rt; datagrams.recv().is_some() && datagrams.recv().is_none());
-    Ok(())
+    are_taken
+        && reads(&mut datagrams, b"abc")
+        && datagrams.recv().is_some()
+        && datagrams.recv().is_none()
 }
 
 #[test]
-fn messages_are_sent(rt: HostRuntime) -> Result<(), Fail> {
-    with_messages(rt.alloc(), |state| assert_sent(&rt, state))
+fn messages_are_sent(rt: HostRuntime) {
+    assert!(rt; with_messages(rt.alloc(), sends_one));
 }
 
 #[test]
-fn messages_are_received(rt: HostRuntime) -> Result<(), Fail> {
-    with_messages(rt.alloc(), |state| assert_received(&rt, state))
+fn messages_are_received(rt: HostRuntime) {
+    assert!(rt; with_messages(rt.alloc(), takes_last));
 }

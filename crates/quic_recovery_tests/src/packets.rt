@@ -4,23 +4,20 @@ use quic_sent_packets::SentPacket;
 use quic_spaces::PacketSpace;
 use quic_time::Instant;
 use std::alloc::{AllocError, Global};
-use std::process::Abort;
-use std::test::Fail;
 
 pub(crate) fn at(micros: u64) -> Instant {
     Instant::from_nanos(micros.saturating_mul(1000))
 }
 
-// What comes of an act with a new space: here alone it is let go, since each function that owns one
-// is proved to let it go wherever it ends.
-pub(crate) fn with_space<F: FnOnce(&mut PacketSpace) -> Result<(), Fail>>(
-    alloc: Global,
-    act: F,
-) -> Result<(), Fail>
+// Whether an act with a new space goes as it should: here alone it is let go, since each function
+// that owns one is proved to let it go wherever it ends.
+pub(crate) fn with_space<F: FnOnce(&mut PacketSpace, Global) -> bool>(alloc: Global, act: F) -> bool
     requires { F.IsAlwaysCallable act }
 {
     let mut space = PacketSpace::new(alloc, at(0));
-    act(&mut space)
+    let is_right = act(&mut space, alloc);
+    drop(space);
+    is_right
 }
 
 // A packet that carried nothing that has to be sent again.
@@ -49,15 +46,15 @@ pub(crate) fn sent(
 }
 
 // Where memory lacks, no packet is tracked yet, and it goes again.
-pub(crate) fn send<R: Abort + AllocGlobal>(
-    rt: &R,
+pub(crate) fn send(
     space: &mut PacketSpace,
+    alloc: Global,
     number: u64,
     micros: u64,
     asks: bool,
 ) -> Result<Option<Instant>, AllocError> {
-    match sent(space, number, packet(rt.alloc(), micros, asks)) {
+    match sent(space, number, packet(alloc, micros, asks)) {
         Ok(forgotten) => Ok(forgotten),
-        Err(_) => sent(space, number, packet(rt.alloc(), micros, asks)),
+        Err(_) => sent(space, number, packet(alloc, micros, asks)),
     }
 }

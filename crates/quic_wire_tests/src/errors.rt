@@ -5,106 +5,93 @@ use quic_wire::{
     Code, FrameType, HeaderError, Reason, TooShort, TransportError, TransportParametersError,
     UnexpectedEnd, VarIntBoundsExceeded,
 };
-use std::alloc::AllocError;
+use std::alloc::Global;
 use std::fmt::Display;
-use std::test::Fail;
 
-/// Whether an error is printed so.
-fn prints<E: Display>(rt: &HostRuntime, error: &E, wanted: &str) -> Result<bool, AllocError> {
-    let text = format!(in rt.alloc(); "{error}")?;
-    Ok(text.as_str() == wanted)
-}
-
-#[test]
-fn errors_of_bytes_are_printed(rt: HostRuntime) -> Result<(), Fail> {
-    assert!(rt;
-        prints(
-            &rt,
-            &VarIntBoundsExceeded,
-            "value too large for varint encoding"
-        )?
-    );
-    assert!(rt; prints(&rt, &UnexpectedEnd, "unexpected end of buffer")?);
-    assert!(rt; prints(&rt, &TooShort, "too few bytes for a connection id")?);
-    assert!(rt; prints(&rt, &NotOpened, "the packet does not open")?);
-    Ok(())
-}
-
-#[test]
-fn errors_of_headers_are_printed(rt: HostRuntime) -> Result<(), Fail> {
-    let cases = [
-        (HeaderError::TooShort, "the datagram is too short"),
-        (HeaderError::NotShort, "not a short header"),
-        (HeaderError::FixedBit, "the fixed bit is 0"),
-        (HeaderError::UnknownId, "unknown connection id"),
-    ];
-    for (error, text) in cases {
-        assert!(rt; prints(&rt, &error, text)?);
+/// Whether an error is printed so. Nothing is, where memory lacks.
+fn prints<E: Display>(alloc: Global, error: &E, wanted: &str) -> bool {
+    match format!(in alloc; "{error}") {
+        Ok(text) => text.as_str() == wanted,
+        Err(_) => false,
     }
-    Ok(())
 }
 
 #[test]
-fn refused_frames_say_why(rt: HostRuntime) -> Result<(), Fail> {
-    let cases = [
-        (
-            FrameError::UnexpectedEnd,
-            "unexpected end",
-            Reason::UnexpectedEnd,
-        ),
-        (FrameError::Malformed, "malformed", Reason::Malformed),
-        (
-            FrameError::InvalidId,
-            "invalid frame ID",
-            Reason::InvalidFrameId,
-        ),
-    ];
-    for (reason, text, told) in cases {
-        let error = TransportError::from(InvalidFrame { ty: None, reason });
-        assert!(rt; prints(&rt, &reason, text)?);
-        assert!(rt; error.reason() == told);
-    }
-    let invalid = InvalidFrame {
-        ty: None,
-        reason: FrameError::Malformed,
-    };
-    assert!(rt; prints(&rt, &invalid, "invalid frame: malformed")?);
-    Ok(())
+fn errors_of_bytes_are_printed(rt: HostRuntime) {
+    let alloc = rt.alloc();
+    let are_printed = prints(
+        alloc,
+        &VarIntBoundsExceeded,
+        "value too large for varint encoding",
+    ) && prints(alloc, &UnexpectedEnd, "unexpected end of buffer")
+        && prints(alloc, &TooShort, "too few bytes for a connection id")
+        && prints(alloc, &NotOpened, "the packet does not open");
+    assert!(rt; are_printed);
 }
 
 #[test]
-fn refused_parameters_say_why(rt: HostRuntime) -> Result<(), Fail> {
-    let cases = [
-        (
-            TransportParametersError::Malformed,
-            "parameters are malformed",
-            Reason::Malformed,
-        ),
-        (
-            TransportParametersError::IllegalValue,
-            "parameter had illegal value",
-            Reason::IllegalValue,
-        ),
-    ];
-    for (error, text, told) in cases {
-        assert!(rt; prints(&rt, &error, text)?);
-        assert!(rt; TransportError::from(error).reason() == told);
-    }
-    Ok(())
+fn errors_of_headers_are_printed(rt: HostRuntime) {
+    let alloc = rt.alloc();
+    let are_printed = prints(alloc, &HeaderError::TooShort, "the datagram is too short")
+        && prints(alloc, &HeaderError::NotShort, "not a short header")
+        && prints(alloc, &HeaderError::FixedBit, "the fixed bit is 0")
+        && prints(alloc, &HeaderError::UnknownId, "unknown connection id");
+    assert!(rt; are_printed);
+}
+
+/// Whether a frame that is refused so is printed so, and gives that reason.
+fn refuses(alloc: Global, reason: FrameError, wanted: &str, told: Reason) -> bool {
+    let error = TransportError::from(InvalidFrame { ty: None, reason });
+    prints(alloc, &reason, wanted) && error.reason() == told
+}
+
+/// A frame that is refused.
+const INVALID: InvalidFrame = InvalidFrame {
+    ty: None,
+    reason: FrameError::Malformed,
+};
+
+#[test]
+fn refused_frames_say_why(rt: HostRuntime) {
+    let alloc = rt.alloc();
+    let (end, id) = (Reason::UnexpectedEnd, Reason::InvalidFrameId);
+    let say_why = refuses(alloc, FrameError::UnexpectedEnd, "unexpected end", end)
+        && refuses(alloc, FrameError::Malformed, "malformed", Reason::Malformed)
+        && refuses(alloc, FrameError::InvalidId, "invalid frame ID", id)
+        && prints(alloc, &INVALID, "invalid frame: malformed");
+    assert!(rt; say_why);
+}
+
+/// Whether parameters that are refused so are told so, and give that reason.
+fn are_unfit(alloc: Global, error: TransportParametersError, wanted: &str, told: Reason) -> bool {
+    prints(alloc, &error, wanted) && TransportError::from(error).reason() == told
 }
 
 #[test]
-fn reasons_stay(rt: HostRuntime) -> Result<(), Fail> {
-    let code = Code::FLOW_CONTROL_ERROR;
+fn refused_parameters_say_why(rt: HostRuntime) {
+    let alloc = rt.alloc();
+    let malformed = TransportParametersError::Malformed;
+    let illegal = TransportParametersError::IllegalValue;
+    let (text, why) = ("parameter had illegal value", Reason::IllegalValue);
+    let say_why = are_unfit(
+        alloc,
+        malformed,
+        "parameters are malformed",
+        Reason::Malformed,
+    ) && are_unfit(alloc, illegal, text, why);
+    assert!(rt; say_why);
+}
+
+/// Whether an error of that code says all that it is told.
+fn stays(alloc: Global, code: Code) -> bool {
     let error = TransportError::new(code, Some(FrameType::STREAM), Reason::TooManyBytes);
-    assert!(rt;
-        prints(
-            &rt,
-            &error,
-            "FLOW_CONTROL_ERROR in STREAM: past a limit on bytes"
-        )?
-    );
-    assert!(rt; error.copied().reason() == Reason::TooManyBytes);
-    assert!(rt; TransportError::from(code).reason() == Reason::Unsaid);
-    Ok(())
+    let wanted = "FLOW_CONTROL_ERROR in STREAM: past a limit on bytes";
+    prints(alloc, &error, wanted)
+        && error.copied().reason() == Reason::TooManyBytes
+        && TransportError::from(code).reason() == Reason::Unsaid
+}
+
+#[test]
+fn reasons_stay(rt: HostRuntime) {
+    assert!(rt; stays(rt.alloc(), Code::FLOW_CONTROL_ERROR));
 }

@@ -1,12 +1,13 @@
 //! Both ends have the keys, and exchange data; half of the payloads are changed in one byte before
 //! they are sealed.
 use crate::application::{finish, open, pattern, write};
+use crate::endpoint::Endpoint;
 use crate::fault::Fault;
 use crate::figures::{Figures, Watch};
 use crate::hostile::change::change;
 use crate::hostile::tally::Tally;
 use crate::hostile::victim::Victim;
-use crate::pair::{End, Pair, expire};
+use crate::pair::{Pair, expire};
 use quic_connection::{Copies, Dir, Instant, StreamId, VarInt};
 use quic_wire_core::Side;
 use std::alloc::{AllocError, Global};
@@ -64,14 +65,14 @@ impl Exchange {
     }
 
     /// Writes on a stream some bytes.
-    fn write(&self, end: &mut End, id: StreamId, len: usize) -> Result<(), Fault> {
+    fn write(&self, end: &mut impl Endpoint, id: StreamId, len: usize) -> Result<(), Fault> {
         let data = self.data.as_slice();
         write(end, id, &data[..len.min(data.len())])?;
         Ok(())
     }
 
     /// Sends a message of some bytes.
-    fn send(&mut self, end: &mut End, len: usize) -> Result<(), Fault> {
+    fn send(&mut self, end: &mut impl Endpoint, len: usize) -> Result<(), Fault> {
         let data = self.data.as_slice();
         let message = self.copies.copy(&data[..len.min(data.len())])?;
         match end.datagrams().send(message, true) {
@@ -80,7 +81,7 @@ impl Exchange {
     }
 
     /// An application does one thing, as a word says.
-    fn act(&mut self, end: &mut End, word: u64) -> Result<(), Fault> {
+    fn act(&mut self, end: &mut impl Endpoint, word: u64) -> Result<(), Fault> {
         let id = stream_in(word >> 8);
         let code = VarInt::from_u32(7);
         let len = (word >> 16) as usize % 3000;
@@ -110,8 +111,8 @@ impl Exchange {
     fn pass(
         &mut self,
         side: Side,
-        from: &mut End,
-        to: &mut End,
+        from: &mut impl Endpoint,
+        to: &mut impl Endpoint,
         now: Instant,
         word: u64,
     ) -> Result<bool, Fault> {
@@ -132,8 +133,8 @@ impl Exchange {
     fn turn(
         &mut self,
         side: Side,
-        from: &mut End,
-        to: &mut End,
+        from: &mut impl Endpoint,
+        to: &mut impl Endpoint,
         now: u64,
         word: u64,
     ) -> Result<(), Fault> {
@@ -150,22 +151,20 @@ impl Exchange {
     }
 
     /// Each end has a turn.
-    fn round(&mut self, pair: &mut Pair) -> Result<(), Fault> {
+    fn round(&mut self, pair: &mut Pair<impl Endpoint>) -> Result<(), Fault> {
         let (word, other) = (pair.up.draw(), pair.up.draw());
         // Up to 16 ms go by.
         pair.now = pair.now.saturating_add(word >> 40);
-        let ends = pair.ends.as_mut();
-        let (client, server) = (&mut ends.client, &mut ends.server);
+        let (client, server) = (pair.client.as_mut(), pair.server.as_mut());
         self.turn(Side::Client, client, server, pair.now, word)?;
         self.turn(Side::Server, server, client, pair.now, other)
     }
 
     /// A pair of ends lives: until one of them is closed, or each had so many turns.
-    fn live(&mut self, pair: &mut Pair) -> Result<(), Fault> {
+    fn live(&mut self, pair: &mut Pair<impl Endpoint>) -> Result<(), Fault> {
         for _ in 0..TURNS {
             self.round(pair)?;
-            let ends = pair.ends.as_ref();
-            if ends.client.is_closed() || ends.server.is_closed() {
+            if pair.client.as_ref().is_closed() || pair.server.as_ref().is_closed() {
                 break;
             }
         }
@@ -173,7 +172,12 @@ impl Exchange {
     }
 
     /// One pair lives after another until so many datagrams came: how many pairs these are.
-    fn live_on(&mut self, alloc: Global, pair: &mut Pair, count: u64) -> Result<u64, Fault> {
+    fn live_on(
+        &mut self,
+        alloc: Global,
+        pair: &mut Pair<impl Endpoint>,
+        count: u64,
+    ) -> Result<u64, Fault> {
         for pairs in 0..u64::MAX {
             if self.tally.came >= count {
                 return Ok(pairs);
@@ -201,7 +205,7 @@ impl Exchange {
 /// - [`Fault::Print`]: the counts can't be printed.
 pub fn run<R: Clock + CpuClock + Print + AllocGlobal>(
     rt: &R,
-    pair: &mut Pair,
+    pair: &mut Pair<impl Endpoint>,
     count: u64,
 ) -> Result<Figures, Fault> {
     let mut exchange = Exchange::new(rt.alloc())?;

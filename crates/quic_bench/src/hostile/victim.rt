@@ -1,7 +1,7 @@
 //! What the end does that is attacked, and its application.
 use crate::application::{Reader, accept, pattern, take_events};
+use crate::endpoint::Endpoint;
 use crate::fault::Fault;
-use crate::pair::End;
 use quic_connection::{Copies, Dir, Event, Instant, StreamEvent, StreamId, VarInt};
 use std::alloc::Global;
 
@@ -27,7 +27,7 @@ pub fn number_of(datagram: &[u8]) -> Option<u64> {
 }
 
 /// Reads all messages.
-fn take_messages(end: &mut End) {
+fn take_messages(end: &mut impl Endpoint) {
     for _ in 0..u64::MAX {
         if end.datagrams().recv().is_none() {
             break;
@@ -36,7 +36,7 @@ fn take_messages(end: &mut End) {
 }
 
 /// Resets a stream on which nothing more is to be sent.
-fn reset(end: &mut End, id: StreamId, code: VarInt) -> Result<(), Fault> {
+fn reset(end: &mut impl Endpoint, id: StreamId, code: VarInt) -> Result<(), Fault> {
     match end.send_stream(id).reset(code) {
         Ok(()) => Ok(()),
         Err(_) => Err(Fault::ClosedStream),
@@ -49,7 +49,12 @@ fn reset(end: &mut End, id: StreamId, code: VarInt) -> Result<(), Fault> {
 ///
 /// - [`Fault::Memory`]: an allocation fails. Those before are queued.
 /// - [`Fault`]: as the endpoint answers.
-pub fn queue_messages(end: &mut End, alloc: Global, count: u64, size: usize) -> Result<(), Fault> {
+pub fn queue_messages(
+    end: &mut impl Endpoint,
+    alloc: Global,
+    count: u64,
+    size: usize,
+) -> Result<(), Fault> {
     let mut copies = Copies::new(alloc);
     let mut data = pattern(alloc)?;
     data.truncate(end.datagrams().max_size().unwrap_or(0).min(size));
@@ -72,7 +77,7 @@ impl Victim {
     }
 
     /// Reads a stream, which may have been reset.
-    fn read(&mut self, end: &mut End, id: StreamId) -> Result<(), Fault> {
+    fn read(&mut self, end: &mut impl Endpoint, id: StreamId) -> Result<(), Fault> {
         match self.reader.read(end, id) {
             Ok(_) | Err(Fault::Reset) => Ok(()),
             Err(fault) => Err(fault),
@@ -80,7 +85,7 @@ impl Victim {
     }
 
     /// Accepts all streams of a kind, and reads each.
-    fn accept_all(&mut self, end: &mut End, dir: Dir) -> Result<(), Fault> {
+    fn accept_all(&mut self, end: &mut impl Endpoint, dir: Dir) -> Result<(), Fault> {
         for _ in 0..u64::MAX {
             let Some(id) = accept(end, dir) else {
                 break;
@@ -91,7 +96,7 @@ impl Victim {
     }
 
     /// Does what an event of a stream asks for.
-    fn answer_stream(&mut self, end: &mut End, event: &StreamEvent) -> Result<(), Fault> {
+    fn answer_stream(&mut self, end: &mut impl Endpoint, event: &StreamEvent) -> Result<(), Fault> {
         match event {
             StreamEvent::Opened { dir } => self.accept_all(end, *dir),
             StreamEvent::Readable { id } => self.read(end, *id),
@@ -103,7 +108,7 @@ impl Victim {
     }
 
     /// Does what an event asks for.
-    fn answer(&mut self, end: &mut End, event: &Event) -> Result<(), Fault> {
+    fn answer(&mut self, end: &mut impl Endpoint, event: &Event) -> Result<(), Fault> {
         match event {
             Event::Stream(event) => self.answer_stream(end, event),
             Event::Message => {
@@ -115,7 +120,7 @@ impl Victim {
     }
 
     /// Takes all events, and does what they ask for.
-    fn answer_all(&mut self, end: &mut End) -> Result<(), Fault> {
+    fn answer_all(&mut self, end: &mut impl Endpoint) -> Result<(), Fault> {
         for _ in 0..u64::MAX {
             let Some(event) = end.poll() else {
                 break;
@@ -133,7 +138,7 @@ impl Victim {
     /// - [`Fault::IllegalOrderedRead`]: a stream was read out of order before.
     /// - [`Fault::ClosedStream`]: a stream can't be reset that the peer stopped.
     /// - [`Fault::Memory`]: an allocation fails.
-    pub fn act(&mut self, end: &mut End, reads: bool) -> Result<(), Fault> {
+    pub fn act(&mut self, end: &mut impl Endpoint, reads: bool) -> Result<(), Fault> {
         if reads {
             self.answer_all(end)
         } else {
@@ -150,7 +155,7 @@ impl Victim {
     /// - [`Fault::Memory`]: an allocation fails beside it. What was sent before stays sent.
     pub fn transmit(
         &mut self,
-        end: &mut End,
+        end: &mut impl Endpoint,
         now: u64,
         numbers: &mut Vec<u64>,
     ) -> Result<(), Fault> {
