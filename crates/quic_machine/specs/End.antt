@@ -103,9 +103,9 @@ abbrev pub first_streams : Side → Settings → ParameterValues → StreamsStat
 first_streams side settings theirs = after_set_params (new_streams side settings.max_uni settings.max_bidi settings.send_window settings.receive_window settings.stream_receive_window) theirs
 
 -- an end as it is made at a moment for a peer at this address, whose random source answers these
--- words, and whose controller shows these windows: the first word says which packet number is left out first, and the next ones
--- are the ids that it issues at once, of which the peer has to be told. It has asked its peer for
--- nothing
+-- words, and whose controller shows these windows: the first word says which packet number is left
+-- out first, and the next ones are the ids that it issues at once, of which the peer has to be told.
+-- It has asked its peer for nothing
 abbrev pub silent_end : Side → Settings → Windows → ParameterValues → List ℕ → List ℕ → ℕ → ℕ → Bool → (ℕ → ℕ) → End
 silent_end side settings windows theirs own_id peer_id remote now validated words = record {
   closing = record { clock = now; state = states.Open; reason = None; told = false; close = None; owed = false };
