@@ -58,8 +58,8 @@ pub record IsNew (options : Options) (new : NewEnd) (held : Held) : Type 0 where
   pub random : stream_from held.random ≡ after_words (words_drawn held.end) (source_stream options.source)
   pub heard : held.heard ≡ nothing_heard
 
--- how bytes come to an end, at a moment and with a mark or with none: whether the last packet comes
--- that may not open is by what it has counted
+-- how bytes come to an end from its peer's address, at a moment and with a mark or with none:
+-- whether the last packet comes that may not open is by what it has counted
 abbrev pub arrival_at : Held → ℕ → Option EcnCodepoint → Arrival
 arrival_at old now mark = arriving now 0 mark (is_last (policy_at old).openings old.heard)
 
@@ -68,7 +68,7 @@ arrival_at old now mark = arriving now 0 mark (is_last (policy_at old).openings 
 pub record Receives (now : ℕ) (mark : Option EcnCodepoint) (bytes : List ℕ) (old : Held) (text : List ℕ) (new : Held) : Type 0 where
   pub answer : Received
   pub is_answer : answer ≢ receives_as.Failed → answer ≡ (received (policy_at old) old.end (arrival_at old now mark) bytes).answer
-  pub left : answer ≢ receives_as.Failed → new ≡ drawing new.random (telling reno_steps (hearing old (heard_datagram bytes answer old.heard)) (told_received (policy_at old) old.end (arrival_at old now mark) bytes) (received (policy_at old) old.end (arrival_at old now mark) bytes).end)
+  pub left : answer ≢ receives_as.Failed → new ≡ drawing new.random (telling reno_steps (hearing old (heard_datagram bytes answer old.heard)) (told_received (policy_at old) old.end (arriving now 0 mark false) bytes) (received (policy_at old) old.end (arrival_at old now mark) bytes).end)
   pub failed : answer ≡ receives_as.Failed → HasFailed old new
   pub line : text ≡ line_text (codes "receive") (received_text answer)
 

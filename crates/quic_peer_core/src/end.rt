@@ -74,7 +74,7 @@ pub(crate) fn take(alloc: Global, end: &mut End, datagram: &Injection) -> Result
         end.new) }
 {
     let mut bytes = Vec::from_slice(alloc, datagram.bytes.as_slice())?;
-    let received = end.receive(datagram.now, datagram.remote, datagram.ecn, &mut bytes);
+    let received = end.receive(datagram.now, Address(0), datagram.ecn, &mut bytes);
     let mut out = String::from_str(alloc, "receive ")?;
     put_received(&mut out, &received)?;
     out.push_str("\n")?;
