@@ -27,8 +27,8 @@ const MOST_POLLS: u64 = 10_000;
 /// Lets two endpoints talk until both rest, from this time on. Each is polled until it gives
 /// nothing, the client first, and each datagram is delivered to the other at once, from the address
 /// at which that one has its peer and without an ECN codepoint, until a round of both gives no
-/// datagram. If a loss, acknowledgement or pacing timer is set then, time goes on to the earliest of
-/// them, or stays if that has passed, both endpoints handle it, and they go on.
+/// datagram. If a loss, acknowledgement or pacing timer is set then, time goes on to the earliest
+/// of them, or stays if that has passed, both endpoints handle it, and they go on.
 ///
 /// The answer is the time at which both rest: they are open, the last call at each was a poll that
 /// answered `None`, and none of these timers is set. Whether their paths are validated isn't
