@@ -27,6 +27,7 @@ mod id_frames;
 mod idle;
 mod limits;
 mod messages;
+mod migration;
 mod packet;
 mod polling;
 mod receiving;
@@ -347,7 +348,8 @@ impl<H: HeaderKey + Drop, K: PacketKey + Drop, R: Rng + Drop, C: Controller> Con
     }
 
     /// Whether the peer's address is validated (RFC 9000, section 8): it was as the endpoint was
-    /// made, or the peer answered a PATH_CHALLENGE. It stays so.
+    /// made, or the peer answered a PATH_CHALLENGE. It stays so until the peer moves to another
+    /// address, as it may at a server (section 9).
     pub fn is_validated(&self) -> bool
         ensures { result ≡ self.now.end.path.validated }
     {
