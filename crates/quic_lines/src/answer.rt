@@ -197,8 +197,7 @@ pub fn mark_name(ecn: Option<EcnCodepoint>) -> &'static str
     }
 }
 
-/// Appends which datagram of its end it is, its size and its mark, and the address to which it goes,
-/// where that isn't 0.
+/// Appends which datagram of its end it is, its size, its mark, and its address where that isn't 0.
 fn put_transmit(out: &mut String, transmit: &Transmit, index: usize) -> Result<(), AllocError>
     ensures { OnOk result (string_bytes out.new ≡ string_bytes out.old ++ transmit_text index transmit.now) }
 {

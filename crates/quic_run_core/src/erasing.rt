@@ -14,7 +14,8 @@ use std::io::Read;
 /// Runs a script as [`run_script`](crate::run_script) does, prints nothing, and answers its lines
 /// less those that change nothing: `inject` lines, and `deliver` lines that are answered `dropped`
 /// with `tooshort`, `notshort`, `fixedbit`, `unknownid`, `notopened`, `keyphase`, `duplicate` or
-/// `address`. Each line that stays is ended by a line feed, also the last. It returns on any script.
+/// `address`. Each line that stays is ended by a line feed, also the last. It returns on any
+/// script.
 ///
 /// # Errors
 ///

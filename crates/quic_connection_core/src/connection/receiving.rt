@@ -47,14 +47,14 @@ impl<H: HeaderKey + Drop, K: PacketKey + Drop, R: Rng + Drop, C: Controller> Con
     /// were taken before, and it doesn't only probe (sections 9.1 and 9.3): the path is another one
     /// then, on which the datagram counts, whose address isn't validated and is challenged, and
     /// which begins with the next ID of the peer, if that is known and 80 retirements at most would
-    /// wait (section 9.5). Round trip, congestion controller and path MTU discovery go on. From
-    /// elsewhere frames of path validation do nothing but by such a packet.
+    /// wait (section 9.5). Round trip, congestion controller and path MTU discovery go on. Frames
+    /// of path validation from elsewhere do nothing, unless such a packet has them.
     ///
-    /// It counts as a failure if its packet doesn't open: with the last that the peer's key may refuse, an open endpoint
-    /// closes for [`LostReason::KeyLimit`] (RFC 9001, section 6.6). A datagram that is dropped
-    /// changes nothing else but what [`stats`](Self::stats) counts. The exception is a new packet
-    /// that a closing endpoint opened: its number counts as seen, and CONNECTION_CLOSE may be sent
-    /// once more (section 10.2.1).
+    /// It counts as a failure if its packet doesn't open: with the last that the peer's key may
+    /// refuse, an open endpoint closes for [`LostReason::KeyLimit`] (RFC 9001, section 6.6). A
+    /// datagram that is dropped changes nothing else but what [`stats`](Self::stats) counts. The
+    /// exception is a new packet that a closing endpoint opened: its number counts as seen, and
+    /// CONNECTION_CLOSE may be sent once more (section 10.2.1).
     ///
     /// If it breaks a rule, the endpoint closes; the frames before keep their effect, and its
     /// number isn't acknowledged. If the peer closes, the number counts, the endpoint is drained at
