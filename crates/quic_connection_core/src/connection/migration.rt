@@ -1,8 +1,9 @@
 //! A peer that moves to another address (RFC 9000, section 9): a client's doesn't, and a server
 //! follows it there.
-ghost use Rattle.std.specs.Prelude.{◌≡◌, ◌≢◌, ◌+◌, ◌-◌, ◌<◌, ◌^◌, nat_lt, OnOk, OnErr};
+ghost use Rattle.std.specs.Prelude.{◌≡◌, ◌≢◌, ◌-◌, ◌<◌, ℕ, nat_lt, OnOk, OnErr};
 ghost use Rattle.quic_time.specs.Timers.{no_timers};
 ghost use Rattle.quic_wire.specs.Items.{items};
+ghost use Rattle.quic_spaces.specs.Numbers.{expected};
 ghost use Rattle.quic_machine.specs.End.{with_end, hearing, drawing, policy_of, HasFailed, words_drawn};
 ghost use Rattle.quic_machine.specs.Heard.{heard_moved};
 ghost use Rattle.quic_machine.specs.Validation.{challenged_anew, most_challenges};
@@ -49,7 +50,7 @@ impl<H: HeaderKey + Drop, K: PacketKey + Drop, R: Rng + Drop, C: Controller> Con
     /// The peer has moved to this address, as a datagram of so many bytes said, whose frames were
     /// taken: what is answered to it. An allocation may fail.
     pub(crate) fn migrate(&mut self, remote: Address, len: u64, payload: &[u8]) -> Received
-        requires { self.old.end.path.generation < 2 ^ 64 - 1 }
+        requires { self.old.end.path.generation < expected self.old.end.numbers }
         ensures answer { result ≢ Received.Failed → result ≡ Received.Taken }
         ensures end { result ≢ Received.Failed → (first number : ℕ)
             → let after = migrated (policy_of H.protection K.aead K.seal_limit K.refusal_limit (words_of R.stream) self.old) (record { first = first; number = number; payload = payload.now }) remote self.old.end in
@@ -74,7 +75,7 @@ impl<H: HeaderKey + Drop, K: PacketKey + Drop, R: Rng + Drop, C: Controller> Con
     /// peer is asked to show that it receives there, by its next ID, if that may be used (RFC 9000,
     /// sections 9.3 and 9.5). Fails if out of memory; the endpoint is then unusable.
     fn change_path(&mut self, remote: Address, len: u64) -> Result<(), AllocError>
-        requires { self.old.end.path.generation < 2 ^ 64 - 1 }
+        requires { self.old.end.path.generation < expected self.old.end.numbers }
         ensures end { OnOk result (let there = with_path self.old.end (path_to remote self.old.end) in
             let after = next_id_if_allowed (challenged_anew (policy_of H.protection K.aead K.seal_limit K.refusal_limit (words_of R.stream) self.old).words (nat_lt there.validation.drawn most_challenges) there) in
             self.new ≡ drawing self.new.random (with_end (hearing self.old (heard_moved true len self.old.heard)) (repaced (C.window_of self.old.control) self.old.end after))) }
