@@ -1,6 +1,6 @@
 //! A peer that moves to another address (RFC 9000, section 9): a client's doesn't, and a server
 //! follows it there.
-ghost use Rattle.std.specs.Prelude.{◌≡◌, ◌≢◌, ◌-◌, ◌<◌, ℕ, nat_lt, OnOk, OnErr};
+ghost use Rattle.std.specs.Prelude.{◌≡◌, ◌≢◌, ◌-◌, ◌<◌, true, ℕ, nat_lt, OnOk, OnErr};
 ghost use Rattle.quic_time.specs.Timers.{no_timers};
 ghost use Rattle.quic_wire.specs.Items.{items};
 ghost use Rattle.quic_spaces.specs.Numbers.{expected};

@@ -88,6 +88,7 @@ impl<H: HeaderKey + Drop, K: PacketKey + Drop, R: Rng + Drop, C: Controller> Con
 
     /// Asks the peer to show that it receives at its address, by another PATH_CHALLENGE; but 2^64 -
     /// 1 times at most.
+    #[tactic(auto, using(quic_connection_parts::proofs::Drawing::draws_same))]
     pub(crate) fn challenge_anew(&mut self)
         ensures end { self.new ≡ drawing self.new.random (with_end self.old (challenged_anew (words_at R.stream self.old) (nat_lt self.old.end.validation.drawn most_challenges) self.old.end)) }
         ensures random { Draws R.stream self.old self.new }
