@@ -4,9 +4,9 @@ use crate::fault::Fault;
 use crate::lane::LEAST_MTU;
 use crate::pair::Limits;
 use quic_connection::{
-    AckFrequencyConfig, Config, Connection, ConnectionStats, Datagrams, EcnCodepoint, Event,
-    Failed, Instant, Making, NewReno, NewRenoConfig, NextIdError, Received, RecvStream, SendStream,
-    StreamId, Streams, Transmit, TransportConfig, TransportParameters,
+    AckFrequencyConfig, Address, Config, Connection, ConnectionStats, Datagrams, EcnCodepoint,
+    Event, Failed, Instant, Making, NewReno, NewRenoConfig, NextIdError, Received, RecvStream,
+    SendStream, StreamId, Streams, Transmit, TransportConfig, TransportParameters,
 };
 use quic_keys::{PlainHeaderKey, PlainKey, Words, keys_for};
 use quic_wire_core::{ConnectionId, Side};
@@ -17,6 +17,9 @@ pub type End = Connection<PlainHeaderKey, PlainKey, Words, NewReno>;
 
 /// Every random word of an end.
 const RANDOM_WORD: u64 = 63;
+
+/// By which number an end knows the address of its peer, which stays.
+const PEER: Address = Address(0);
 
 /// The first id of an end.
 fn id_of(side: Side) -> ConnectionId {
@@ -55,6 +58,7 @@ fn making(side: Side, limits: &Limits) -> Making<NewRenoConfig, PlainHeaderKey, 
         id: id_of(side),
         keys: keys_for(side),
         random: Words::word(RANDOM_WORD),
+        remote: PEER,
         validated: true,
     }
 }
@@ -85,7 +89,7 @@ impl Endpoint for End {
         ecn: Option<EcnCodepoint>,
         datagram: &mut [u8],
     ) -> Received {
-        Connection::receive(self, now, ecn, datagram)
+        Connection::receive(self, now, PEER, ecn, datagram)
     }
 
     #[inline(always)]

@@ -6,8 +6,8 @@ use crate::events::{EventRecord, text_of};
 use crate::figures::Stats;
 use crate::settings::Settings;
 use quic_connection::{
-    Bytes, Config, Connection, ConnectionId, DropReason, EcnCodepoint, Instant, Making, NewReno,
-    NewRenoConfig, Received, RecvStream, SendStream, Side, State, StreamId, Streams,
+    Address, Bytes, Config, Connection, ConnectionId, DropReason, EcnCodepoint, Instant, Making,
+    NewReno, NewRenoConfig, Received, RecvStream, SendStream, Side, State, StreamId, Streams,
     TransportConfig, TransportParameters, VarInt,
 };
 use quic_keys::{PlainHeaderKey, PlainKey};
@@ -147,11 +147,13 @@ fn making(
     config: Config<NewRenoConfig>,
     side: Side,
     id: ConnectionId,
+    remote: Address,
     random: ChaCha20Rng,
 ) -> Making<NewRenoConfig, PlainHeaderKey, PlainKey, ChaCha20Rng> {
     Making {
         config,
         id,
+        remote,
         keys: settings.keys(side),
         random,
         validated: settings.address_validated == 1,
@@ -194,7 +196,14 @@ impl Calls for Endpoint {
         let peer_id = id_of(peer.ids.peer)?;
         let room = longest_datagram(&config.transport());
         let out = Vec::with_capacity(alloc, room)?;
-        let making = making(settings, config, side, own_id, random);
+        let making = making(
+            settings,
+            config,
+            side,
+            own_id,
+            Address(peer.address),
+            random,
+        );
         let now = Instant::from_nanos(now);
         let conn = making.connection(alloc, side, now, peer.parameters, peer_id)?;
         Ok(Endpoint::boxed(alloc, conn, peer.address, room, out)?)
@@ -211,7 +220,10 @@ impl Calls for Endpoint {
         if address != self.address {
             return Ok(DROPPED_ADDRESS);
         }
-        match self.conn.receive(Instant::from_nanos(now), ecn, datagram) {
+        match self
+            .conn
+            .receive(Instant::from_nanos(now), Address(address), ecn, datagram)
+        {
             Received::Taken => Ok(0),
             Received::Dropped(reason) => dropped(reason),
             Received::Closed(_) => Err(CallError::Closed),
@@ -252,7 +264,7 @@ impl Calls for Endpoint {
     }
 
     fn would_open(&self, address: u64, scratch: &mut [u8]) -> bool {
-        address == self.address && self.conn.would_open(scratch)
+        address == self.address && self.conn.would_open(Address(address), scratch)
     }
 
     fn next_event(&mut self) -> Option<EventRecord> {

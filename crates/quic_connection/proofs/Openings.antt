@@ -43,41 +43,41 @@ counts_in states.Failed limit h a here = tt
 abbrev pub says : Received → Bool
 says a = says_last (answers.Deliver a)
 
-module _ (p : Policy) (e : End) (now : ℕ) (mark : Option EcnCodepoint) (d : List ℕ) where
+module _ (p : Policy) (e : End) (now remote : ℕ) (mark : Option EcnCodepoint) (d : List ℕ) where
   -- what comes comes to the same by what its answer says
   abbrev Same : (Bool → Outcome) → Bool → Type 0
   Same f b = f b ≡ f (says (f b).answer)
 
-  pub received_says : (b : Bool) → received p e (arriving now mark b) d ≡ received p e (arriving now mark (says (received p e (arriving now mark b) d).answer)) d
+  pub received_says : (b : Bool) → received p e (arriving now remote mark b) d ≡ received p e (arriving now remote mark (says (received p e (arriving now remote mark b) d).answer)) d
   received_says b = go e.closing.state
     where
-      unopened : (s : State) (c : Bool) → Same (λ k. unopened_in s k (arriving now mark k) e) c
+      unopened : (s : State) (c : Bool) → Same (λ k. unopened_in s k (arriving now remote mark k) e) c
       unopened states.Open true = refl
       unopened states.Open false = refl
       unopened states.Closing c = refl
       unopened states.Drained c = refl
       unopened states.Failed c = refl
 
-      opens : (o : Option Opening) → Same (λ k. opened_as o p (arriving now mark k) e) b
+      opens : (o : Option Opening) → Same (λ k. opened_as o p (arriving now remote mark k) e) b
       opens None = unopened e.closing.state b
-      opens (Some o) = ap (with_ids_drawn p) (last_unread o now mark b (says (opened_to o (arriving now mark b) e).answer) e)
+      opens (Some o) = ap (with_ids_drawn p) (last_unread o now remote mark b (says (opened_to o (arriving now remote mark b) e).answer) e)
 
-      heads : (r : Result (List ℕ) HeaderError) → Same (λ k. headed r p e (arriving now mark k) d) b
+      heads : (r : Result (List ℕ) HeaderError) → Same (λ k. headed r p e (arriving now remote mark k) d) b
       heads (Err x) = refl
       heads (Ok id) = opens (opening p e d)
 
-      go : (s : State) → Same (λ k. received_in s p e (arriving now mark k) d) b
+      go : (s : State) → Same (λ k. received_in s p e (arriving now remote mark k) d) b
       go states.Open = heads (decoded (fixed_length_id own_id_length) (known e.ids) d)
       go states.Closing = heads (decoded (fixed_length_id own_id_length) (known e.ids) d)
       go states.Drained = refl
       go states.Failed = refl
 
   -- an open end closes for packets that didn't open exactly at the last that may not
-  pub received_counts : (limit : ℕ) (h : Heard) → CountsIn e.closing.state limit h (received p e (arriving now mark (is_last limit h)) d).answer
+  pub received_counts : (limit : ℕ) (h : Heard) → CountsIn e.closing.state limit h (received p e (arriving now remote mark (is_last limit h)) d).answer
   received_counts limit h = go e.closing.state refl
     where
       arrival : Arrival
-      arrival = arriving now mark (is_last limit h)
+      arrival = arriving now remote mark (is_last limit h)
 
       unopened : (b : Bool) → is_last limit h ≡ b → CountsReceived limit h (unopened_in states.Open b arrival e).answer
       unopened true last = λ is. last

@@ -88,10 +88,10 @@ server_refused e client server client_window server_window client_limits server_
     inr (refused_for client client_window client_limits server r client_id server_id None is none, refused_for server server_window server_limits client s server_id client_id (Some e) says (sym refusal))
 
 -- an end that was made shows the window that its controller did
-pub made_window : {E : Type 0} (side : Side) (settings : Settings) (windows : Windows) (r : Result ParameterValues E) (own peer : List ℕ) (now : ℕ) (validated : Bool) (words : ℕ → ℕ) (e : End)
-    → IsMade side settings windows r own peer now validated words e → e.path.window ≡ windows.present
-made_window side settings windows (Ok theirs) own peer now validated words e made = ap (λ (x : End). x.path.window) made
-made_window side settings windows (Err error) own peer now validated words e made = absurd made
+pub made_window : {E : Type 0} (side : Side) (settings : Settings) (windows : Windows) (r : Result ParameterValues E) (own peer : List ℕ) (remote now : ℕ) (validated : Bool) (words : ℕ → ℕ) (e : End)
+    → IsMade side settings windows r own peer remote now validated words e → e.path.window ≡ windows.present
+made_window side settings windows (Ok theirs) own peer remote now validated words e made = ap (λ (x : End). x.path.window) made
+made_window side settings windows (Err error) own peer remote now validated words e made = absurd made
 
 -- a controller that has room for two datagrams keeps it
 pub is_controller : {C : Type 0} (steps : Steps C) (size_of window_of : C → ℕ) (c : C) (size present : ℕ) → IsRoomy size_of window_of c size → present ≡ window_of c

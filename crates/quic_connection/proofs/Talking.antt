@@ -151,7 +151,7 @@ step_more k w event a next side step =
 
 -- so does a delivery, where one is made
 passed_more : (b : Bool) (k : Policies) (from : Side) (now index : ℕ) (w next : World) (side : Side) → IsPassedOn b k from now index w next → HasMore (given_by side w) (given_by side next)
-passed_more true k from now index w next side passed = step_more k w (delivery_event from now index) passed.0 next side passed.1
+passed_more true k from now index w next side passed = step_more k w (delivery_event from w now index) passed.0 next side passed.1
 passed_more false k from now index w next side passed = same_more side w next passed
 
 -- and a poll

@@ -12,7 +12,7 @@ use Rattle.quic_spaces.specs.Numbers.{expected, number_opened}
 use Rattle.quic_recovery_core.specs.Duplicates.{is_duplicate}
 use Rattle.quic_wire_core.specs.declared.shared.EcnCodepoint.{EcnCodepoint}
 use Rattle.quic_time.specs.Timers.{no_timers}
-use Rattle.quic_machine.specs.Arrival.{Arrival, arriving, delivered_by}
+use Rattle.quic_machine.specs.Arrival.{Arrival, arriving, early, delivered_by}
 use Rattle.quic_machine.specs.declared.answers.State.{State}
 use Rattle.quic_machine.specs.declared.answers.State.TheVariants as states
 use Rattle.quic_machine.specs.declared.answers.Failed.{Failed}
@@ -53,23 +53,23 @@ windows_are steps window old new told is = ap (windows_of steps window) is ∙ w
 
 -- ---- what doesn't open tells nothing
 
-packet_tells : (o : Option Opening) (now : ℕ) (e : End) → is_some (in_phase o) ≡ false → told_opened_as o now e ≡ []
-packet_tells None now e none = refl
-packet_tells (Some o) now e none = go (key_phase o.first) none
+packet_tells : (o : Option Opening) (arrival : Arrival) (e : End) → is_some (in_phase o) ≡ false → told_opened_as o arrival e ≡ []
+packet_tells None arrival e none = refl
+packet_tells (Some o) arrival e none = go (key_phase o.first) none
   where
-    go : (b : Bool) → is_some (if b then None else Some o) ≡ false → (if b || is_duplicate e.numbers.opened o.number then [] else told_by_state e.closing.state o now (with_numbers e (number_opened e.numbers o.number))) ≡ []
+    go : (b : Bool) → is_some (if b then None else Some o) ≡ false → (if b || is_duplicate e.numbers.opened o.number then [] else told_by_state e.closing.state o arrival (with_numbers e (number_opened e.numbers o.number))) ≡ []
     go true none = refl
     go false none = cc
 
-headed_tells : (r : Result (List ℕ) HeaderError) (p : Policy) (e : End) (now : ℕ) (d : List ℕ) → is_some (opens_behind r p (expected e.numbers) d) ≡ false → told_headed r p e now d ≡ []
-headed_tells (Err error) p e now d none = refl
-headed_tells (Ok id) p e now d none = packet_tells (opening p e d) now e none
+headed_tells : (r : Result (List ℕ) HeaderError) (p : Policy) (e : End) (arrival : Arrival) (d : List ℕ) → is_some (opens_behind r p (expected e.numbers) d) ≡ false → told_headed r p e arrival d ≡ []
+headed_tells (Err error) p e arrival d none = refl
+headed_tells (Ok id) p e arrival d none = packet_tells (opening p e d) arrival e none
 
-received_tells : (state : State) (p : Policy) (e : End) (now : ℕ) (d : List ℕ) → would_open p e d ≡ false → told_received_in state p e now d ≡ []
-received_tells states.Failed p e now d none = refl
-received_tells states.Drained p e now d none = refl
-received_tells states.Open p e now d none = headed_tells (decoded (fixed_length_id own_id_length) (known e.ids) d) p e now d none
-received_tells states.Closing p e now d none = headed_tells (decoded (fixed_length_id own_id_length) (known e.ids) d) p e now d none
+received_tells : (state : State) (p : Policy) (e : End) (arrival : Arrival) (d : List ℕ) → would_open p e arrival.remote d ≡ false → told_received_in state p e arrival d ≡ []
+received_tells states.Failed p e arrival d none = refl
+received_tells states.Drained p e arrival d none = refl
+received_tells states.Open p e arrival d none = headed_tells (decoded (fixed_length_id own_id_length) (known e.ids) d) p e arrival d none
+received_tells states.Closing p e arrival d none = headed_tells (decoded (fixed_length_id own_id_length) (known e.ids) d) p e arrival d none
 
 -- and is dropped, where it isn't the last that may not open
 packet_drops : (o : Option Opening) (p : Policy) (arrival : Arrival) (e : End) → arrival.last ≡ false → is_some (in_phase o) ≡ false → TakesFrames (opened_as o p arrival e).answer → ⊥
@@ -92,7 +92,7 @@ headed_drops : (r : Result (List ℕ) HeaderError) (p : Policy) (e : End) (arriv
 headed_drops (Err error) p e arrival d more none takes = takes
 headed_drops (Ok id) p e arrival d more none takes = packet_drops (opening p e d) p arrival e more none takes
 
-received_drops : (state : State) (p : Policy) (e : End) (arrival : Arrival) (d : List ℕ) → arrival.last ≡ false → would_open p e d ≡ false → TakesFrames (received_in state p e arrival d).answer → ⊥
+received_drops : (state : State) (p : Policy) (e : End) (arrival : Arrival) (d : List ℕ) → arrival.last ≡ false → would_open p e arrival.remote d ≡ false → TakesFrames (received_in state p e arrival d).answer → ⊥
 received_drops states.Failed p e arrival d more none takes = takes
 received_drops states.Drained p e arrival d more none takes = takes
 received_drops states.Open p e arrival d more none takes = headed_drops (decoded (fixed_length_id own_id_length) (known e.ids) d) p e arrival d more none takes
@@ -137,39 +137,39 @@ module _ {H K R C : Type 0} (steps : Steps C) (window : C → ℕ) (p : Policy) 
 
   -- such a datagram came
   abbrev Came : Arrival → List ℕ → Received → Type 0
-  Came arrival d r = r ≢ receives.Failed → new ≡ drawing new.random (telling steps (hearing old (heard_datagram d r old.heard)) (told_received p old.end arrival.now d) (received p old.end arrival d).end)
+  Came arrival d r = r ≢ receives.Failed → new ≡ drawing new.random (telling steps (hearing old (heard_datagram d r old.heard)) (told_received p old.end (early arrival) d) (received p old.end arrival d).end)
 
   -- a datagram of the other end
   received_left : (arrival : Arrival) (d : List ℕ) (r : Received) → r ≢ receives.Failed → Came arrival d r
-      → windows_of steps window new.control ≡ after_told (windows_of steps window old.control) (told_received p old.end arrival.now d)
-  received_left arrival d r kept left = windows_are steps window old.control new.control (told_received p old.end arrival.now d) (ap (λ w. w.control) (left kept))
+      → windows_of steps window new.control ≡ after_told (windows_of steps window old.control) (told_received p old.end (early arrival) d)
+  received_left arrival d r kept left = windows_are steps window old.control new.control (told_received p old.end (early arrival) d) (ap (λ w. w.control) (left kept))
 
   -- the end that a datagram leaves, by what is answered
-  left_by : (now : ℕ) (mark : Option EcnCodepoint) (last : Bool) (d : List ℕ) (r : Received) → r ≢ receives.Failed → r ≡ (received p old.end (arriving now mark last) d).answer → Came (arriving now mark last) d r
-      → new.end ≡ (received p old.end (arriving now mark (says r)) d).end
-  left_by now mark last d r kept is left =
+  left_by : (now remote : ℕ) (mark : Option EcnCodepoint) (last : Bool) (d : List ℕ) (r : Received) → r ≢ receives.Failed → r ≡ (received p old.end (arriving now remote mark last) d).answer → Came (arriving now remote mark last) d r
+      → new.end ≡ (received p old.end (arriving now remote mark (says r)) d).end
+  left_by now remote mark last d r kept is left =
       ap (λ w. w.end) (left kept)
-      ∙ ap (λ (o : Outcome). o.end) (received_says p old.end now mark d last)
-      ∙ ap (λ (a : Received). (received p old.end (arriving now mark (says a)) d).end) (sym is)
+      ∙ ap (λ (o : Outcome). o.end) (received_says p old.end now remote mark d last)
+      ∙ ap (λ (a : Received). (received p old.end (arriving now remote mark (says a)) d).end) (sym is)
 
-  answered_by : (now : ℕ) (mark : Option EcnCodepoint) (last : Bool) (d : List ℕ) (r : Received) → r ≡ (received p old.end (arriving now mark last) d).answer
-      → r ≡ (received p old.end (arriving now mark (says r)) d).answer
-  answered_by now mark last d r is =
+  answered_by : (now remote : ℕ) (mark : Option EcnCodepoint) (last : Bool) (d : List ℕ) (r : Received) → r ≡ (received p old.end (arriving now remote mark last) d).answer
+      → r ≡ (received p old.end (arriving now remote mark (says r)) d).answer
+  answered_by now remote mark last d r is =
       is
-      ∙ ap (λ (o : Outcome). o.answer) (received_says p old.end now mark d last)
-      ∙ ap (λ (a : Received). (received p old.end (arriving now mark (says a)) d).answer) (sym is)
+      ∙ ap (λ (o : Outcome). o.answer) (received_says p old.end now remote mark d last)
+      ∙ ap (λ (a : Received). (received p old.end (arriving now remote mark (says a)) d).answer) (sym is)
 
   -- whatever it is answered
   module _ (theirs : List (List ℕ)) (delivery : Delivery) (d : List ℕ) (last : Bool) (found : slice_get theirs delivery.index ≡ Some d) where
     abbrev arrival : Arrival
-    arrival = arriving delivery.now delivery.ecn last
+    arrival = arriving delivery.now delivery.remote delivery.ecn last
 
     pub delivery_answers : (r : Received) → (r ≢ receives.Failed → r ≡ (received p old.end arrival d).answer)
         → IsAnswer p (reads_window (windows_of steps window old.control) old.heard (calls.Deliver delivery) old.end) theirs (calls.Deliver delivery) (answers.Deliver r)
     delivery_answers r answer = subst (λ (o : Option (List ℕ)). IsDelivered p old.end delivery o (answers.Deliver r)) (sym found) (go r answer)
       where
         kept : (r : Received) → r ≢ receives.Failed → (r ≢ receives.Failed → r ≡ (received p old.end arrival d).answer) → IsDelivered p old.end delivery (Some d) (answers.Deliver r)
-        kept r other answer = inl (ap answers.Deliver (answered_by delivery.now delivery.ecn last d r (answer other)))
+        kept r other answer = inl (ap answers.Deliver (answered_by delivery.now delivery.remote delivery.ecn last d r (answer other)))
 
         go : (r : Received) → (r ≢ receives.Failed → r ≡ (received p old.end arrival d).answer) → IsDelivered p old.end delivery (Some d) (answers.Deliver r)
         go receives.Failed answer = inr refl
@@ -183,7 +183,7 @@ module _ {H K R C : Type 0} (steps : Steps C) (window : C → ℕ) (p : Policy) 
     delivery_left r answer left failed before timers = go r answer left failed before timers
       where
         kept : (r : Received) → r ≢ receives.Failed → (r ≢ receives.Failed → r ≡ (received p old.end arrival d).answer) → Came arrival d r → new.end ≡ after_delivered p old.end (delivered_by (says r) delivery) (slice_get theirs delivery.index)
-        kept r other answer left = left_by delivery.now delivery.ecn last d r other (answer other) left ∙ ap (λ (o : Option (List ℕ)). after_delivered p old.end (delivered_by (says r) delivery) o) (sym found)
+        kept r other answer left = left_by delivery.now delivery.remote delivery.ecn last d r other (answer other) left ∙ ap (λ (o : Option (List ℕ)). after_delivered p old.end (delivered_by (says r) delivery) o) (sym found)
 
         go : (r : Received) → (r ≢ receives.Failed → r ≡ (received p old.end arrival d).answer) → Came arrival d r
             → (r ≡ receives.Failed → HasFailed old new) → (r ≡ receives.Failed → old.end.closing.state ≢ states.Failed) → (r ≡ receives.Failed → new.end.timers ≡ no_timers)
@@ -198,8 +198,8 @@ module _ {H K R C : Type 0} (steps : Steps C) (window : C → ℕ) (p : Policy) 
     delivery_told r left = go r left
       where
         told : (r : Received) → r ≢ receives.Failed → Came arrival d r
-            → windows_of steps window new.control ≡ after_told (windows_of steps window old.control) (told_delivered p old.end delivery.now (slice_get theirs delivery.index))
-        told r kept left = received_left arrival d r kept left ∙ ap (λ (o : Option (List ℕ)). after_told (windows_of steps window old.control) (told_delivered p old.end delivery.now o)) (sym found)
+            → windows_of steps window new.control ≡ after_told (windows_of steps window old.control) (told_delivered p old.end (delivered_by false delivery) (slice_get theirs delivery.index))
+        told r kept left = received_left arrival d r kept left ∙ ap (λ (o : Option (List ℕ)). after_told (windows_of steps window old.control) (told_delivered p old.end (delivered_by false delivery) o)) (sym found)
 
         go : (r : Received) → Came arrival d r → IsTold (fails (answers.Deliver r)) p (windows_of steps window old.control) old.heard old.end theirs (calls.Deliver delivery) (windows_of steps window new.control)
         go receives.Failed left = tt
@@ -221,11 +221,11 @@ module _ {H K R C : Type 0} (steps : Steps C) (window : C → ℕ) (p : Policy) 
         go (receives.Closed error) left = heard (receives.Closed error) (λ failed. cc) left
 
   -- by what is counted, the answer is the one for the last packet that may not open
-  pub counted : (now : ℕ) (mark : Option EcnCodepoint) (d : List ℕ) (limit : ℕ) (r : Received) → (r ≢ receives.Failed → r ≡ (received p old.end (arriving now mark (is_last limit old.heard)) d).answer) → CountsIn old.end.closing.state limit old.heard r
-  counted now mark d limit r answer = go r answer
+  pub counted : (now remote : ℕ) (mark : Option EcnCodepoint) (d : List ℕ) (limit : ℕ) (r : Received) → (r ≢ receives.Failed → r ≡ (received p old.end (arriving now remote mark (is_last limit old.heard)) d).answer) → CountsIn old.end.closing.state limit old.heard r
+  counted now remote mark d limit r answer = go r answer
     where
-      kept : (r : Received) → r ≢ receives.Failed → (r ≢ receives.Failed → r ≡ (received p old.end (arriving now mark (is_last limit old.heard)) d).answer) → CountsIn old.end.closing.state limit old.heard r
-      kept r other answer = subst (λ (a : Received). CountsIn old.end.closing.state limit old.heard a) (sym (answer other)) (received_counts p old.end now mark d limit old.heard)
+      kept : (r : Received) → r ≢ receives.Failed → (r ≢ receives.Failed → r ≡ (received p old.end (arriving now remote mark (is_last limit old.heard)) d).answer) → CountsIn old.end.closing.state limit old.heard r
+      kept r other answer = subst (λ (a : Received). CountsIn old.end.closing.state limit old.heard a) (sym (answer other)) (received_counts p old.end now remote mark d limit old.heard)
 
       failed_counts : (s : State) → CountsIn s limit old.heard receives.Failed
       failed_counts states.Open = tt
@@ -233,23 +233,23 @@ module _ {H K R C : Type 0} (steps : Steps C) (window : C → ℕ) (p : Policy) 
       failed_counts states.Drained = tt
       failed_counts states.Failed = tt
 
-      go : (r : Received) → (r ≢ receives.Failed → r ≡ (received p old.end (arriving now mark (is_last limit old.heard)) d).answer) → CountsIn old.end.closing.state limit old.heard r
+      go : (r : Received) → (r ≢ receives.Failed → r ≡ (received p old.end (arriving now remote mark (is_last limit old.heard)) d).answer) → CountsIn old.end.closing.state limit old.heard r
       go receives.Failed answer = failed_counts old.end.closing.state
       go receives.Taken answer = kept receives.Taken (λ failed. cc) answer
       go (receives.Dropped reason) answer = kept (receives.Dropped reason) (λ failed. cc) answer
       go (receives.Closed error) answer = kept (receives.Closed error) (λ failed. cc) answer
 
   -- bytes that don't open
-  module _ (injection : Injection) (d : List ℕ) (last : Bool) (r : Received) (bytes : injection.bytes ≡ d) (none : would_open p old.end d ≡ false)
-      (takes : r ≡ receives.Failed → TakesFrames (received p old.end (arriving injection.now injection.ecn false) d).answer) (left : Came (arriving injection.now injection.ecn last) d r) where
+  module _ (injection : Injection) (d : List ℕ) (last : Bool) (r : Received) (bytes : injection.bytes ≡ d) (none : would_open p old.end injection.remote d ≡ false)
+      (takes : r ≡ receives.Failed → TakesFrames (received p old.end (arriving injection.now injection.remote injection.ecn false) d).answer) (left : Came (arriving injection.now injection.remote injection.ecn last) d r) where
     -- memory doesn't lack for them
     pub injection_kept : r ≢ receives.Failed
-    injection_kept failed = received_drops old.end.closing.state p old.end (arriving injection.now injection.ecn false) d refl none (takes failed)
+    injection_kept failed = received_drops old.end.closing.state p old.end (arriving injection.now injection.remote injection.ecn false) d refl none (takes failed)
 
     pub injection_told : IsTold false p (windows_of steps window old.control) old.heard old.end [] (calls.Inject injection) (windows_of steps window new.control)
     injection_told =
-        received_left (arriving injection.now injection.ecn last) d r injection_kept left
-        ∙ ap (after_told (windows_of steps window old.control)) (received_tells old.end.closing.state p old.end injection.now d none)
+        received_left (arriving injection.now injection.remote injection.ecn last) d r injection_kept left
+        ∙ ap (after_told (windows_of steps window old.control)) (received_tells old.end.closing.state p old.end (arriving injection.now injection.remote injection.ecn false) d none)
 
     pub injection_heard : IsHeard false [] (calls.Inject injection) (answers.Inject r) old.heard new.heard
     injection_heard =
@@ -263,18 +263,18 @@ module _ {H K R C : Type 0} (steps : Steps C) (window : C → ℕ) (p : Policy) 
     same_says (receives.Dropped reason) = refl
     same_says (receives.Closed error) = refl
 
-    pub injection_answers : (r ≢ receives.Failed → r ≡ (received p old.end (arriving injection.now injection.ecn last) d).answer) → answers.Inject r ≡ injected_if false (says_last (answers.Inject r)) p old.end injection
+    pub injection_answers : (r ≢ receives.Failed → r ≡ (received p old.end (arriving injection.now injection.remote injection.ecn last) d).answer) → answers.Inject r ≡ injected_if false (says_last (answers.Inject r)) p old.end injection
     injection_answers answer =
         ap answers.Inject
-        (answered_by injection.now injection.ecn last d r (answer injection_kept)
-        ∙ ap (λ (b : Bool). (received p old.end (arriving injection.now injection.ecn b) d).answer) (sym (same_says r))
-        ∙ ap (λ (ds : List ℕ). (received p old.end (arriving injection.now injection.ecn (says_last (answers.Inject r))) ds).answer) (sym bytes))
+        (answered_by injection.now injection.remote injection.ecn last d r (answer injection_kept)
+        ∙ ap (λ (b : Bool). (received p old.end (arriving injection.now injection.remote injection.ecn b) d).answer) (sym (same_says r))
+        ∙ ap (λ (ds : List ℕ). (received p old.end (arriving injection.now injection.remote injection.ecn (says_last (answers.Inject r))) ds).answer) (sym bytes))
 
-    pub injection_left : (r ≢ receives.Failed → r ≡ (received p old.end (arriving injection.now injection.ecn last) d).answer) → new.end ≡ after_injected_if false (says_last (answers.Inject r)) p old.end injection
+    pub injection_left : (r ≢ receives.Failed → r ≡ (received p old.end (arriving injection.now injection.remote injection.ecn last) d).answer) → new.end ≡ after_injected_if false (says_last (answers.Inject r)) p old.end injection
     injection_left answer =
-        left_by injection.now injection.ecn last d r injection_kept (answer injection_kept) left
-        ∙ ap (λ (b : Bool). (received p old.end (arriving injection.now injection.ecn b) d).end) (sym (same_says r))
-        ∙ ap (λ (ds : List ℕ). (received p old.end (arriving injection.now injection.ecn (says_last (answers.Inject r))) ds).end) (sym bytes)
+        left_by injection.now injection.remote injection.ecn last d r injection_kept (answer injection_kept) left
+        ∙ ap (λ (b : Bool). (received p old.end (arriving injection.now injection.remote injection.ecn b) d).end) (sym (same_says r))
+        ∙ ap (λ (ds : List ℕ). (received p old.end (arriving injection.now injection.remote injection.ecn (says_last (answers.Inject r))) ds).end) (sym bytes)
 
   -- ---- what is counted in a call
 

@@ -17,7 +17,7 @@ use Rattle.quic_packet.specs.Keys.{Protection, Aead}
 use Rattle.quic_packet.specs.declared.packet.HeaderError.{HeaderError}
 use Rattle.quic_spaces.specs.Filter.{Filter, is_skipped, after_skipped}
 use Rattle.quic_spaces.specs.Numbers.{expected}
-use Rattle.quic_machine.specs.Arrival.{Arrival, delivered_by, injected_by}
+use Rattle.quic_machine.specs.Arrival.{Arrival, early, delivered_by, injected_by}
 use Rattle.quic_machine.specs.declared.run.Delivery.{Delivery}
 use Rattle.quic_machine.specs.declared.run.Injection.{Injection}
 use Rattle.quic_machine.specs.declared.answers.State.{State}
@@ -136,7 +136,7 @@ failed_stays p e theirs calls.UseNextId a is = failed_next e a is
 failed_stays p e theirs (calls.Poll now) a is = ap (λ (s : State). (polled_in s p e now).end.closing.state) is ∙ is
 failed_stays p e theirs (calls.Timeout now) a is = ap (λ (s : State). (timed_out_in s p e now).end.closing.state) is ∙ is
 failed_stays p e theirs (calls.Deliver delivery) a is = failed_delivered p e (delivered_by (says_last a) delivery) (slice_get theirs delivery.index) is
-failed_stays p e theirs (calls.Inject injection) a is = failed_injected (would_open p e injection.bytes) (says_last a) p e injection is
+failed_stays p e theirs (calls.Inject injection) a is = failed_injected (would_open p e injection.remote injection.bytes) (says_last a) p e injection is
 failed_stays p e theirs calls.Event a is = by_event e (λ x. x.closing.state ≡ states.Failed) is (λ told. is)
 failed_stays p e theirs call a is = is
 
@@ -257,12 +257,12 @@ received_goes stream p old new arrival d keys end random = record {
 }
 
 -- whatever it is answered
-pub delivered_goes : {H K R C : Type 0} (stream : R → Stream) (p : Policy) (steps : Steps C) (old new : ConnectionValue H K R C) (arrival : Arrival) (d : List ℕ) (r : Received) → (r ≢ receives.Failed → new ≡ drawing new.random (telling steps (hearing old (heard_datagram d r old.heard)) (told_received p old.end arrival.now d) (received p old.end arrival d).end))
+pub delivered_goes : {H K R C : Type 0} (stream : R → Stream) (p : Policy) (steps : Steps C) (old new : ConnectionValue H K R C) (arrival : Arrival) (d : List ℕ) (r : Received) → (r ≢ receives.Failed → new ≡ drawing new.random (telling steps (hearing old (heard_datagram d r old.heard)) (told_received p old.end (early arrival) d) (received p old.end arrival d).end))
     → (r ≢ receives.Failed → stream new.random ≡ after_words (words_drawn new.end - words_drawn old.end) (stream old.random)) → (r ≡ receives.Failed → HasFailed old new) → GoesOn stream old new
 delivered_goes stream p steps old new arrival d r left random failed = go r left random failed
   where
     Left : Received → Type 0
-    Left r = r ≢ receives.Failed → new ≡ drawing new.random (telling steps (hearing old (heard_datagram d r old.heard)) (told_received p old.end arrival.now d) (received p old.end arrival d).end)
+    Left r = r ≢ receives.Failed → new ≡ drawing new.random (telling steps (hearing old (heard_datagram d r old.heard)) (told_received p old.end (early arrival) d) (received p old.end arrival d).end)
 
     kept : (r : Received) → r ≢ receives.Failed → Left r → (r ≢ receives.Failed → stream new.random ≡ after_words (words_drawn new.end - words_drawn old.end) (stream old.random)) → GoesOn stream old new
     kept r other left random = received_goes stream p old new arrival d (ap (λ w. w.keys) (left other)) (ap (λ w. w.end) (left other)) (random other)
@@ -426,21 +426,21 @@ module _ (p : Policy) (words : ℕ → ℕ) (e : End) where
       go states.Drained is = refl
       go states.Failed is = refl
 
-  told_received_with : (now : ℕ) (d : List ℕ) → told_received other_words e now d ≡ told_received p e now d
-  told_received_with now d = go e.closing.state
+  told_received_with : (arrival : Arrival) (d : List ℕ) → told_received other_words e arrival d ≡ told_received p e arrival d
+  told_received_with arrival d = go e.closing.state
     where
-      heads : (r : Result (List ℕ) HeaderError) → told_headed r other_words e now d ≡ told_headed r p e now d
+      heads : (r : Result (List ℕ) HeaderError) → told_headed r other_words e arrival d ≡ told_headed r p e arrival d
       heads (Err x) = refl
       heads (Ok id) = refl
 
-      go : (s : State) → told_received_in s other_words e now d ≡ told_received_in s p e now d
+      go : (s : State) → told_received_in s other_words e arrival d ≡ told_received_in s p e arrival d
       go states.Open = heads (decoded (fixed_length_id own_id_length) (known e.ids) d)
       go states.Closing = heads (decoded (fixed_length_id own_id_length) (known e.ids) d)
       go states.Drained = refl
       go states.Failed = refl
 
-  opens_with : (d : List ℕ) → would_open other_words e d ≡ would_open p e d
-  opens_with d = go (decoded (fixed_length_id own_id_length) (known e.ids) d)
+  opens_with : (remote : ℕ) (d : List ℕ) → would_open other_words e remote d ≡ would_open p e remote d
+  opens_with remote d = go (decoded (fixed_length_id own_id_length) (known e.ids) d)
     where
       go : (r : Result (List ℕ) HeaderError) → is_some (opens_behind r other_words (expected e.numbers) d) ≡ is_some (opens_behind r p (expected e.numbers) d)
       go (Err x) = refl
@@ -548,8 +548,8 @@ module _ (p : Policy) (words : ℕ → ℕ) (e : End) (same : Answers words p.wo
   answer_with theirs (calls.Deliver delivery) a h = delivered_with delivery (slice_get theirs delivery.index) a h
   answer_with theirs (calls.Inject injection) a h =
       h
-      ∙ sym (injected_with (would_open p e injection.bytes) (says_last a) injection)
-      ∙ ap (λ (b : Bool). injected_if b (says_last a) other e injection) (sym (opens_with p words e injection.bytes))
+      ∙ sym (injected_with (would_open p e injection.remote injection.bytes) (says_last a) injection)
+      ∙ ap (λ (b : Bool). injected_if b (says_last a) other e injection) (sym (opens_with p words e injection.remote injection.bytes))
   answer_with theirs call a h = h
 
   after_with : (theirs : List (List ℕ)) (call : Call) (a : Answer) → after_call other e theirs call a ≡ after_call p e theirs call a
@@ -557,17 +557,17 @@ module _ (p : Policy) (words : ℕ → ℕ) (e : End) (same : Answers words p.wo
   after_with theirs (calls.Timeout now) a = ap (λ (x : TimedOut). x.end) (timed_with p words e same now)
   after_with theirs (calls.Deliver delivery) a = after_delivered_with (delivered_by (says_last a) delivery) (slice_get theirs delivery.index)
   after_with theirs (calls.Inject injection) a =
-      ap (λ (b : Bool). after_injected_if b (says_last a) other e injection) (opens_with p words e injection.bytes)
-      ∙ after_injected_with (would_open p e injection.bytes) (says_last a) injection
+      ap (λ (b : Bool). after_injected_if b (says_last a) other e injection) (opens_with p words e injection.remote injection.bytes)
+      ∙ after_injected_with (would_open p e injection.remote injection.bytes) (says_last a) injection
   after_with theirs call a = refl
 
   -- what the controller is told
-  told_with : (now : ℕ) (o : Option (List ℕ)) → told_delivered other e now o ≡ told_delivered p e now o
-  told_with now None = refl
-  told_with now (Some d) = told_received_with p words e now d
+  told_with : (arrival : Arrival) (o : Option (List ℕ)) → told_delivered other e arrival o ≡ told_delivered p e arrival o
+  told_with arrival None = refl
+  told_with arrival (Some d) = told_received_with p words e arrival d
 
   tells_with : (theirs : List (List ℕ)) (call : Call) → tells other e theirs call ≡ tells p e theirs call
-  tells_with theirs (calls.Deliver delivery) = told_with delivery.now (slice_get theirs delivery.index)
+  tells_with theirs (calls.Deliver delivery) = told_with (delivered_by false delivery) (slice_get theirs delivery.index)
   tells_with theirs (calls.Poll now) = go e.closing.state
     where
       go : (s : State) → told_polled_in s other e now ≡ told_polled_in s p e now

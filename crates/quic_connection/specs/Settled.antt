@@ -10,7 +10,7 @@ use Rattle.quic_machine.specs.declared.run.Answer.{Answer}
 use Rattle.quic_machine.specs.declared.run.Answer.TheVariants as answers
 use Rattle.quic_machine.specs.declared.run.RunEvent.{RunEvent}
 use Rattle.quic_machine.specs.End.{End}
-use Rattle.quic_machine.specs.Machine.{gave, World, Policies, IsStep, given_by}
+use Rattle.quic_machine.specs.Machine.{gave, World, Policies, IsStep, end_at, given_by}
 
 -- ---- ends and timers
 
@@ -82,9 +82,10 @@ polls_in (awaits ∷ turns) = polls_in turns
 abbrev pub poll_event : Side → ℕ → RunEvent
 poll_event side now = record { side = side; call = calls.Poll now }
 
--- a datagram of an end is delivered to the other one, without a mark
-abbrev pub delivery_event : Side → ℕ → ℕ → RunEvent
-delivery_event side now index = record { side = other_side side; call = calls.Deliver (record { now = now; ecn = None; index = index }) }
+-- a datagram of an end is delivered to the other one, from where that one has its peer, and without
+-- a mark
+abbrev pub delivery_event : Side → World → ℕ → ℕ → RunEvent
+delivery_event side w now index = record { side = other_side side; call = calls.Deliver (record { now = now; remote = (end_at (other_side side) w).path.remote; ecn = None; index = index }) }
 
 -- an end handles a moment
 abbrev pub timeout_event : Side → ℕ → RunEvent
@@ -92,7 +93,7 @@ timeout_event side now = record { side = side; call = calls.Timeout now }
 
 -- what an end gave is delivered to the other one, where it gave something
 abbrev pub IsPassedOn : Bool → Policies → Side → ℕ → ℕ → World → World → Type 0
-IsPassedOn true k side now index w to = (answer : Answer) × IsStep k w (delivery_event side now index) answer to
+IsPassedOn true k side now index w to = (answer : Answer) × IsStep k w (delivery_event side w now index) answer to
 IsPassedOn false k side now index w to = to ≡ w
 
 -- Both ends are open, and one is polled at a moment, which gives a datagram or none; a datagram is

@@ -28,9 +28,9 @@ pub use quic_congestion::{
 pub use quic_connection_core::{Config, Connection};
 pub use quic_copies::Copies;
 pub use quic_machine::{
-    Answer, Call, CloseCall, ConfigError, Datagram, Delivery, DropReason, EndView, Event, Failed,
-    IdleTimeout, Injection, Instant, LostReason, NextIdError, Nexts, PeerClose, ReadCall, Received,
-    RunEvent, State, Timer, Transmit, TransportConfig, View,
+    Address, Answer, Call, CloseCall, ConfigError, Datagram, Delivery, DropReason, EndView, Event,
+    Failed, IdleTimeout, Injection, Instant, LostReason, NextIdError, Nexts, PeerClose, ReadCall,
+    Received, RunEvent, State, Timer, Transmit, TransportConfig, View,
 };
 pub use quic_messages::{DatagramLimits, DatagramState, Datagrams, SendDatagramError};
 pub use quic_packet::crypto::{

@@ -17,14 +17,14 @@ use crate::running::Ends;
 use quic_congestion::laws::congestion::two_datagrams_have_room;
 use quic_congestion::{Controller, ControllerFactory};
 use quic_connection_core::{Config, Connection};
-use quic_machine::{ConfigError, Instant};
+use quic_machine::{Address, ConfigError, Instant};
 use quic_packet::crypto::{HeaderKey, Keys, PacketKey};
 use quic_parameters::TransportParameters;
 use quic_wire_core::{ConnectionId, Side};
 use rand_core::Rng;
 use std::alloc::{AllocError, Global};
 
-/// What an endpoint is made of, but for what it knows of its peer.
+/// What an endpoint is made of, but for what its peer told it.
 #[derive(Drop)]
 pub struct Making<F, H, K, R> {
     /// The configuration. What the peer has to know of it is advertised to the peer; the factory of
@@ -32,6 +32,8 @@ pub struct Making<F, H, K, R> {
     pub config: Config<F>,
     /// The first connection ID of this endpoint, of eight bytes.
     pub id: ConnectionId,
+    /// The peer's first address.
+    pub remote: Address,
     /// Its keys: what the `local` ones seal, the peer's `remote` ones open, and the other way
     /// round.
     pub keys: Keys<H, K>,
@@ -91,7 +93,7 @@ impl<
     ) -> Result<Connection<H, K, R, C>, ConfigError>
         ensures made { IfOk result (λ c.
             MadeFrom side self.config.settings (windows_at C.initial_of C.window_of c.control)
-            peer_parameters.entry.now self.id peer_id now self.validated (words_of R.stream self.random) c.end) }
+            peer_parameters.entry.now self.id peer_id self.remote now self.validated (words_of R.stream self.random) c.end) }
         ensures control { IfOk result (λ c. c.control ≡ controller_for F.built self.config now) }
         ensures roomy { IfOk result (λ c. IsRoomy C.size_of C.window_of c.control (first_mtu c.end.transport)) }
         ensures keys { IfOk result (λ c. c.keys ≡ self.keys) }
@@ -108,6 +110,7 @@ impl<
         let Making {
             config,
             id,
+            remote,
             keys,
             random,
             validated,
@@ -119,6 +122,7 @@ impl<
             peer_parameters,
             id,
             peer_id,
+            remote,
             keys,
             now,
             random,
@@ -152,12 +156,12 @@ impl<H: HeaderKey + Drop, K: PacketKey + Drop, R: Rng + Drop, C: Controller> End
         ensures client { IfOk result (λ ends.
             MadeFrom Side.Client client.config.settings
             (windows_at C.initial_of C.window_of ends.client.control)
-            (written_parameters (parameters_of server.config.settings) in_order) client.id server.id now
+            (written_parameters (parameters_of server.config.settings) in_order) client.id server.id client.remote now
             client.validated (words_of R.stream client.random) ends.client.end) }
         ensures server { IfOk result (λ ends.
             MadeFrom Side.Server server.config.settings
             (windows_at C.initial_of C.window_of ends.server.control)
-            (written_parameters (parameters_of client.config.settings) in_order) server.id client.id now
+            (written_parameters (parameters_of client.config.settings) in_order) server.id client.id server.remote now
             server.validated (words_of R.stream server.random) ends.server.end) }
         ensures client_control { IfOk result (λ ends.
             ends.client.control ≡ controller_for F.built client.config now) }

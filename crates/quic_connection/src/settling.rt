@@ -3,7 +3,7 @@ ghost use Rattle.std.specs.Prelude.{◌≡◌, ◌≤◌, ◌<◌, ◌+◌, ◌�
 ghost use Rattle.quic_wire_core.specs.declared.stream_id.Side.TheVariants.{Client, Server};
 ghost use Rattle.quic_time.specs.Timers.{earlier};
 ghost use Rattle.quic_machine.specs.End.{End};
-ghost use Rattle.quic_machine.specs.Machine.{Policies, given_by, gave};
+ghost use Rattle.quic_machine.specs.Machine.{Policies, end_at, given_by, gave};
 ghost use Rattle.quic_machine.specs.Control.{Control};
 ghost use Rattle.quic_machine.specs.Heard.{Heard};
 ghost use Rattle.quic_connection_parts.specs.Telling.{windows_of};
@@ -15,7 +15,7 @@ use crate::running::{Ends, Given};
 use crate::stepping::step;
 use quic_congestion::Controller;
 use quic_connection_core::Connection;
-use quic_machine::{Answer, Call, Delivery, Instant, RunEvent, Timer};
+use quic_machine::{Address, Answer, Call, Delivery, Instant, RunEvent, Timer};
 use quic_packet::crypto::{HeaderKey, PacketKey};
 use quic_wire_core::Side;
 use rand_core::Rng;
@@ -25,10 +25,10 @@ use std::alloc::{AllocError, Global};
 const MOST_POLLS: u64 = 10_000;
 
 /// Lets two endpoints talk until both rest, from this time on. Each is polled until it gives
-/// nothing, the client first, and each datagram is delivered to the other at once, without an ECN
-/// codepoint, until a round of both gives no datagram. If a loss, acknowledgement or pacing timer
-/// is set then, time goes on to the earliest of them, or stays if that has passed, both endpoints
-/// handle it, and they go on.
+/// nothing, the client first, and each datagram is delivered to the other at once, from the address
+/// at which that one has its peer and without an ECN codepoint, until a round of both gives no
+/// datagram. If a loss, acknowledgement or pacing timer is set then, time goes on to the earliest
+/// of them, or stays if that has passed, both endpoints handle it, and they go on.
 ///
 /// The answer is the time at which both rest: they are open, the last call at each was a poll that
 /// answered `None`, and none of these timers is set. Whether their paths are validated isn't
@@ -216,6 +216,7 @@ fn poll_once<H: HeaderKey + Drop, K: PacketKey + Drop, R: Rng + Drop, C: Control
     }
     let arrival = Delivery {
         now,
+        remote: peer_address(ends, !side),
         ecn: None,
         index,
     };
@@ -225,6 +226,19 @@ fn poll_once<H: HeaderKey + Drop, K: PacketKey + Drop, R: Rng + Drop, C: Control
     };
     step(alloc, ends, given, &delivery)?;
     Ok(true)
+}
+
+/// The address at which an endpoint has its peer.
+fn peer_address<H: HeaderKey + Drop, K: PacketKey + Drop, R: Rng + Drop, C: Controller>(
+    ends: &Ends<H, K, R, C>,
+    side: Side,
+) -> Address
+    ensures { (given : Given) → result ≡ (end_at side (world_of (windows_of C.steps C.window_of) ends.now given)).path.remote }
+{
+    match side {
+        Side::Client => ends.client.remote_address(),
+        Side::Server => ends.server.remote_address(),
+    }
 }
 
 /// Whether an answer is a datagram.

@@ -449,7 +449,7 @@ fn deliver_at<H: HeaderKey + Drop, K: PacketKey + Drop, R: Rng + Drop, C: Contro
         None => Ok(Answer::NoDatagram),
         Some(datagram) => {
             let mut copy = Vec::from_slice(alloc, datagram.as_slice())?;
-            Ok(Answer::Deliver(end.receive(delivery.now, delivery.ecn, &mut copy)))
+            Ok(Answer::Deliver(end.receive(delivery.now, delivery.remote, delivery.ecn, &mut copy)))
         }
     }
 }
@@ -478,9 +478,9 @@ fn inject_at<H: HeaderKey + Drop, K: PacketKey + Drop, R: Rng + Drop, C: Control
     ensures err { OnErr result (end.new ≡ end.old) }
 {
     let mut scratch = Vec::from_slice(alloc, injection.bytes.as_slice())?;
-    if end.would_open(&mut scratch) {
+    if end.would_open(injection.remote, &mut scratch) {
         return Ok(Answer::Opens);
     }
     let mut copy = Vec::from_slice(alloc, injection.bytes.as_slice())?;
-    Ok(Answer::Inject(end.receive(injection.now, injection.ecn, &mut copy)))
+    Ok(Answer::Inject(end.receive(injection.now, injection.remote, injection.ecn, &mut copy)))
 }

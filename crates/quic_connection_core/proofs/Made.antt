@@ -47,6 +47,7 @@ of_parts closing ids space filter frequency timers validated path window transpo
   tracking = space.tracking;
   idle_armed = true;
   path = record {
+    remote = path.remote;
     validated = validated;
     generation = path.generation;
     discovery = path.discovery;
@@ -67,7 +68,7 @@ of_parts closing ids space filter frequency timers validated path window transpo
 }
 
 -- of those with which it is made, it is as it is before it asks its peer for anything
-pub of_first_parts : {C : Type 0} (initial window_of : C → ℕ) (controller : C) (side : Side) (settings : Settings) (theirs : ParameterValues) (own peer : List ℕ) (now : ℕ) (validated : Bool) (words : ℕ → ℕ)
+pub of_first_parts : {C : Type 0} (initial window_of : C → ℕ) (controller : C) (side : Side) (settings : Settings) (theirs : ParameterValues) (own peer : List ℕ) (remote now : ℕ) (validated : Bool) (words : ℕ → ℕ)
     (closing : Closing) (ids : Ids) (space : PacketSpace) (filter : Filter) (frequency : Frequency) (timers : Timers) (path : PathValue C) (window : ℕ) (transport : TransportSettings) (streams : StreamsState) (frames : Retransmits) (response : Option Response) (queues : Messages)
     → closing ≡ record { clock = now; state = states.Open; reason = None; told = false; close = None; owed = false }
     → ids ≡ first_ids own peer (most_ids theirs.active_connection_id_limit) now (words_behind 1 words)
@@ -76,14 +77,14 @@ pub of_first_parts : {C : Type 0} (initial window_of : C → ℕ) (controller : 
     → frequency ≡ initial_frequency (theirs.max_ack_delay * 1000000)
     → timers ≡ no_timers
     → window ≡ window_of path.congestion
-    → path ≡ path_limited theirs.max_udp_payload_size (new_path true None 0 now transport controller (initial controller))
+    → path ≡ path_limited theirs.max_udp_payload_size (new_path remote true None 0 now transport controller (initial controller))
     → transport ≡ transport_of settings
     → streams ≡ first_streams side settings theirs
     → frames ≡ record nothing_waits { new_cids = drawn_ids (words_behind 1 words) (later_numbers (most_ids theirs.active_connection_id_limit)) }
     → response ≡ None
     → queues ≡ no_messages
-    → of_parts closing ids space filter frequency timers validated path window transport theirs streams frames response queues ≡ silent_end side settings (windows_at initial window_of controller) theirs own peer now validated words
-of_first_parts {C} initial window_of controller side settings theirs own peer now validated words closing ids space filter frequency timers path window transport streams frames response queues c i s f y t w p m r d a q =
+    → of_parts closing ids space filter frequency timers validated path window transport theirs streams frames response queues ≡ silent_end side settings (windows_at initial window_of controller) theirs own peer remote now validated words
+of_first_parts {C} initial window_of controller side settings theirs own peer remote now validated words closing ids space filter frequency timers path window transport streams frames response queues c i s f y t w p m r d a q =
     ap (λ (x : Closing). of_parts x ids space filter frequency timers validated path window transport theirs streams frames response queues) c
     ∙ ap (λ (x : Ids). of_parts c1 x space filter frequency timers validated path window transport theirs streams frames response queues) i
     ∙ ap (λ (x : PacketSpace). of_parts c1 i1 x filter frequency timers validated path window transport theirs streams frames response queues) s
@@ -108,15 +109,15 @@ of_first_parts {C} initial window_of controller side settings theirs own peer no
     y1 = initial_frequency (theirs.max_ack_delay * 1000000)
 
     p1 : TransportSettings → PathValue C
-    p1 x = path_limited theirs.max_udp_payload_size (new_path true None 0 now x controller (initial controller))
+    p1 x = path_limited theirs.max_udp_payload_size (new_path remote true None 0 now x controller (initial controller))
 
     d1 : Retransmits
     d1 = record nothing_waits { new_cids = drawn_ids (words_behind 1 words) (later_numbers (most_ids theirs.active_connection_id_limit)) }
 
-module _ {R : Type 0} (stream : R → Stream) (first : R) (side : Side) (settings : Settings) (windows : Windows) (theirs : ParameterValues) (own peer : List ℕ) (now : ℕ) (validated : Bool) where
+module _ {R : Type 0} (stream : R → Stream) (first : R) (side : Side) (settings : Settings) (windows : Windows) (theirs : ParameterValues) (own peer : List ℕ) (remote now : ℕ) (validated : Bool) where
   -- the end before it asks
   abbrev silent : End
-  silent = silent_end side settings windows theirs own peer now validated (words_of stream first)
+  silent = silent_end side settings windows theirs own peer remote now validated (words_of stream first)
 
   module _ {H K C : Type 0} (w x : ConnectionValue H K R C) (asks : x ≡ drawing x.random (with_end w (challenged_unless w.end.path.validated (words_at stream w) w.end))) (is : w.end ≡ silent)
       (r : R) (one : stream r ≡ after_words 1 (stream first)) (ids : stream w.random ≡ after_words (words_of_id * (most_ids theirs.active_connection_id_limit - 1)) (stream r)) where
@@ -138,7 +139,7 @@ module _ {R : Type 0} (stream : R → Stream) (first : R) (side : Side) (setting
         ∙ ap (λ (k : ℕ). words_of stream first k) (let same : words_drawn w.end + 0 ≡ words_drawn w.end = omega arith in same)
 
     -- so it is made as it has to be
-    pub is_new : x.end ≡ new_end side settings windows theirs own peer now validated (words_of stream first)
+    pub is_new : x.end ≡ new_end side settings windows theirs own peer remote now validated (words_of stream first)
     is_new =
         ap (λ (y : ConnectionValue H K R C). y.end) asks
         ∙ ap (λ (k : ℕ). challenged_unless w.end.path.validated (λ n. k) w.end) next_word

@@ -44,19 +44,19 @@ open_is states.Failed is = absurd cc
 -- ---- packets that open
 
 -- what one comes to doesn't hang on whether it was the last that may not open
-pub last_unread : (o : Opening) (now : ℕ) (mark : Option EcnCodepoint) (a b : Bool) (e : End) → opened_to o (arriving now mark a) e ≡ opened_to o (arriving now mark b) e
-last_unread o now mark a b e = by (key_phase o.first) (is_duplicate e.numbers.opened o.number)
+pub last_unread : (o : Opening) (now remote : ℕ) (mark : Option EcnCodepoint) (a b : Bool) (e : End) → opened_to o (arriving now remote mark a) e ≡ opened_to o (arriving now remote mark b) e
+last_unread o now remote mark a b e = by (key_phase o.first) (is_duplicate e.numbers.opened o.number)
   where
     x : End
     x = with_numbers e (number_opened e.numbers o.number)
 
-    in_state : (s : State) → by_state s o (arriving now mark a) x ≡ by_state s o (arriving now mark b) x
+    in_state : (s : State) → by_state s o (arriving now remote mark a) x ≡ by_state s o (arriving now remote mark b) x
     in_state states.Open = refl
     in_state states.Closing = refl
     in_state states.Drained = refl
     in_state states.Failed = refl
 
-    by : (p d : Bool) → (if p then dropped drops.KeyPhase e else (if d then dropped drops.Duplicate e else by_state e.closing.state o (arriving now mark a) x)) ≡ (if p then dropped drops.KeyPhase e else (if d then dropped drops.Duplicate e else by_state e.closing.state o (arriving now mark b) x))
+    by : (p d : Bool) → (if p then dropped drops.KeyPhase e else (if d then dropped drops.Duplicate e else by_state e.closing.state o (arriving now remote mark a) x)) ≡ (if p then dropped drops.KeyPhase e else (if d then dropped drops.Duplicate e else by_state e.closing.state o (arriving now remote mark b) x))
     by true d = refl
     by false true = refl
     by false false = in_state e.closing.state
@@ -70,24 +70,24 @@ module _ (p : Policy) (e : End) (arrival : Arrival) (d : List ℕ) (takes : (e.c
       go (inl is) = ap (λ (s : State). received_in s p e arrival d) is
       go (inr is) = ap (λ (s : State). received_in s p e arrival d) is
 
-  pub told_received_headed : told_received p e arrival.now d ≡ told_headed (decoded (fixed_length_id own_id_length) (known e.ids) d) p e arrival.now d
+  pub told_received_headed : told_received p e arrival d ≡ told_headed (decoded (fixed_length_id own_id_length) (known e.ids) d) p e arrival d
   told_received_headed = go takes
     where
-      go : (e.closing.state ≡ states.Open) ⊎ (e.closing.state ≡ states.Closing) → told_received p e arrival.now d ≡ told_headed (decoded (fixed_length_id own_id_length) (known e.ids) d) p e arrival.now d
-      go (inl is) = ap (λ (s : State). told_received_in s p e arrival.now d) is
-      go (inr is) = ap (λ (s : State). told_received_in s p e arrival.now d) is
+      go : (e.closing.state ≡ states.Open) ⊎ (e.closing.state ≡ states.Closing) → told_received p e arrival d ≡ told_headed (decoded (fixed_length_id own_id_length) (known e.ids) d) p e arrival d
+      go (inl is) = ap (λ (s : State). told_received_in s p e arrival d) is
+      go (inr is) = ap (λ (s : State). told_received_in s p e arrival d) is
 
   module _ (id : List ℕ) (headed_so : decoded (fixed_length_id own_id_length) (known e.ids) d ≡ Ok id) where
     -- one that doesn't open
     pub received_unopened : opening p e d ≡ None → received p e arrival d ≡ unopened_in e.closing.state arrival.last arrival e
     received_unopened none = received_headed ∙ ap (λ (r : Result (List ℕ) HeaderError). headed r p e arrival d) headed_so ∙ ap (λ (o : Option Opening). opened_as o p arrival e) none
 
-    pub told_unopened : opening p e d ≡ None → told_received p e arrival.now d ≡ []
-    told_unopened none = told_received_headed ∙ ap (λ (r : Result (List ℕ) HeaderError). told_headed r p e arrival.now d) headed_so ∙ ap (λ (o : Option Opening). told_opened_as o arrival.now e) none
+    pub told_unopened : opening p e d ≡ None → told_received p e arrival d ≡ []
+    told_unopened none = told_received_headed ∙ ap (λ (r : Result (List ℕ) HeaderError). told_headed r p e arrival d) headed_so ∙ ap (λ (o : Option Opening). told_opened_as o arrival e) none
 
     -- one that opens
     pub received_opened : (o : Opening) → opening p e d ≡ Some o → received p e arrival d ≡ with_ids_drawn p (opened_to o arrival e)
     received_opened o is = received_headed ∙ ap (λ (r : Result (List ℕ) HeaderError). headed r p e arrival d) headed_so ∙ ap (λ (x : Option Opening). opened_as x p arrival e) is
 
-    pub told_received_opened : (o : Opening) → opening p e d ≡ Some o → told_received p e arrival.now d ≡ told_opened o arrival.now e
-    told_received_opened o is = told_received_headed ∙ ap (λ (r : Result (List ℕ) HeaderError). told_headed r p e arrival.now d) headed_so ∙ ap (λ (x : Option Opening). told_opened_as x arrival.now e) is
+    pub told_received_opened : (o : Opening) → opening p e d ≡ Some o → told_received p e arrival d ≡ told_opened o arrival e
+    told_received_opened o is = told_received_headed ∙ ap (λ (r : Result (List ℕ) HeaderError). told_headed r p e arrival d) headed_so ∙ ap (λ (x : Option Opening). told_opened_as x arrival e) is

@@ -49,7 +49,7 @@ use quic_machine::{ConfigError, Instant, LostReason, State, TransportConfig};
 use quic_messages::DatagramState;
 use quic_packet::crypto::{HeaderKey, Keys, PacketKey};
 use quic_parameters::TransportParameters;
-use quic_paths::{PathData, PathResponses};
+use quic_paths::{Address, PathData, PathResponses};
 use quic_recovery_core::AckFrequencyState;
 use quic_spaces::{PacketNumberFilter, PacketSpace, ack_due};
 use quic_stats::ConnectionStats;
@@ -141,6 +141,7 @@ impl<H, K, R, C: Controller> Model for Connection<H, K, R, C> {
         tracking = c.space.tracking;
         idle_armed = c.permit_idle_reset;
         path = record {
+          remote = c.path.remote;
           validated = c.path.validated;
           generation = c.path.generation;
           discovery = c.path.discovery;
@@ -183,9 +184,9 @@ impl<H: HeaderKey + Drop, K: PacketKey + Drop, R: Rng + Drop, C: Controller> Con
     C,
 > {
     /// Makes an endpoint at this time. Its limits are the peer's transport parameters, as the
-    /// peer's `Config::write_parameters` wrote them. Both IDs were exchanged before. What
-    /// `keys.header.local` and `keys.packet.local` seal, the peer's `remote` ones open, and the
-    /// other way round.
+    /// peer's `Config::write_parameters` wrote them. Both IDs were exchanged before, and datagrams
+    /// go to the peer at `remote`. What `keys.header.local` and `keys.packet.local` seal, the
+    /// peer's `remote` ones open, and the other way round.
     ///
     /// `validated` says whether the peer's address is validated already (RFC 9000, section 8). If
     /// it isn't, the endpoint sends no more than three times the bytes that come, and a
@@ -223,12 +224,13 @@ impl<H: HeaderKey + Drop, K: PacketKey + Drop, R: Rng + Drop, C: Controller> Con
         peer_parameters: &[u8],
         own_id: ConnectionId,
         peer_id: ConnectionId,
+        remote: Address,
         keys: Keys<H, K>,
         now: Instant,
         random: R,
         validated: bool,
     ) -> Result<Connection<H, K, R, C>, ConfigError>
-        ensures made { IfOk result (λ c. MadeFrom side config.now.settings (windows_at C.initial_of C.window_of c.control) peer_parameters.now own_id peer_id now validated (words_of R.stream random) c.end) }
+        ensures made { IfOk result (λ c. MadeFrom side config.now.settings (windows_at C.initial_of C.window_of c.control) peer_parameters.now own_id peer_id remote now validated (words_of R.stream random) c.end) }
         ensures control { IfOk result (λ c. c.control ≡ F.built config.now.factory now (first_mtu (transport_of config.now.settings))) }
         ensures roomy { IfOk result (λ c. IsRoomy C.size_of C.window_of c.control (first_mtu c.end.transport)) }
         ensures keys { IfOk result (λ c. c.keys ≡ keys) }
@@ -256,7 +258,7 @@ impl<H: HeaderKey + Drop, K: PacketKey + Drop, R: Rng + Drop, C: Controller> Con
         // The proof reads between which sizes the search stays.
         let _least = transport.get_min_mtu();
         let _search = transport.get_mtu_discovery_config();
-        let mut path = first_path(now, &transport, config.factory(), &theirs);
+        let mut path = first_path(remote, now, &transport, config.factory(), &theirs);
         let window = path.congestion.window();
         let mtu = transport.get_initial_mtu();
         if window < 2 * u64::from(mtu) {
@@ -381,6 +383,14 @@ impl<H: HeaderKey + Drop, K: PacketKey + Drop, R: Rng + Drop, C: Controller> Con
         ensures { result ≡ self.now.end.tracking.timeouts }
     {
         self.space.tracking.timeouts()
+    }
+
+    /// The address to which the next datagram is to go (quinn-proto's
+    /// `Connection::remote_address`).
+    pub fn remote_address(&self) -> Address
+        ensures { result ≡ self.now.end.path.remote }
+    {
+        self.path.remote
     }
 
     /// The connection ID that the next datagram is sent to: the one of the peer's that is in use

@@ -162,12 +162,16 @@ module _ {H K R C : Type 0} (protection : H → Protection) (aead : K → Aead) 
       pub close_appends : out ≡ front ++ given_bytes (closes as_policy w.end).datagram
       close_appends = closes_so as_policy w.end (λ (q : Polled). out ≡ front ++ given_bytes q.datagram) some put
 
-      pub close_answers : (size : ℕ) (mark : Option EcnCodepoint) → length out ≡ length front + size → mark ≡ mark_of w.end.path.marking → ◌≡◌ {A = Result (Option Transmit) Failed} (Ok (Some (record { size = size; ecn = mark }))) (closes as_policy w.end).answer
-      close_answers size mark long marked = closes_so as_policy w.end (λ (q : Polled). ◌≡◌ {A = Result (Option Transmit) Failed} (Ok (Some (record { size = size; ecn = mark }))) q.answer) some
+      pub close_answers : (size : ℕ) (mark : Option EcnCodepoint) (remote : ℕ) → length out ≡ length front + size → mark ≡ mark_of w.end.path.marking → remote ≡ w.end.path.remote
+          → ◌≡◌ {A = Result (Option Transmit) Failed} (Ok (Some (record { size = size; ecn = mark; remote = remote }))) (closes as_policy w.end).answer
+      close_answers size mark remote long marked addressed = closes_so as_policy w.end (λ (q : Polled). ◌≡◌ {A = Result (Option Transmit) Failed} (Ok (Some (record { size = size; ecn = mark; remote = remote }))) q.answer) some
           (if_so (close_to_go as_policy w.end) (λ f is.
           (let all = ap length is ∙ length-append front (datagram_of as_policy (draft_as (closing f) w.end)) in
-          let same : size ≡ length (datagram_of as_policy (draft_as (closing f) w.end)) = omega (arith, all, long) in
-          ap (λ (k : ℕ). Ok (Some (record { size = k; ecn = mark }))) same ∙ ap (λ (m : Option EcnCodepoint). Ok (Some (record { size = length (datagram_of as_policy (draft_as (closing f) w.end)); ecn = m }))) marked)) put)
+          let bytes : ℕ = length (datagram_of as_policy (draft_as (closing f) w.end)) in
+          let same : size ≡ bytes = omega (arith, all, long) in
+          ap (λ (k : ℕ). Ok (Some (record { size = k; ecn = mark; remote = remote }))) same
+          ∙ ap (λ (m : Option EcnCodepoint). Ok (Some (record { size = bytes; ecn = m; remote = remote }))) marked
+          ∙ ap (λ (n : ℕ). Ok (Some (record { size = bytes; ecn = mark_of w.end.path.marking; remote = n }))) addressed)) put)
 
 -- ---- how much of a text fits
 

@@ -14,7 +14,7 @@ use quic_congestion::{Controller, ControllerFactory};
 use quic_machine::{Instant, TransportConfig};
 use quic_packet::crypto::{Keys, PacketKey};
 use quic_parameters::TransportParameters;
-use quic_paths::PathData;
+use quic_paths::{Address, PathData};
 use quic_retransmits::Retransmits;
 use quic_spaces::PacketNumberFilter;
 use quic_streams_handles::EndStreams;
@@ -62,9 +62,10 @@ pub fn are_sizes_wrong(transport: &TransportConfig, theirs: &TransportParameters
         || u64::from(least) > theirs.max_udp_payload_size.into_inner()
 }
 
-/// The path with which a connection begins, made now: its datagrams have no more bytes than a peer
-/// takes that told this (RFC 9000, section 18.2).
+/// The path with which a connection begins, to this address, made now: its datagrams have no more
+/// bytes than a peer takes that told this (RFC 9000, section 18.2).
 pub fn first_path<C: Controller, F: ControllerFactory<Controller = C>>(
+    remote: Address,
     now: Instant,
     transport: &TransportConfig,
     factory: &F,
@@ -72,9 +73,9 @@ pub fn first_path<C: Controller, F: ControllerFactory<Controller = C>>(
 ) -> PathData<C>
     requires { AreInRange theirs.now }
     ensures { let controller = F.built factory.now now (first_mtu transport.now) in
-        result ≡ path_limited theirs.now.max_udp_payload_size (new_path true None 0 now transport.now controller (C.initial_of controller)) }
+        result ≡ path_limited theirs.now.max_udp_payload_size (new_path remote true None 0 now transport.now controller (C.initial_of controller)) }
 {
-    let mut path = PathData::new(true, None, 0, now, transport, factory);
+    let mut path = PathData::new(remote, true, None, 0, now, transport, factory);
     let limit = theirs.max_udp_payload_size.into_inner() as u16;
     path.mtud.on_peer_max_udp_payload_size_received(limit);
     path

@@ -21,7 +21,7 @@ asking_settings delay = record plain_settings { ack_frequency_config = Some (rec
 
 -- the client, whose peer has these settings
 abbrev pub asking_of : Settings → ℕ → End
-asking_of peer delay = new_end Client (asking_settings delay) steady (parameters_of peer) client_id server_id 0 true (λ n. 63)
+asking_of peer delay = new_end Client (asking_settings delay) steady (parameters_of peer) client_id server_id 0 0 true (λ n. 63)
 
 -- the client, whose peer told that it can be asked, for a millisecond at least
 abbrev pub asking_client : ℕ → End
@@ -46,7 +46,7 @@ fifty_millis = 0x80 ∷ 0x00 ∷ 0xc3 ∷ 0x50 ∷ []
 -- what the client makes at a moment of the server's datagram of a number, which acknowledges
 -- another number alone, held back for so many times eight microseconds, as that is written
 abbrev pub hears : ℕ → ℕ → ℕ → List ℕ → End → End
-hears now number acked held e = (received worked_policies.client e (arriving now None false) (from_server number (0x02 ∷ acked ∷ held ++ 0x00 ∷ 0x00 ∷ []))).end
+hears now number acked held e = (received worked_policies.client e (arriving now 0 None false) (from_server number (0x02 ∷ acked ∷ held ++ 0x00 ∷ 0x00 ∷ []))).end
 
 -- the same at once
 abbrev pub acknowledged : ℕ → ℕ → ℕ → End → End

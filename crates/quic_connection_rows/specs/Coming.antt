@@ -15,7 +15,7 @@ use Rattle.quic_worked.specs.Acknowledged.{client_acked}
 -- what comes of a packet with this payload, under number 0
 unfoldable pub came : List ℕ → End → Outcome
 unfolding client_acked application_close_at connection_close_at ack_frequency_at
-came payload e = opened_to (record { first = 0x40; number = 0; payload = payload }) (arriving 0 None false) e
+came payload e = opened_to (record { first = 0x40; number = 0; payload = payload }) (arriving 0 0 None false) e
 
 -- the code with which an end closes, where it does
 abbrev pub code_of : Received → Option ℕ
@@ -28,11 +28,11 @@ closes_with payload e = code_of (came payload e).answer
 
 -- a server that takes eight bytes on all its streams, before any is read
 abbrev pub narrow_server : End
-narrow_server = new_end Server (record plain_settings { receive_window = 8 }) steady (parameters_of plain_settings) server_id client_id 0 true (λ n. 63)
+narrow_server = new_end Server (record plain_settings { receive_window = 8 }) steady (parameters_of plain_settings) server_id client_id 0 0 true (λ n. 63)
 
 -- one that takes no messages
 abbrev pub silent_server : End
-silent_server = new_end Server (record plain_settings { datagram_receive_buffer_size = None }) steady (parameters_of plain_settings) server_id client_id 0 true (λ n. 63)
+silent_server = new_end Server (record plain_settings { datagram_receive_buffer_size = None }) steady (parameters_of plain_settings) server_id client_id 0 0 true (λ n. 63)
 
 -- NEW_CONNECTION_ID of a number, which asks that those below another be retired, with an id of
 -- eight bytes (RFC 9000, section 19.15)

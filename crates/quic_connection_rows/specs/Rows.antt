@@ -49,7 +49,7 @@ bare_close = by_application (record { code = 300; reason = [] })
 
 -- a client that is to be without a packet for a second at most
 abbrev pub alive_made : End
-alive_made = new_end Client (record plain_settings { keep_alive_interval = Some 1000000000 }) steady (parameters_of plain_settings) client_id server_id 0 true (λ n. 63)
+alive_made = new_end Client (record plain_settings { keep_alive_interval = Some 1000000000 }) steady (parameters_of plain_settings) client_id server_id 0 0 true (λ n. 63)
 
 -- it gave a datagram at moment 0
 unfoldable pub alive_given : End
@@ -73,7 +73,7 @@ alive_closed = end_after_close 1500000000 0 [] alive_pinged
 
 -- a client that queues eight bytes of messages
 abbrev pub narrow_client : End
-narrow_client = new_end Client (record plain_settings { datagram_send_buffer_size = 8 }) steady (parameters_of plain_settings) client_id server_id 0 true (λ n. 63)
+narrow_client = new_end Client (record plain_settings { datagram_send_buffer_size = 8 }) steady (parameters_of plain_settings) client_id server_id 0 0 true (λ n. 63)
 
 -- a letter so many times
 abbrev pub letters : ℕ → ℕ → List ℕ

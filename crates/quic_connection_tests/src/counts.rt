@@ -1,5 +1,5 @@
 //! What an endpoint counts of frames, which no clause reads, and of its datagrams and its path.
-use crate::ends::{Pair, arrives, asking, event, sealed_for, stream, unset, with_pair};
+use crate::ends::{PEER, Pair, arrives, asking, event, sealed_for, stream, unset, with_pair};
 use bytes::Bytes;
 use quic_connection::{
     Call, ConnectionStats, Dir, DropStats, Duration, FrameStats, Injection, Instant, PathStats,
@@ -171,6 +171,7 @@ fn each_frame_is_counted(rt: HostRuntime) -> Result<(), Fail> {
 fn assert_path_counted<R: Abort>(rt: &R, pair: &mut Pair) -> Result<(), Fail> {
     let bytes = Injection {
         now: at(0),
+        remote: PEER,
         ecn: None,
         bytes: Bytes::from_static(&[0; 400]),
     };

@@ -9,9 +9,9 @@ ghost use Rattle.quic_keys.specs.Plain.{plain_protection, plain_aead};
 ghost use Rattle.quic_keys.specs.Words.{stream_from};
 
 use quic_connection::{
-    AckFrequencyConfig, Answer, Call, Config, ConfigError, Connection, Delivery, Dir, Duration,
-    Ends, Given, Instant, Making, NewReno, NewRenoConfig, Received, RunEvent, Side, StreamId,
-    TransportConfig, VarInt, step,
+    AckFrequencyConfig, Address, Answer, Call, Config, ConfigError, Connection, Delivery, Dir,
+    Duration, Ends, Given, Instant, Making, NewReno, NewRenoConfig, Received, RunEvent, Side,
+    StreamId, TransportConfig, VarInt, step,
 };
 use quic_keys::laws::keys_meet_the_premises;
 use quic_keys::{PlainHeaderKey, PlainKey, Words, keys_for};
@@ -22,6 +22,9 @@ use std::alloc::{AllocError, Global};
 pub(crate) type End = Connection<PlainHeaderKey, PlainKey, Words, NewReno>;
 
 pub(crate) type BothEnds = Ends<PlainHeaderKey, PlainKey, Words, NewReno>;
+
+/// By which number each endpoint knows the address of its peer.
+pub(crate) const PEER: Address = Address(0);
 
 /// The first ID of an endpoint.
 fn id_of(side: Side) -> [u8; 8] {
@@ -65,6 +68,7 @@ fn making(
     Making {
         config,
         id: ConnectionId::new(&id_of(side)),
+        remote: PEER,
         keys: keys_for(side),
         random: Words::word(63),
         validated,
@@ -109,8 +113,8 @@ impl Pair {
     pub(crate) fn receive(&mut self, side: Side, datagram: &mut [u8]) -> Received {
         let now = Instant::from_nanos(0);
         match side {
-            Side::Client => self.ends.client.receive(now, None, datagram),
-            Side::Server => self.ends.server.receive(now, None, datagram),
+            Side::Client => self.ends.client.receive(now, PEER, None, datagram),
+            Side::Server => self.ends.server.receive(now, PEER, None, datagram),
         }
     }
 }
@@ -165,6 +169,7 @@ pub(crate) fn event(side: Side, call: Call) -> RunEvent {
 pub(crate) fn arrives(index: usize) -> Call {
     Call::Deliver(Delivery {
         now: Instant::from_nanos(0),
+        remote: PEER,
         ecn: Some(EcnCodepoint::Ect0),
         index,
     })

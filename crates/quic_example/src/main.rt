@@ -7,7 +7,7 @@ mod party;
 use crate::party::{MANY, Party};
 use anyhow::{Result, bail};
 use quic_connection::{
-    Config, Connection, ConnectionId, Dir, Instant, Making, NewReno, NewRenoConfig, Side,
+    Address, Config, Connection, ConnectionId, Dir, Instant, Making, NewReno, NewRenoConfig, Side,
     TransportConfig, TransportParameters, VarInt,
 };
 use quic_keys::{PlainHeaderKey, PlainKey, Words, keys_for};
@@ -16,6 +16,10 @@ use std::collections::VecDeque;
 
 /// An end: over its header keys, its packet keys, its random source and its congestion controller.
 pub(crate) type End = Connection<PlainHeaderKey, PlainKey, Words, NewReno>;
+
+/// By which number an end knows the address of its peer. A program gives each address from which
+/// datagrams come a number of its own; here there is one.
+pub(crate) const PEER: Address = Address(0);
 
 /// What either end is configured with. What isn't set has its default.
 fn config() -> Config<NewRenoConfig> {
@@ -66,6 +70,7 @@ fn make(alloc: Global, side: Side, unwritten: &'static [u8]) -> Result<Box<Party
     let making = Making {
         config: config(),
         id: first_id(side),
+        remote: PEER,
         keys: keys_for(side),
         // Its words say which packet numbers are left out, and are the later ids and their tokens:
         // in earnest nobody may guess them.

@@ -1,6 +1,6 @@
 //! An end with its application, as a program holds them.
 
-use crate::End;
+use crate::{End, PEER};
 use anyhow::{Result, bail};
 use quic_connection::{
     Bytes, Duration, EcnCodepoint, Event, Instant, LostReason, ReadError, ReadableError, Side,
@@ -48,7 +48,7 @@ impl Party {
     fn send(&mut self, rt: &(impl Print + AllocGlobal), now: Instant) -> Result<()> {
         for _ in 0..MANY {
             let mut bytes = Vec::new(rt.alloc());
-            let Some(Transmit { size, ecn }) = self.end.poll_transmit(now, &mut bytes)? else {
+            let Some(Transmit { size, ecn, .. }) = self.end.poll_transmit(now, &mut bytes)? else {
                 break;
             };
             println!(rt; "  {} sends {size} bytes", self.side)?;
@@ -73,7 +73,7 @@ impl Party {
         let has_arrived = peer.sent.front().is_some_and(|next| next.arrives <= now);
         if has_arrived && let Some(mut flight) = peer.sent.pop_front() {
             // It is opened in place.
-            let received = self.end.receive(now, flight.ecn, &mut flight.bytes);
+            let received = self.end.receive(now, PEER, flight.ecn, &mut flight.bytes);
             println!(rt; "  {} receives: {received}", self.side)?;
         }
         Ok(self.end.handle_timeout(now)?)

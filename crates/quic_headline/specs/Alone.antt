@@ -62,10 +62,11 @@ pub record IsNew (e : End) : Type 0 where
   pub parameters : List ℕ
   pub own_id : List ℕ
   pub peer_id : List ℕ
+  pub remote : ℕ
   pub moment : ℕ
   pub validated : Bool
   pub words : ℕ → ℕ
-  pub made : MadeFrom side settings windows parameters own_id peer_id moment validated words e
+  pub made : MadeFrom side settings windows parameters own_id peer_id remote moment validated words e
 
 -- An end as it was made by settings in range, by which no path has to carry more than a UDP payload
 -- has, for a peer whose id is no longer than ids are (RFC 9000, section 17.2).

@@ -11,7 +11,9 @@ ghost use Rattle.quic_lines.specs.Language.{number_named, varint_named, switch_i
 use crate::error::ScriptError;
 use bytes::Bytes;
 use hex::FromHexError;
-use quic_machine::{Call, CloseCall, ConfigError, Delivery, Injection, ReadCall, RunEvent};
+use quic_machine::{
+    Address, Call, CloseCall, ConfigError, Delivery, Injection, ReadCall, RunEvent,
+};
 use quic_time::{Instant, Timer};
 use quic_wire_core::{Dir, EcnCodepoint, Side, StreamId, VarInt};
 use std::alloc::{AllocError, Global};
@@ -276,6 +278,7 @@ impl<'a> LineWords<'a> {
     {
         Ok(Delivery {
             now: self.moment()?,
+            remote: Address(0),
             ecn: self.mark()?,
             index: self.index()?,
         })
@@ -292,6 +295,7 @@ impl<'a> LineWords<'a> {
     {
         Ok(Injection {
             now: self.moment()?,
+            remote: Address(0),
             ecn: self.mark()?,
             bytes: self.bytes(alloc)?,
         })

@@ -102,12 +102,12 @@ policy_of protection aead seals openings words w = keys_policy protection aead s
 abbrev pub first_streams : Side → Settings → ParameterValues → StreamsState
 first_streams side settings theirs = after_set_params (new_streams side settings.max_uni settings.max_bidi settings.send_window settings.receive_window settings.stream_receive_window) theirs
 
--- an end as it is made at a moment, whose random source answers these words, and whose controller
--- shows these windows: the first word says which packet number is left out first, and the next ones
--- are the ids that it issues at once, of which the peer has to be told. It has asked its peer for
--- nothing
-abbrev pub silent_end : Side → Settings → Windows → ParameterValues → List ℕ → List ℕ → ℕ → Bool → (ℕ → ℕ) → End
-silent_end side settings windows theirs own_id peer_id now validated words = record {
+-- an end as it is made at a moment for a peer at this address, whose random source answers these
+-- words, and whose controller shows these windows: the first word says which packet number is left
+-- out first, and the next ones are the ids that it issues at once, of which the peer has to be told.
+-- It has asked its peer for nothing
+abbrev pub silent_end : Side → Settings → Windows → ParameterValues → List ℕ → List ℕ → ℕ → ℕ → Bool → (ℕ → ℕ) → End
+silent_end side settings windows theirs own_id peer_id remote now validated words = record {
   closing = record { clock = now; state = states.Open; reason = None; told = false; close = None; owed = false };
   ids = first_ids own_id peer_id (most_ids theirs.active_connection_id_limit) now (words_behind 1 words);
   numbers = no_numbers;
@@ -118,7 +118,7 @@ silent_end side settings windows theirs own_id peer_id now validated words = rec
   timers = no_timers;
   tracking = nothing_tracked now;
   idle_armed = true;
-  path = first_path validated (transport_of settings) theirs.max_udp_payload_size windows now;
+  path = first_path remote validated (transport_of settings) theirs.max_udp_payload_size windows now;
   validation = no_validation;
   transport = transport_of settings;
   peer_params = theirs;
@@ -347,16 +347,16 @@ challenged_unless validated words e =
       timers = with_path_timer e.timers (if validated then e.timers.path_validation else Some (validation_moment e));
     }
 
--- an end as it is made at a moment, whose random source answers these words, and whose controller
--- shows these windows
-abbrev pub new_end : Side → Settings → Windows → ParameterValues → List ℕ → List ℕ → ℕ → Bool → (ℕ → ℕ) → End
-new_end side settings windows theirs own_id peer_id now validated words = challenged_unless validated words (silent_end side settings windows theirs own_id peer_id now validated words)
+-- an end as it is made at a moment for a peer at this address, whose random source answers these
+-- words, and whose controller shows these windows
+abbrev pub new_end : Side → Settings → Windows → ParameterValues → List ℕ → List ℕ → ℕ → ℕ → Bool → (ℕ → ℕ) → End
+new_end side settings windows theirs own_id peer_id remote now validated words = challenged_unless validated words (silent_end side settings windows theirs own_id peer_id remote now validated words)
 
 -- an end is made of what was read of the peer's parameters
-abbrev pub IsMade : {E : Type 0} → Side → Settings → Windows → Result ParameterValues E → List ℕ → List ℕ → ℕ → Bool → (ℕ → ℕ) → End → Type 0
-IsMade side settings windows (Ok theirs) own_id peer_id now validated words e = e ≡ new_end side settings windows theirs own_id peer_id now validated words
-IsMade side settings windows (Err error) own_id peer_id now validated words e = ⊥
+abbrev pub IsMade : {E : Type 0} → Side → Settings → Windows → Result ParameterValues E → List ℕ → List ℕ → ℕ → ℕ → Bool → (ℕ → ℕ) → End → Type 0
+IsMade side settings windows (Ok theirs) own_id peer_id remote now validated words e = e ≡ new_end side settings windows theirs own_id peer_id remote now validated words
+IsMade side settings windows (Err error) own_id peer_id remote now validated words e = ⊥
 
 -- an end is made of the peer's parameters as bytes
-abbrev pub MadeFrom : Side → Settings → Windows → List ℕ → List ℕ → List ℕ → ℕ → Bool → (ℕ → ℕ) → End → Type 0
-MadeFrom side settings windows bytes own_id peer_id now validated words e = IsMade side settings windows (parameters_at bytes) own_id peer_id now validated words e
+abbrev pub MadeFrom : Side → Settings → Windows → List ℕ → List ℕ → List ℕ → ℕ → ℕ → Bool → (ℕ → ℕ) → End → Type 0
+MadeFrom side settings windows bytes own_id peer_id remote now validated words e = IsMade side settings windows (parameters_at bytes) own_id peer_id remote now validated words e

@@ -43,7 +43,7 @@ headed_case : (r : Result (List ℕ) HeaderError) (p : Policy) (e : End) (arriva
 headed_case (Err error) p e arrival d P none same closes = same
 headed_case (Ok id) p e arrival d P none same closes = packet_case (opening p e d) p arrival e P none same closes
 
-received_case : (state : State) (p : Policy) (e : End) (arrival : Arrival) (d : List ℕ) (P : End → Type 0) → would_open p e d ≡ false → P e → ((now : ℕ) → P (exhausted now e)) → P (received_in state p e arrival d).end
+received_case : (state : State) (p : Policy) (e : End) (arrival : Arrival) (d : List ℕ) (P : End → Type 0) → would_open p e arrival.remote d ≡ false → P e → ((now : ℕ) → P (exhausted now e)) → P (received_in state p e arrival d).end
 received_case states.Failed p e arrival d P none same closes = same
 received_case states.Drained p e arrival d P none same closes = same
 received_case states.Open p e arrival d P none same closes = headed_case (decoded (fixed_length_id own_id_length) (known e.ids) d) p e arrival d P none same closes
@@ -51,10 +51,10 @@ received_case states.Closing p e arrival d P none same closes = headed_case (dec
 
 -- what holds of the end as it was, and of it where it closes for packets that didn't open, holds
 -- after an injection
-pub by_injection : (p : Policy) (e : End) (is_last : Bool) (injection : Injection) (P : End → Type 0) → P e → ((now : ℕ) → P (exhausted now e)) → P (after_injected_if (would_open p e injection.bytes) is_last p e injection)
-by_injection p e is_last injection P same closes = go (would_open p e injection.bytes) refl
+pub by_injection : (p : Policy) (e : End) (is_last : Bool) (injection : Injection) (P : End → Type 0) → P e → ((now : ℕ) → P (exhausted now e)) → P (after_injected_if (would_open p e injection.remote injection.bytes) is_last p e injection)
+by_injection p e is_last injection P same closes = go (would_open p e injection.remote injection.bytes) refl
   where
-    go : (b : Bool) → would_open p e injection.bytes ≡ b → P (after_injected_if b is_last p e injection)
+    go : (b : Bool) → would_open p e injection.remote injection.bytes ≡ b → P (after_injected_if b is_last p e injection)
     go true is = same
     go false is = received_case e.closing.state p e (injected_by is_last injection) injection.bytes P is same closes
 

@@ -75,7 +75,7 @@ IsAnswer p e theirs calls.UseNextId a = IsNextIdAnswer e a
 IsAnswer p e theirs (calls.Poll now) a = (a ≡ answers.Poll (polled p e now).answer) ⊎ (a ≡ answers.Poll (Err (record {})))
 IsAnswer p e theirs (calls.Timeout now) a = (a ≡ answers.Timeout (timed_out p e now).answer) ⊎ (a ≡ answers.Timeout (Err (record {})))
 IsAnswer p e theirs (calls.Deliver delivery) a = IsDelivered p e delivery (slice_get theirs delivery.index) a
-IsAnswer p e theirs (calls.Inject injection) a = a ≡ injected_if (would_open p e injection.bytes) (says_last a) p e injection
+IsAnswer p e theirs (calls.Inject injection) a = a ≡ injected_if (would_open p e injection.remote injection.bytes) (says_last a) p e injection
 IsAnswer p e theirs calls.Event a = a ≡ answers.Event (end_tells e)
 IsAnswer p e theirs (calls.Timer timer) a = a ≡ answers.Timer (timer_at timer e.timers)
 IsAnswer p e theirs calls.NextTimeout a = a ≡ answers.NextTimeout (next_timer e.timers)
@@ -102,7 +102,7 @@ after_call p e theirs calls.UseNextId a = end_on_next_id e a
 after_call p e theirs (calls.Poll now) a = (polled p e now).end
 after_call p e theirs (calls.Timeout now) a = (timed_out p e now).end
 after_call p e theirs (calls.Deliver delivery) a = after_delivered p e (delivered_by (says_last a) delivery) (slice_get theirs delivery.index)
-after_call p e theirs (calls.Inject injection) a = after_injected_if (would_open p e injection.bytes) (says_last a) p e injection
+after_call p e theirs (calls.Inject injection) a = after_injected_if (would_open p e injection.remote injection.bytes) (says_last a) p e injection
 after_call p e theirs calls.Event a = end_after_event e
 after_call p e theirs (calls.Timer timer) a = e
 after_call p e theirs calls.NextTimeout a = e
@@ -110,16 +110,16 @@ after_call p e theirs calls.State a = e
 after_call p e theirs call a = end_on_streams e call a
 
 -- what the controller is told of a delivery
-abbrev pub told_delivered : Policy → End → ℕ → Option (List ℕ) → List Told
-told_delivered p e now None = []
-told_delivered p e now (Some d) = told_received p e now d
+abbrev pub told_delivered : Policy → End → Arrival → Option (List ℕ) → List Told
+told_delivered p e arrival None = []
+told_delivered p e arrival (Some d) = told_received p e arrival d
 
 -- what the controller is told of a call, where memory served (RFC 9002, section 7): an injection
 -- that is made tells nothing, since it doesn't open
 abbrev pub tells : Policy → End → List (List ℕ) → Call → List Told
 tells p e theirs (calls.Poll now) = told_polled p e now
 tells p e theirs (calls.Timeout now) = told_timed_out e now
-tells p e theirs (calls.Deliver delivery) = told_delivered p e delivery.now (slice_get theirs delivery.index)
+tells p e theirs (calls.Deliver delivery) = told_delivered p e (delivered_by false delivery) (slice_get theirs delivery.index)
 tells p e theirs call = []
 
 -- the datagrams that a call gives

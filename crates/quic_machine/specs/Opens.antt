@@ -27,6 +27,7 @@ opens_behind (Ok id) p expected d = in_phase (opened_packet p.header p.packet (o
 abbrev pub opens : Policy → List (List ℕ) → ℕ → List ℕ → Option Opening
 opens p ids expected d = opens_behind (decoded (fixed_length_id own_id_length) ids d) p expected d
 
--- whether a datagram opens at an end, in whatever state the end is, and also where it came before
-abbrev pub would_open : Policy → End → List ℕ → Bool
-would_open p e d = is_some (opens p (known e.ids) (expected e.numbers) d)
+-- whether a datagram from an address opens at an end, in whatever state the end is, and also where
+-- it came before
+abbrev pub would_open : Policy → End → ℕ → List ℕ → Bool
+would_open p e remote d = is_some (opens p (known e.ids) (expected e.numbers) d)

@@ -24,6 +24,8 @@ no_validation = record { challenge = None; drawn = 0 }
 
 -- the path to the peer
 pub record Path : Type 0 where
+  -- where the peer is (RFC 9000, section 9)
+  pub remote : ℕ
   -- whether the peer's address is validated (RFC 9000, section 8), which path of the connection it
   -- is (section 9), and how many bytes a datagram has at most that it takes, with the search for
   -- more (section 14)
@@ -53,10 +55,11 @@ pub record Windows : Type 0 where
   pub initial : ℕ
   pub present : ℕ
 
--- the first path, validated or not, made at a moment by these settings to a peer that takes so many
--- bytes in a datagram, with a controller that shows these windows
-abbrev pub first_path : Bool → TransportSettings → ℕ → Windows → ℕ → Path
-first_path validated settings limit windows now = record {
+-- the first path, to an address that is validated or not, made at a moment by these settings to a
+-- peer that takes so many bytes in a datagram, with a controller that shows these windows
+abbrev pub first_path : ℕ → Bool → TransportSettings → ℕ → Windows → ℕ → Path
+first_path remote validated settings limit windows now = record {
+  remote = remote;
   validated = validated;
   generation = 0;
   discovery = after_limit limit (first_discovery true None settings);

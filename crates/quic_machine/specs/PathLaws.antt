@@ -11,5 +11,5 @@ size_by None size least = refl
 size_by (Some s) size least = refl
 
 -- a path begins with the size that its settings say, or with what the peer takes where that is less
-pub first_size : (validated : Bool) (t : TransportSettings) (limit : ℕ) (windows : Windows) (now : ℕ) → current_mtu (first_path validated t limit windows now) ≡ min (first_mtu t) limit
-first_size validated t limit windows now = ap (λ (n : ℕ). min n limit) (size_by t.mtu_discovery_config (first_mtu t) t.min_mtu)
+pub first_size : (remote : ℕ) (validated : Bool) (t : TransportSettings) (limit : ℕ) (windows : Windows) (now : ℕ) → current_mtu (first_path remote validated t limit windows now) ≡ min (first_mtu t) limit
+first_size remote validated t limit windows now = ap (λ (n : ℕ). min n limit) (size_by t.mtu_discovery_config (first_mtu t) t.min_mtu)

@@ -72,7 +72,7 @@ mark_of false = None
 
 -- a datagram, marked ECT(0) while the path is marked
 abbrev pub gives_datagram : List ℕ → End → Polled
-gives_datagram d e = record { answer = Ok (Some (record { size = length d; ecn = mark_of e.path.marking })); datagram = Some d; end = e }
+gives_datagram d e = record { answer = Ok (Some (record { size = length d; ecn = mark_of e.path.marking; remote = e.path.remote })); datagram = Some d; end = e }
 
 -- how many bytes stand beside the frames of the next datagram: header, number and tag
 abbrev pub beside_frames : End → ℕ

@@ -483,37 +483,37 @@ received p e arrival d = received_in e.closing.state p e arrival d
 -- ---- what the controller is told (RFC 9002, section 7)
 
 -- of a packet that opened at an open end, under a number that didn't come before
-abbrev pub told_processed : Opening → ℕ → End → List Told
-told_processed o now e = told_payload o.first (items o.payload) (with_closing e (ticked e.closing now))
+abbrev pub told_processed : Opening → Arrival → End → List Told
+told_processed o arrival e = told_payload o.first (items o.payload) (with_closing e (ticked e.closing arrival.now))
 
 -- only an open end reads what is in a packet
-abbrev pub told_by_state : State → Opening → ℕ → End → List Told
-told_by_state states.Open o now e = told_processed o now e
-told_by_state state o now e = []
+abbrev pub told_by_state : State → Opening → Arrival → End → List Told
+told_by_state states.Open o arrival e = told_processed o arrival e
+told_by_state state o arrival e = []
 
 -- of a packet that opened
-abbrev pub told_opened : Opening → ℕ → End → List Told
-told_opened o now e =
+abbrev pub told_opened : Opening → Arrival → End → List Told
+told_opened o arrival e =
     if key_phase o.first || is_duplicate e.numbers.opened o.number then []
-    else told_by_state e.closing.state o now (with_numbers e (number_opened e.numbers o.number))
+    else told_by_state e.closing.state o arrival (with_numbers e (number_opened e.numbers o.number))
 
 -- of a packet, where it opened
-abbrev pub told_opened_as : Option Opening → ℕ → End → List Told
-told_opened_as None now e = []
-told_opened_as (Some o) now e = told_opened o now e
+abbrev pub told_opened_as : Option Opening → Arrival → End → List Told
+told_opened_as None arrival e = []
+told_opened_as (Some o) arrival e = told_opened o arrival e
 
 -- of a datagram, by what its header says
-abbrev pub told_headed : Result (List ℕ) HeaderError → Policy → End → ℕ → List ℕ → List Told
-told_headed (Err error) p e now d = []
-told_headed (Ok id) p e now d = told_opened_as (opening p e d) now e
+abbrev pub told_headed : Result (List ℕ) HeaderError → Policy → End → Arrival → List ℕ → List Told
+told_headed (Err error) p e arrival d = []
+told_headed (Ok id) p e arrival d = told_opened_as (opening p e d) arrival e
 
 -- an end that is drained or has failed drops all
-abbrev pub told_received_in : State → Policy → End → ℕ → List ℕ → List Told
-told_received_in states.Failed p e now d = []
-told_received_in states.Drained p e now d = []
-told_received_in states.Open p e now d = told_headed (decoded (fixed_length_id own_id_length) (known e.ids) d) p e now d
-told_received_in states.Closing p e now d = told_headed (decoded (fixed_length_id own_id_length) (known e.ids) d) p e now d
+abbrev pub told_received_in : State → Policy → End → Arrival → List ℕ → List Told
+told_received_in states.Failed p e arrival d = []
+told_received_in states.Drained p e arrival d = []
+told_received_in states.Open p e arrival d = told_headed (decoded (fixed_length_id own_id_length) (known e.ids) d) p e arrival d
+told_received_in states.Closing p e arrival d = told_headed (decoded (fixed_length_id own_id_length) (known e.ids) d) p e arrival d
 
--- of a datagram that comes at a moment
-abbrev pub told_received : Policy → End → ℕ → List ℕ → List Told
-told_received p e now d = told_received_in e.closing.state p e now d
+-- of a datagram that comes
+abbrev pub told_received : Policy → End → Arrival → List ℕ → List Told
+told_received p e arrival d = told_received_in e.closing.state p e arrival d

@@ -14,13 +14,14 @@ use Rattle.quic_machine.specs.Control.{Control}
 use Rattle.quic_machine.specs.Machine.{World, Policies}
 
 -- how one end was made: its settings, the windows that its controller showed, the parameter bytes
--- that the settings come to, its first id, the moment, whether the path was validated, and the
--- words that its random source answers
+-- that the settings come to, its first id, the peer's first address, the moment, whether the path
+-- was validated, and the words that its random source answers
 pub record Making : Type 0 where
   pub settings : Settings
   pub windows : Windows
   pub parameters : List ℕ
   pub id : List ℕ
+  pub remote : ℕ
   pub moment : ℕ
   pub validated : Bool
   pub words : ℕ → ℕ
@@ -40,8 +41,8 @@ pub record AreStarted (w : World) : Type 0 where
   pub server_making : Making
   pub client_is : IsMaking client_making
   pub server_is : IsMaking server_making
-  pub client : MadeFrom Client client_making.settings client_making.windows server_making.parameters client_making.id server_making.id client_making.moment client_making.validated client_making.words w.client
-  pub server : MadeFrom Server server_making.settings server_making.windows client_making.parameters server_making.id client_making.id server_making.moment server_making.validated server_making.words w.server
+  pub client : MadeFrom Client client_making.settings client_making.windows server_making.parameters client_making.id server_making.id client_making.remote client_making.moment client_making.validated client_making.words w.client
+  pub server : MadeFrom Server server_making.settings server_making.windows client_making.parameters server_making.id client_making.id server_making.remote server_making.moment server_making.validated server_making.words w.server
   pub client_gave : w.from_client ≡ []
   pub server_gave : w.from_server ≡ []
   pub client_heard : w.client_heard ≡ nothing_heard

@@ -3,6 +3,7 @@ ghost use Rattle.std.specs.Prelude.{◌≡◌, ◌≤◌, vec_len, vec_capacity}
 ghost use Rattle.quic_machine.specs.Reasons.{text_len};
 
 use crate::peer_close::PeerClose;
+use quic_paths::Address;
 use quic_streams_parts::StreamEvent;
 use quic_wire_core::{EcnCodepoint, TransportError};
 use std::fmt;
@@ -203,6 +204,8 @@ pub struct Transmit {
     pub size: usize,
     /// How it is to be marked.
     pub ecn: Option<EcnCodepoint>,
+    /// The address to which it is to go.
+    pub remote: Address,
 }
 
 /// Why an end doesn't change to another id of its peer; tested in this order.

@@ -12,6 +12,7 @@ pub use answers::{
 };
 pub use peer_close::PeerClose;
 pub use quic_config::{IdleTimeout, TransportConfig};
+pub use quic_paths::Address;
 pub use quic_time::{Instant, Timer};
 pub use run::{
     Answer, Call, CloseCall, Datagram, Delivery, EndView, Injection, Nexts, ReadCall, RunEvent,

@@ -5,6 +5,7 @@ use crate::answers::{Event, Failed, LostReason, NextIdError, Received, State, Tr
 use bytes::Bytes;
 use quic_assembler::Chunk;
 use quic_messages::SendDatagramError;
+use quic_paths::Address;
 use quic_streams_parts::{
     ClosedStream, FinishError, ReadError, ReadableError, UpdateError, WriteError, Written,
 };
@@ -104,6 +105,8 @@ pub struct CloseCall {
 pub struct Delivery {
     /// When it arrives.
     pub now: Instant,
+    /// The address that it comes from.
+    pub remote: Address,
     /// The mark with which it arrives (RFC 3168, section 5), if it has one.
     pub ecn: Option<EcnCodepoint>,
     /// Which of the other end's datagrams it is, counted from 0.
@@ -115,6 +118,8 @@ pub struct Delivery {
 pub struct Injection {
     /// When they arrive.
     pub now: Instant,
+    /// The address that they come from.
+    pub remote: Address,
     /// The mark with which they arrive (RFC 3168, section 5), if they have one.
     pub ecn: Option<EcnCodepoint>,
     /// The bytes.

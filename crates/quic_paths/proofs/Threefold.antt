@@ -22,14 +22,14 @@ later path (went bytes ∷ rest) unvalidated sent received threefold (free, allo
     let more = later (path_after_sent path bytes) rest unvalidated (omega arith) received (omega (arith, fit)) allowed in
     omega (arith, fit, more)
 
-pub first : {C : Type 0} (searches : Bool) (limit : Option ℕ) (generation now initial : ℕ) (settings : TransportSettings) (controller : C) (datagrams : List Datagram)
-    → AreAllowed datagrams (new_path searches limit generation now settings controller initial) → bytes_went datagrams ≤ 3 * bytes_came datagrams
-first searches limit generation now initial settings controller datagrams allowed =
-    let more = later (new_path searches limit generation now settings controller initial) datagrams refl (omega arith) (omega arith) (omega arith) allowed in
+pub first : {C : Type 0} (remote : ℕ) (searches : Bool) (limit : Option ℕ) (generation now initial : ℕ) (settings : TransportSettings) (controller : C) (datagrams : List Datagram)
+    → AreAllowed datagrams (new_path remote searches limit generation now settings controller initial) → bytes_went datagrams ≤ 3 * bytes_came datagrams
+first remote searches limit generation now initial settings controller datagrams allowed =
+    let more = later (new_path remote searches limit generation now settings controller initial) datagrams refl (omega arith) (omega arith) (omega arith) allowed in
     omega (arith, more)
 
-pub next : {C : Type 0} (prev : PathValue C) (generation now window : ℕ) (datagrams : List Datagram)
-    → AreAllowed datagrams (next_path prev generation now window) → bytes_went datagrams ≤ 3 * bytes_came datagrams
-next prev generation now window datagrams allowed =
-    let more = later (next_path prev generation now window) datagrams refl (omega arith) (omega arith) (omega arith) allowed in
+pub next : {C : Type 0} (remote : ℕ) (prev : PathValue C) (generation now window : ℕ) (datagrams : List Datagram)
+    → AreAllowed datagrams (next_path remote prev generation now window) → bytes_went datagrams ≤ 3 * bytes_came datagrams
+next remote prev generation now window datagrams allowed =
+    let more = later (next_path remote prev generation now window) datagrams refl (omega arith) (omega arith) (omega arith) allowed in
     omega (arith, more)

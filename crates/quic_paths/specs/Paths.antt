@@ -9,6 +9,8 @@ use Rattle.quic_paths.specs.InFlight.{Flight, no_flight, flight_with, flight_wit
 
 -- a path with its controller, whatever that is
 pub record PathValue (C : Type 0) : Type 0 where
+  -- the peer's address
+  pub remote : ℕ
   -- how long a round trip takes (RFC 9002, section 5)
   pub rtt : Rtt
   -- how much may be in flight, how sending is spread, and what is in flight (section 7)
@@ -34,10 +36,11 @@ pub record PathValue (C : Type 0) : Type 0 where
   -- which path of the connection it is
   pub generation : ℕ
 
--- made at a moment, with a controller that begins with this window; a greater size of datagrams is
--- looked for or isn't, within the peer's limit if it is known
-abbrev pub new_path : {C : Type 0} → Bool → Option ℕ → ℕ → ℕ → TransportSettings → C → ℕ → PathValue C
-new_path searches limit generation now settings controller initial = record {
+-- made to an address at a moment, with a controller that begins with this window; a greater size of
+-- datagrams is looked for or isn't, within the peer's limit if it is known
+abbrev pub new_path : {C : Type 0} → ℕ → Bool → Option ℕ → ℕ → ℕ → TransportSettings → C → ℕ → PathValue C
+new_path remote searches limit generation now settings controller initial = record {
+  remote = remote;
   rtt = assumed_rtt settings.initial_rtt;
   congestion = controller;
   pacing = new_pacing settings.initial_rtt initial (first_mtu settings) now;
@@ -53,10 +56,11 @@ new_path searches limit generation now settings controller initial = record {
   generation = generation;
 }
 
--- made at a moment in place of another, whose controller has this window: what was measured stays
--- (RFC 9000, section 9)
-abbrev pub next_path : {C : Type 0} → PathValue C → ℕ → ℕ → ℕ → PathValue C
-next_path prev generation now window = record {
+-- made to an address at a moment in place of another, whose controller has this window: what was
+-- measured stays (RFC 9000, section 9)
+abbrev pub next_path : {C : Type 0} → ℕ → PathValue C → ℕ → ℕ → ℕ → PathValue C
+next_path remote prev generation now window = record {
+  remote = remote;
   rtt = prev.rtt;
   congestion = prev.congestion;
   pacing = new_pacing (best_rtt prev.rtt) window prev.discovery.size now;

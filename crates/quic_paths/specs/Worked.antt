@@ -5,9 +5,9 @@ use Rattle.quic_congestion.specs.NewReno.{Reno, default_reno, reno_made}
 use Rattle.quic_congestion.specs.Pacer.{after_datagram}
 use Rattle.quic_paths.specs.Paths.{PathValue, new_path}
 
--- made at 0 with the default settings, to a peer that takes 65527 bytes
+-- made at 0 to address 0 with the default settings, for a peer that takes 65527 bytes
 abbrev pub default_path : PathValue Reno
-default_path = new_path true (Some 65527) 0 0 default_transport (reno_made default_reno 0 1200) 12000
+default_path = new_path 0 true (Some 65527) 0 0 default_transport (reno_made default_reno 0 1200) 12000
 
 -- ten datagrams of 1200 bytes took its tokens
 abbrev pub drained_path : PathValue Reno

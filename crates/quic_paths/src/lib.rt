@@ -2,11 +2,13 @@
 //! and how much may go before the peer's address is validated.
 #![tactic(auto)]
 
+mod address;
 mod in_flight;
 pub mod laws;
 mod paths;
 mod responses;
 
+pub use address::Address;
 pub use in_flight::InFlight;
 pub use paths::PathData;
 pub use responses::PathResponses;

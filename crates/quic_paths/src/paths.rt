@@ -5,6 +5,7 @@ ghost use Rattle.quic_congestion.specs.Search.{first_discovery};
 ghost use Rattle.quic_paths.specs.InFlight.{CanJoin, CanLeave};
 ghost use Rattle.quic_paths.specs.Paths.{new_path, next_path, path_after_reset, path_with, path_without, path_after_received, path_after_sent, is_blocked, path_challenged, challenge_to_send, path_after_challenge, answers, path_answered};
 
+use crate::address::Address;
 use crate::in_flight::InFlight;
 use quic_config::TransportConfig;
 use quic_congestion::{Controller, ControllerFactory, MtuDiscovery, Pacer};
@@ -13,10 +14,10 @@ use std::alloc::AllocError;
 use std::marker::Model;
 
 /// A path to the peer, with its controller (quinn-proto's `PathData`).
-///
-/// It has no address yet.
 #[derive(Drop)]
 pub struct PathData<C> {
+    /// The peer's address: what goes on this path goes there.
+    pub remote: Address,
     /// How long a round trip takes (RFC 9002, section 5).
     pub rtt: RttEstimator,
     /// Whether packets are marked, so that routers can report congestion (RFC 9000, section 13.4).
@@ -49,6 +50,7 @@ impl<C> Model for PathData<C> {
     ghost Value = { PathValue C };
 
     ghost view = { λ p. record {
+      remote = p.remote;
       rtt = p.rtt;
       congestion = p.congestion;
       pacing = p.pacing;
@@ -66,11 +68,12 @@ impl<C> Model for PathData<C> {
 }
 
 impl<C: Controller> PathData<C> {
-    /// A path made now, of which nothing was measured and whose peer isn't validated. The factory
-    /// makes its controller for the size of datagrams that the settings begin with. A greater one
-    /// is looked for where that is allowed and configured, within the peer's
-    /// `max_udp_payload_size`, in bytes, if it is known.
+    /// A path to this address made now, of which nothing was measured and whose peer isn't
+    /// validated. The factory makes its controller for the size of datagrams that the settings
+    /// begin with. A greater one is looked for where that is allowed and configured, within the
+    /// peer's `max_udp_payload_size`, in bytes, if it is known.
     pub fn new<F: ControllerFactory<Controller = C>>(
+        remote: Address,
         allow_mtud: bool,
         peer_max_udp_payload_size: Option<u16>,
         generation: u64,
@@ -80,12 +83,13 @@ impl<C: Controller> PathData<C> {
     ) -> Self
         ensures { let controller = F.built factory.now now (first_mtu config.now) in
             let window = C.initial_of controller in
-            result ≡ new_path allow_mtud peer_max_udp_payload_size generation now config.now controller window }
+            result ≡ new_path remote allow_mtud peer_max_udp_payload_size generation now config.now controller window }
     {
         let mtu = config.get_initial_mtu();
         let initial_rtt = config.get_initial_rtt();
         let congestion = factory.build(now, mtu);
         PathData {
+            remote,
             rtt: RttEstimator::new(initial_rtt),
             sending_ecn: true,
             pacing: Pacer::new(initial_rtt, congestion.initial_window(), mtu, now),
@@ -102,21 +106,27 @@ impl<C: Controller> PathData<C> {
         }
     }
 
-    /// A path made now in place of another, as the peer's address changed (RFC 9000, section 9).
-    /// Round trip, controller, path MTU discovery and the first packet after a sample are the
-    /// other's, and the pacer is made for them. Nothing is in flight on it, and its peer isn't
-    /// validated.
+    /// A path to this address made now in place of another, as the peer's address changed (RFC
+    /// 9000, section 9). Round trip, controller, path MTU discovery and the first packet after a
+    /// sample are the other's, and the pacer is made for them. Nothing is in flight on it, and its
+    /// peer isn't validated.
     ///
     /// # Errors
     ///
     /// - [`AllocError`]: an allocation fails, of room for the controller. The other path stays.
-    pub fn from_previous(prev: &Self, generation: u64, now: Instant) -> Result<Self, AllocError>
+    pub fn from_previous(
+        remote: Address,
+        prev: &Self,
+        generation: u64,
+        now: Instant,
+    ) -> Result<Self, AllocError>
         ensures { let window = C.window_of prev.now.congestion in
-            IfOk result (λ path. path ≡ next_path prev.now generation now window) }
+            IfOk result (λ path. path ≡ next_path remote prev.now generation now window) }
     {
         let congestion = prev.congestion.try_clone()?;
         let mtu = prev.mtud.current_mtu();
         Ok(PathData {
+            remote,
             rtt: prev.rtt,
             sending_ecn: true,
             pacing: Pacer::new(prev.rtt.get(), congestion.window(), mtu, now),

@@ -44,7 +44,7 @@ shown r = windows_at (λ (q : Reno). q.settings.initial) (λ (q : Reno). q.windo
 -- so an end is made of its options
 pub is_new : (options : Options) (new : NewEnd) (config : Configured RenoSettings) (bytes : List ℕ) (keys : Keys PlainHeaderKey PlainKey) (random : Words) (r : Result Held ConfigError)
     → config ≡ configured options → bytes ≡ new.parameters → keys ≡ keys_with options.seal_limit options.open_limit new.side → stream_from random ≡ source_stream options.source
-    → IfOk r (λ c. MadeFrom new.side config.settings (shown c.control) bytes new.id new.peer_id new.now options.validated (words_of stream_from random) c.end)
+    → IfOk r (λ c. MadeFrom new.side config.settings (shown c.control) bytes new.id new.peer_id 0 new.now options.validated (words_of stream_from random) c.end)
     → IfOk r (λ c. c.control ≡ built config new.now) → IfOk r (λ c. c.keys ≡ keys) → IfOk r (λ c. stream_from c.random ≡ after_words (words_drawn c.end) (stream_from random))
     → IfOk r (λ c. c.heard ≡ nothing_heard) → IfOk r (λ c. IsNew options new c)
 is_new options new config bytes keys random (Err e) is same own from made control kept drawn none = tt
@@ -54,10 +54,10 @@ is_new options new config bytes keys random (Ok held) is same own from made cont
     let settings : config.settings ≡ settings_of options = ap (λ (c : Configured RenoSettings). c.settings) is in
     record {
       end =
-          subst (λ (w : ℕ → ℕ). MadeFrom new.side (settings_of options) first_windows new.parameters new.id new.peer_id new.now options.validated w held.end) (words_same options.source random from)
-          (subst (λ (b : List ℕ). MadeFrom new.side (settings_of options) first_windows b new.id new.peer_id new.now options.validated (words_of stream_from random) held.end) same
-          (subst (λ (w : Windows). MadeFrom new.side (settings_of options) w bytes new.id new.peer_id new.now options.validated (words_of stream_from random) held.end) windows
-          (subst (λ (s : Settings). MadeFrom new.side s (shown held.control) bytes new.id new.peer_id new.now options.validated (words_of stream_from random) held.end) settings made)));
+          subst (λ (w : ℕ → ℕ). MadeFrom new.side (settings_of options) first_windows new.parameters new.id new.peer_id 0 new.now options.validated w held.end) (words_same options.source random from)
+          (subst (λ (b : List ℕ). MadeFrom new.side (settings_of options) first_windows b new.id new.peer_id 0 new.now options.validated (words_of stream_from random) held.end) same
+          (subst (λ (w : Windows). MadeFrom new.side (settings_of options) w bytes new.id new.peer_id 0 new.now options.validated (words_of stream_from random) held.end) windows
+          (subst (λ (s : Settings). MadeFrom new.side s (shown held.control) bytes new.id new.peer_id 0 new.now options.validated (words_of stream_from random) held.end) settings made)));
       control = reno;
       keys = kept ∙ own;
       random = drawn ∙ ap (λ (s : Stream). after_words (words_drawn held.end) s) from;

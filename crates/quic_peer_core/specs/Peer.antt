@@ -49,26 +49,26 @@ policy_at held = policy_of (λ _. plain_protection) (λ k. plain_aead k.mark) (�
 abbrev pub refusal : Options → NewEnd → Option ConfigError
 refusal options new = refusal_of (settings_of options) default_reno.initial (limits_in options) (parameters_at new.parameters) new.id new.peer_id
 
--- An end is made of its options and of these, with NewReno as its congestion controller. Whether
--- its peer's address counts as validated is an option.
+-- An end is made of its options and of these for a peer at address 0, with NewReno as its
+-- congestion controller. Whether its peer's address counts as validated is an option.
 pub record IsNew (options : Options) (new : NewEnd) (held : Held) : Type 0 where
-  pub end : MadeFrom new.side (settings_of options) first_windows new.parameters new.id new.peer_id new.now options.validated (words_from options.source) held.end
+  pub end : MadeFrom new.side (settings_of options) first_windows new.parameters new.id new.peer_id 0 new.now options.validated (words_from options.source) held.end
   pub control : held.control ≡ reno_made default_reno new.now 1200
   pub keys : held.keys ≡ keys_with options.seal_limit options.open_limit new.side
   pub random : stream_from held.random ≡ after_words (words_drawn held.end) (source_stream options.source)
   pub heard : held.heard ≡ nothing_heard
 
--- how bytes come to an end, at a moment and with a mark or with none: whether the last packet comes
--- that may not open is by what it has counted
+-- how bytes come to an end from its peer's address, at a moment and with a mark or with none:
+-- whether the last packet comes that may not open is by what it has counted
 abbrev pub arrival_at : Held → ℕ → Option EcnCodepoint → Arrival
-arrival_at old now mark = arriving now mark (is_last (policy_at old).openings old.heard)
+arrival_at old now mark = arriving now 0 mark (is_last (policy_at old).openings old.heard)
 
 -- Bytes came to an end, at a moment and with a mark or with none: this is printed of what came of
 -- them, and the end is left so.
 pub record Receives (now : ℕ) (mark : Option EcnCodepoint) (bytes : List ℕ) (old : Held) (text : List ℕ) (new : Held) : Type 0 where
   pub answer : Received
   pub is_answer : answer ≢ receives_as.Failed → answer ≡ (received (policy_at old) old.end (arrival_at old now mark) bytes).answer
-  pub left : answer ≢ receives_as.Failed → new ≡ drawing new.random (telling reno_steps (hearing old (heard_datagram bytes answer old.heard)) (told_received (policy_at old) old.end now bytes) (received (policy_at old) old.end (arrival_at old now mark) bytes).end)
+  pub left : answer ≢ receives_as.Failed → new ≡ drawing new.random (telling reno_steps (hearing old (heard_datagram bytes answer old.heard)) (told_received (policy_at old) old.end (arriving now 0 mark false) bytes) (received (policy_at old) old.end (arrival_at old now mark) bytes).end)
   pub failed : answer ≡ receives_as.Failed → HasFailed old new
   pub line : text ≡ line_text (codes "receive") (received_text answer)
 

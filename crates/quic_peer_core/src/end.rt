@@ -6,8 +6,8 @@ ghost use Rattle.quic_peer_core.specs.Peer.{refusal, IsNew, IsCall, Receives};
 
 use crate::command::NewEnd;
 use quic_connection::{
-    Answer, Call, Close, ConfigError, Connection, Datagram, EcnCodepoint, Event, Injection,
-    LostReason, NewReno, PeerClose, VarInt, call_at,
+    Address, Answer, Call, Close, ConfigError, Connection, Datagram, EcnCodepoint, Event,
+    Injection, LostReason, NewReno, PeerClose, VarInt, call_at,
 };
 use quic_keys::{PlainHeaderKey, PlainKey, Words};
 use quic_lines::{LineError, Options, call_name, mark_name, put_answer, put_bytes, put_received};
@@ -30,6 +30,7 @@ pub(crate) fn make_end(alloc: Global, options: &Options, new: &NewEnd) -> Result
         &new.parameters,
         new.id,
         new.peer_id,
+        Address(0),
         options.keys(new.side),
         new.now,
         Words::of(options.source),
@@ -73,7 +74,7 @@ pub(crate) fn take(alloc: Global, end: &mut End, datagram: &Injection) -> Result
         end.new) }
 {
     let mut bytes = Vec::from_slice(alloc, datagram.bytes.as_slice())?;
-    let received = end.receive(datagram.now, datagram.ecn, &mut bytes);
+    let received = end.receive(datagram.now, Address(0), datagram.ecn, &mut bytes);
     let mut out = String::from_str(alloc, "receive ")?;
     put_received(&mut out, &received)?;
     out.push_str("\n")?;

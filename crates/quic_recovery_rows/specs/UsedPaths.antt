@@ -11,7 +11,7 @@ millis n = n * 1000000
 
 -- a path of some generation, made at 0 with the default settings
 abbrev pub fresh_path : ℕ → PathValue Reno
-fresh_path generation = new_path true None generation 0 default_transport (reno_made default_reno 0 1200) 12000
+fresh_path generation = new_path 0 true None generation 0 default_transport (reno_made default_reno 0 1200) 12000
 
 -- one whose peer is validated: a round trip took 40 ms, and 1200 bytes are in flight
 abbrev pub used_path : PathValue Reno

@@ -7,11 +7,12 @@ ghost use Rattle.quic_recovery_rows.specs.UsedPaths.{millis, fresh_path, used_pa
 
 /// A path in place of another keeps what was measured, and has nothing in flight.
 pub fn next_path_keeps_the_round_trip()
-    ensures generation { (next_path used_path 1 7 12000).generation ≡ 1 }
-    ensures size { (next_path used_path 1 7 12000).discovery.size ≡ 1200 }
-    ensures trip { best_rtt (next_path used_path 1 7 12000).rtt ≡ millis 40 }
-    ensures flight { (next_path used_path 1 7 12000).in_flight.bytes ≡ 0 }
-    ensures blocked { is_blocked (next_path used_path 1 7 12000) 1 ≡ true }
+    ensures address { (next_path 9 used_path 1 7 12000).remote ≡ 9 }
+    ensures generation { (next_path 9 used_path 1 7 12000).generation ≡ 1 }
+    ensures size { (next_path 9 used_path 1 7 12000).discovery.size ≡ 1200 }
+    ensures trip { best_rtt (next_path 9 used_path 1 7 12000).rtt ≡ millis 40 }
+    ensures flight { (next_path 9 used_path 1 7 12000).in_flight.bytes ≡ 0 }
+    ensures blocked { is_blocked (next_path 9 used_path 1 7 12000) 1 ≡ true }
 {}
 
 /// Packets of another generation leave flight as it is.

@@ -1,7 +1,7 @@
 //! What a program does for an endpoint, whatever its application does.
 
 use crate::network::Lane;
-use crate::{Endpoint, MANY};
+use crate::{Endpoint, MANY, PEER};
 use anyhow::{Result, bail};
 use quic_connection::{Chunks, Event, Instant, ReadError, ReadableError, Received, StreamId};
 use std::alloc::Global;
@@ -62,7 +62,7 @@ pub(crate) fn take(endpoint: &mut Endpoint, lane: &mut Lane, now: Instant) -> Re
             break;
         };
         // It is opened in place.
-        match endpoint.receive(now, flight.ecn, &mut flight.bytes) {
+        match endpoint.receive(now, PEER, flight.ecn, &mut flight.bytes) {
             // Why a datagram is dropped is for logs: a closed endpoint drops each.
             Received::Taken | Received::Dropped(_) => {}
             Received::Closed(error) => bail!("the peer broke a rule: {error}"),

@@ -17,8 +17,8 @@ use crate::network::Lane;
 use crate::server::Server;
 use anyhow::Result;
 use quic_connection::{
-    Config, ConfigError, Connection, ConnectionId, Ends, Instant, Making, NewReno, NewRenoConfig,
-    Side, TransportConfig, VarInt,
+    Address, Config, ConfigError, Connection, ConnectionId, Ends, Instant, Making, NewReno,
+    NewRenoConfig, Side, TransportConfig, VarInt,
 };
 use quic_keys::{PlainHeaderKey, PlainKey, Words, keys_for};
 use std::alloc::{AllocError, Global};
@@ -31,6 +31,10 @@ type Endpoints = Ends<PlainHeaderKey, PlainKey, Words, NewReno>;
 
 /// What one of them is made of.
 type Parts = Making<NewRenoConfig, PlainHeaderKey, PlainKey, Words>;
+
+/// By which number an endpoint knows the address of its peer: on this network it is always the
+/// same.
+pub(crate) const PEER: Address = Address(0);
 
 /// The most turns of a loop.
 pub(crate) const MANY: u32 = 10_000;
@@ -51,6 +55,7 @@ fn parts(side: Side, id: u8, seed: u64) -> Parts {
     Making {
         config: config(),
         id: ConnectionId::new(&[id; 8]),
+        remote: PEER,
         keys: keys_for(side),
         random: Words::pcg(seed),
         validated: true,

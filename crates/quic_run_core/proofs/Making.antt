@@ -91,7 +91,7 @@ are_started client server client_is server_is = record {
 }
   where
     made : (side : Side) (own peer : Options) → parameters_at (making (other_side side) peer).parameters ≡ Ok (parameters_of (settings_of peer))
-        → MadeFrom side (making side own).settings first_windows (making (other_side side) peer).parameters (first_id side) (first_id (other_side side)) 0 own.validated (words_from own.source) (first_end side own peer)
+        → MadeFrom side (making side own).settings first_windows (making (other_side side) peer).parameters (first_id side) (first_id (other_side side)) 0 0 own.validated (words_from own.source) (first_end side own peer)
     made side own peer says = rw says refl
 
 -- the controller that is made of a configuration of these options at moment 0
@@ -160,7 +160,7 @@ without_ends None client server none = refl
 -- what is made of the options is the first end
 pub made_first : (side other : Side) (own peer : Options) (settings told : Settings) (windows : Windows) (bytes items own_id peer_id : List ℕ) (now : ℕ) (words : ℕ → ℕ) (end : End)
     → settings ≡ settings_of own → told ≡ settings_of peer → windows ≡ first_windows → bytes ≡ items → parameters_at items ≡ Ok (parameters_of told) → own_id ≡ first_id side → other ≡ other_side side → peer_id ≡ first_id other → now ≡ 0 → words ≡ words_from own.source
-    → MadeFrom side settings windows bytes own_id peer_id now own.validated words end → end ≡ first_end side own peer
+    → MadeFrom side settings windows bytes own_id peer_id 0 now own.validated words end → end ≡ first_end side own peer
 made_first side other own peer settings told windows bytes items own_id peer_id now words end set said shows same read own_is turned peer_is zero random made =
     rw (same, read, said, set, shows, own_is, peer_is, turned, zero, random) at made
 

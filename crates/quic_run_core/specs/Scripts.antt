@@ -46,9 +46,9 @@ first_id Server = replicate 8 0x50
 abbrev pub first_controller : Reno
 first_controller = reno_made default_reno 0 1200
 
--- an end as it is made at moment 0: the other end's options are its limits
+-- an end as it is made at moment 0 for a peer at address 0: the other end's options are its limits
 abbrev pub first_end : Side → Options → Options → End
-first_end side own peer = new_end side (settings_of own) first_windows (parameters_of (settings_of peer)) (first_id side) (first_id (other_side side)) 0 own.validated (words_from own.source)
+first_end side own peer = new_end side (settings_of own) first_windows (parameters_of (settings_of peer)) (first_id side) (first_id (other_side side)) 0 0 own.validated (words_from own.source)
 
 -- both ends as they are made, of the client's options and the server's
 abbrev pub first_world : Options → Options → World
@@ -68,7 +68,7 @@ first_world client server = record {
 abbrev pub making : Side → Options → Making
 making side own =
     let settings = settings_of own in
-    record { settings = settings; windows = first_windows; parameters = written_parameters (parameters_of settings) in_order; id = first_id side; moment = 0; validated = own.validated; words = words_from own.source }
+    record { settings = settings; windows = first_windows; parameters = written_parameters (parameters_of settings) in_order; id = first_id side; remote = 0; moment = 0; validated = own.validated; words = words_from own.source }
 
 -- What is printed of an event in a world, and the world behind it: the machine answers so, and
 -- leaves it so.

@@ -18,7 +18,7 @@ ghost use Rattle.quic_lines.specs.Options.{limits_in};
 ghost use Rattle.quic_run_core.specs.Scripts.{are_short, policies_for, first_id, first_controller, first_end, first_world, making, Tells, TellsRest};
 
 use crate::show::put_datagram;
-use quic_connection::{Connection, Ends, Given, Instant, NewReno, RunEvent, settle, step};
+use quic_connection::{Address, Connection, Ends, Given, Instant, NewReno, RunEvent, settle, step};
 use quic_keys::{PlainHeaderKey, PlainKey, Words};
 use quic_lines::{LineError, Options, put_answer, put_rest};
 use quic_parameters::TransportParameters;
@@ -60,6 +60,7 @@ fn make_end(alloc: Global, side: Side, own: &Options, peer: &Options) -> Result<
         &parameters,
         first_id(side),
         first_id(!side),
+        Address(0),
         own.keys(side),
         Instant::from_nanos(0),
         Words::of(own.source),

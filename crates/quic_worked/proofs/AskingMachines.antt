@@ -46,7 +46,7 @@ unfolding client_acked ack_frequency_at
 one_went = refl
 
 gave_from_one : GaveOne counts_from_one Client 0 0
-gave_from_one = record { transmit = record { size = 229; ecn = Some Ect0 }; poll = record { event = refl; answer = refl }; served = refl; sent = first_sent (request 1 10000) 229; went = one_went }
+gave_from_one = record { transmit = record { size = 229; ecn = Some Ect0; remote = 0 }; poll = record { event = refl; answer = refl }; served = refl; sent = first_sent (request 1 10000) 229; went = one_went }
 
 pub one_not : RequestsSay counts_from_one → ⊥
 unfolding gave_from_one
@@ -87,7 +87,7 @@ unfolding client_acked ack_frequency_at
 twenty_went = refl
 
 gave_twenty : GaveOne asks_for_twenty Client 0 0
-gave_twenty = record { transmit = record { size = 231; ecn = Some Ect0 }; poll = record { event = refl; answer = refl }; served = refl; sent = first_sent (request 0 20000) 231; went = twenty_went }
+gave_twenty = record { transmit = record { size = 231; ecn = Some Ect0; remote = 0 }; poll = record { event = refl; answer = refl }; served = refl; sent = first_sent (request 0 20000) 231; went = twenty_went }
 
 -- it is to say what is configured, for what the peer told
 twenty_said : (settings : FrequencySettings) → (asking_at asks_for_twenty Client).settings ≡ Some settings → (least : ℕ) → (asking_at asks_for_twenty Client).least ≡ Some least
@@ -129,7 +129,7 @@ unfolding client_acked ack_frequency_at
 unasked_went = refl
 
 gave_unasked : GaveOne asks_unasked Client 0 0
-gave_unasked = record { transmit = record { size = 229; ecn = Some Ect0 }; poll = record { event = refl; answer = refl }; served = refl; sent = first_sent (request 0 10000) 229; went = unasked_went }
+gave_unasked = record { transmit = record { size = 229; ecn = Some Ect0; remote = 0 }; poll = record { event = refl; answer = refl }; served = refl; sent = first_sent (request 0 10000) 229; went = unasked_went }
 
 pub unasked_not : RequestsSay asks_unasked → ⊥
 unfolding gave_unasked
@@ -161,7 +161,7 @@ unfolding client_acked ack_frequency_at
 again_went = refl
 
 gave_again : GaveOne asks_again Client 1 0
-gave_again = record { transmit = record { size = 33; ecn = Some Ect0 }; poll = record { event = refl; answer = refl }; served = refl; sent = again_sent; went = again_went }
+gave_again = record { transmit = record { size = 33; ecn = Some Ect0; remote = 0 }; poll = record { event = refl; answer = refl }; served = refl; sent = again_sent; went = again_went }
 
 one_stands : stands is_ack_frequency (wants asks_again Client 1).since ≡ true
 unfolding client_acked ack_frequency_at
@@ -212,7 +212,7 @@ unfolding client_acked ack_frequency_at
 left_went = refl
 
 gave_left : GaveAsking leaves_request Client 0 0
-gave_left = record { one = record { transmit = record { size = 222; ecn = Some Ect0 }; poll = record { event = refl; answer = refl }; served = refl; sent = ids_sent; went = left_went }; asks = refl }
+gave_left = record { one = record { transmit = record { size = 222; ecn = Some Ect0; remote = 0 }; poll = record { event = refl; answer = refl }; served = refl; sent = ids_sent; went = left_went }; asks = refl }
 
 pub left_not : RequestsGo leaves_request → ⊥
 unfolding gave_left

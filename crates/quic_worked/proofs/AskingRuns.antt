@@ -56,8 +56,8 @@ asking_started delay = record {
   server_making = record (making server_id) { settings = asked_settings; windows = shut; parameters = asked_parameters };
   client_is = record { range = asking_range delay; sizes = lit≤ tt; says = parameters_say; id = refl };
   server_is = record { range = asked_range; sizes = lit≤ tt; says = asked_say; id = refl };
-  client = subst (λ read. IsMade Client (asking_settings delay) steady read client_id server_id 0 true (λ n. 63) (asking_start delay).client) (sym asked_say) refl;
-  server = subst (λ read. IsMade Server asked_settings shut read server_id client_id 0 true (λ n. 63) (asking_start delay).server) (sym parameters_say) refl;
+  client = subst (λ read. IsMade Client (asking_settings delay) steady read client_id server_id 0 0 true (λ n. 63) (asking_start delay).client) (sym asked_say) refl;
+  server = subst (λ read. IsMade Server asked_settings shut read server_id client_id 0 0 true (λ n. 63) (asking_start delay).server) (sym parameters_say) refl;
   client_gave = refl;
   server_gave = refl;
   client_heard = refl;
@@ -71,8 +71,8 @@ unasking_started = record {
   server_making = record (making server_id) { settings = asked_settings; windows = shut; parameters = asked_parameters };
   client_is = record { range = in_range; sizes = lit≤ tt; says = parameters_say; id = refl };
   server_is = record { range = asked_range; sizes = lit≤ tt; says = asked_say; id = refl };
-  client = subst (λ read. IsMade Client plain_settings steady read client_id server_id 0 true (λ n. 63) (asking_start_with plain_settings).client) (sym asked_say) refl;
-  server = subst (λ read. IsMade Server asked_settings shut read server_id client_id 0 true (λ n. 63) (asking_start_with plain_settings).server) (sym parameters_say) refl;
+  client = subst (λ read. IsMade Client plain_settings steady read client_id server_id 0 0 true (λ n. 63) (asking_start_with plain_settings).client) (sym asked_say) refl;
+  server = subst (λ read. IsMade Server asked_settings shut read server_id client_id 0 0 true (λ n. 63) (asking_start_with plain_settings).server) (sym parameters_say) refl;
   client_gave = refl;
   server_gave = refl;
   client_heard = refl;

@@ -201,8 +201,8 @@ small_started window below says = record {
   server_making = record (making server_id) { settings = with_window window; windows = roomy_windows; parameters = small_parameters window };
   client_is = record { range = in_range; sizes = lit≤ tt; says = parameters_say; id = refl };
   server_is = record { range = record { receive_window = below; stream_receive_window = lit< tt; bounds = record { bidi = lit≤ tt; uni = lit≤ tt; divides = lit< tt; initial = lit≤ tt; least = lit≤ tt }; search = tt }; sizes = lit≤ tt; says = says; id = refl };
-  client = subst (λ read. IsMade Client plain_settings roomy_windows read client_id server_id 0 true (λ n. 63) (small_start window).client) (sym says) refl;
-  server = subst (λ read. IsMade Server (with_window window) roomy_windows read server_id client_id 0 true (λ n. 63) (small_start window).server) (sym parameters_say) refl;
+  client = subst (λ read. IsMade Client plain_settings roomy_windows read client_id server_id 0 0 true (λ n. 63) (small_start window).client) (sym says) refl;
+  server = subst (λ read. IsMade Server (with_window window) roomy_windows read server_id client_id 0 0 true (λ n. 63) (small_start window).server) (sym parameters_say) refl;
   client_gave = refl;
   server_gave = refl;
   client_heard = refl;

@@ -208,12 +208,12 @@ one_way_say = refl
 
 unfoldable count_started : AreStarted narrow_count
 count_started = record {
-  client_making = record { settings = plain_settings; windows = steady; parameters = worked_parameters; id = client_id; moment = 0; validated = true; words = λ n. 63 };
-  server_making = record { settings = with_uni 1; windows = steady; parameters = one_way_parameters; id = server_id; moment = 0; validated = true; words = λ n. 63 };
+  client_making = record { settings = plain_settings; windows = steady; parameters = worked_parameters; id = client_id; remote = 0; moment = 0; validated = true; words = λ n. 63 };
+  server_making = record { settings = with_uni 1; windows = steady; parameters = one_way_parameters; id = server_id; remote = 0; moment = 0; validated = true; words = λ n. 63 };
   client_is = record { range = record { receive_window = lit< tt; stream_receive_window = lit< tt; bounds = record { bidi = lit≤ tt; uni = lit≤ tt; divides = lit< tt; initial = lit≤ tt; least = lit≤ tt }; search = tt }; sizes = lit≤ tt; says = parameters_say; id = refl };
   server_is = record { range = record { receive_window = lit< tt; stream_receive_window = lit< tt; bounds = record { bidi = lit≤ tt; uni = lit≤ tt; divides = lit< tt; initial = lit≤ tt; least = lit≤ tt }; search = tt }; sizes = lit≤ tt; says = one_way_say; id = refl };
-  client = subst (λ read. IsMade Client plain_settings steady read client_id server_id 0 true (λ n. 63) narrow_count.client) (sym one_way_say) refl;
-  server = subst (λ read. IsMade Server (with_uni 1) steady read server_id client_id 0 true (λ n. 63) narrow_count.server) (sym parameters_say) refl;
+  client = subst (λ read. IsMade Client plain_settings steady read client_id server_id 0 0 true (λ n. 63) narrow_count.client) (sym one_way_say) refl;
+  server = subst (λ read. IsMade Server (with_uni 1) steady read server_id client_id 0 0 true (λ n. 63) narrow_count.server) (sym parameters_say) refl;
   client_gave = refl;
   server_gave = refl;
   client_heard = refl;

@@ -114,7 +114,7 @@ unfolding client_acked
 uncounted_went = refl
 
 gave_uncounted : GaveOne mark_uncounted Server 3 0
-gave_uncounted = record { transmit = record { size = 31; ecn = Some Ect0 }; poll = record { event = refl; answer = refl }; served = refl; sent = uncounted_sent; went = uncounted_went }
+gave_uncounted = record { transmit = record { size = 31; ecn = Some Ect0; remote = 0 }; poll = record { event = refl; answer = refl }; served = refl; sent = uncounted_sent; went = uncounted_went }
 
 one_came : counts_told (until mark_uncounted Server 3) ≡ Some (0, 0, 1)
 one_came = refl
@@ -191,7 +191,7 @@ unfolding client_acked
 left_went = refl
 
 gave_left : GaveAsking ping_left Client 1 0
-gave_left = record { one = record { transmit = record { size = 222; ecn = Some Ect0 }; poll = record { event = refl; answer = refl }; served = refl; sent = left_sent; went = left_went }; asks = refl }
+gave_left = record { one = record { transmit = record { size = 222; ecn = Some Ect0; remote = 0 }; poll = record { event = refl; answer = refl }; served = refl; sent = left_sent; went = left_went }; asks = refl }
 
 pub left_not : PingsGo ping_left → ⊥
 unfolding gave_left

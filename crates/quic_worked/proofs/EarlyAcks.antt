@@ -114,7 +114,7 @@ unfolding client_acked ack_frequency_at
 early_no_probe = refl
 
 gave_early : GaveOne acks_early Server 10 25000000
-gave_early = record { transmit = record { size = 31; ecn = None }; poll = record { event = refl; answer = refl }; served = refl; sent = early_ack; went = early_sent }
+gave_early = record { transmit = record { size = 31; ecn = None; remote = 0 }; poll = record { event = refl; answer = refl }; served = refl; sent = early_ack; went = early_sent }
 
 pub early_shows : EachWaited acks_early → ⊥
 unfolding gave_early
@@ -160,7 +160,7 @@ unfolding client_acked
 first_no_probe = refl
 
 gave_first : GaveOne acks_first Server 5 0
-gave_first = record { transmit = record { size = 31; ecn = Some Ect0 }; poll = record { event = refl; answer = refl }; served = refl; sent = first_ack; went = first_sent }
+gave_first = record { transmit = record { size = 31; ecn = Some Ect0; remote = 0 }; poll = record { event = refl; answer = refl }; served = refl; sent = first_ack; went = first_sent }
 
 pub first_shows : EachWaited acks_first → ⊥
 unfolding gave_first

@@ -127,8 +127,8 @@ idle_started = record {
   server_making = record (making server_id) { windows = shut };
   client_is = record { range = idle_range; sizes = lit≤ tt; says = idle_say; id = refl };
   server_is = record { range = in_range; sizes = lit≤ tt; says = parameters_say; id = refl };
-  client = subst (λ read. IsMade Client idle_settings steady read client_id server_id 0 true (λ n. 63) idle_start.client) (sym parameters_say) refl;
-  server = subst (λ read. IsMade Server plain_settings shut read server_id client_id 0 true (λ n. 63) idle_start.server) (sym idle_say) refl;
+  client = subst (λ read. IsMade Client idle_settings steady read client_id server_id 0 0 true (λ n. 63) idle_start.client) (sym parameters_say) refl;
+  server = subst (λ read. IsMade Server plain_settings shut read server_id client_id 0 0 true (λ n. 63) idle_start.server) (sym idle_say) refl;
   client_gave = refl;
   server_gave = refl;
   client_heard = refl;
@@ -332,7 +332,7 @@ unfolding client_acked application_close_at
 named_no_probe = refl
 
 gave_name : GaveOne close_named Server 3 0
-gave_name = record { transmit = record { size = 31; ecn = Some Ect0 }; poll = record { event = refl; answer = refl }; served = refl; sent = naming_close; went = named_sent }
+gave_name = record { transmit = record { size = 31; ecn = Some Ect0; remote = 0 }; poll = record { event = refl; answer = refl }; served = refl; sent = naming_close; went = named_sent }
 
 pub named_wrong : EachWaited close_named → ⊥
 unfolding gave_name

@@ -286,7 +286,7 @@ unfolding client_acked application_close_at
 twice_sent = refl
 
 gave_twice : GaveOne closes_twice Client 4 1000000000
-gave_twice = record { transmit = record { size = 34; ecn = Some Ect0 }; poll = record { event = refl; answer = refl }; served = refl; sent = close_sent 2; went = twice_sent }
+gave_twice = record { transmit = record { size = 34; ecn = Some Ect0; remote = 0 }; poll = record { event = refl; answer = refl }; served = refl; sent = close_sent 2; went = twice_sent }
 
 owed_none : owed closes_twice Client 4 ≡ false
 owed_none = refl

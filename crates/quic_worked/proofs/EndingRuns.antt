@@ -384,7 +384,7 @@ unfolding client_acked application_close_at
 one_more_sent = refl
 
 pub gave_again : GaveOne ending_run Client 5 2000000000
-gave_again = record { transmit = record { size = 34; ecn = Some Ect0 }; poll = record { event = refl; answer = refl }; served = refl; sent = close_sent 2; went = one_more_sent }
+gave_again = record { transmit = record { size = 34; ecn = Some Ect0; remote = 0 }; poll = record { event = refl; answer = refl }; served = refl; sent = close_sent 2; went = one_more_sent }
 
 pub owed_so : ClosesAreOwed ending_run
 owed_so Server i now gave closing = absurd (server_not_closing i closing)

@@ -151,7 +151,7 @@ alive_started = record {
   server_making = making server_id;
   client_is = record { range = alive_range; sizes = lit≤ tt; says = parameters_say; id = refl };
   server_is = record { range = in_range; sizes = lit≤ tt; says = parameters_say; id = refl };
-  client = subst (λ read. IsMade Client alive_settings steady read client_id server_id 0 true (λ n. 63) alive_start.client) (sym parameters_say) refl;
+  client = subst (λ read. IsMade Client alive_settings steady read client_id server_id 0 0 true (λ n. 63) alive_start.client) (sym parameters_say) refl;
   server = steady_is_made;
   client_gave = refl;
   server_gave = refl;

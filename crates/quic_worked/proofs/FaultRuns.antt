@@ -126,12 +126,12 @@ one_way_say = refl
 
 one_back_started : AreStarted one_back
 one_back_started = record {
-  client_making = record { settings = with_uni 1; windows = steady; parameters = one_way_parameters; id = client_id; moment = 0; validated = true; words = λ n. 63 };
-  server_making = record { settings = plain_settings; windows = steady; parameters = worked_parameters; id = server_id; moment = 0; validated = true; words = λ n. 63 };
+  client_making = record { settings = with_uni 1; windows = steady; parameters = one_way_parameters; id = client_id; remote = 0; moment = 0; validated = true; words = λ n. 63 };
+  server_making = record { settings = plain_settings; windows = steady; parameters = worked_parameters; id = server_id; remote = 0; moment = 0; validated = true; words = λ n. 63 };
   client_is = record { range = record { receive_window = lit< tt; stream_receive_window = lit< tt; bounds = record { bidi = lit≤ tt; uni = lit≤ tt; divides = lit< tt; initial = lit≤ tt; least = lit≤ tt }; search = tt }; sizes = lit≤ tt; says = one_way_say; id = refl };
   server_is = record { range = record { receive_window = lit< tt; stream_receive_window = lit< tt; bounds = record { bidi = lit≤ tt; uni = lit≤ tt; divides = lit< tt; initial = lit≤ tt; least = lit≤ tt }; search = tt }; sizes = lit≤ tt; says = parameters_say; id = refl };
-  client = subst (λ read. IsMade Client (with_uni 1) steady read client_id server_id 0 true (λ n. 63) one_back.client) (sym parameters_say) refl;
-  server = subst (λ read. IsMade Server plain_settings steady read server_id client_id 0 true (λ n. 63) one_back.server) (sym one_way_say) refl;
+  client = subst (λ read. IsMade Client (with_uni 1) steady read client_id server_id 0 0 true (λ n. 63) one_back.client) (sym parameters_say) refl;
+  server = subst (λ read. IsMade Server plain_settings steady read server_id client_id 0 0 true (λ n. 63) one_back.server) (sym one_way_say) refl;
   client_gave = refl;
   server_gave = refl;
   client_heard = refl;

@@ -68,7 +68,7 @@ unfolding client_acked ack_frequency_at
 unhastened_went = refl
 
 gave_unhastened : GaveAsking unhastened_run Client 2 1024000000
-gave_unhastened = record { one = record { transmit = record { size = 229; ecn = Some Ect0 }; poll = record { event = refl; answer = refl }; served = refl; sent = unhastened_sent; went = unhastened_went }; asks = refl }
+gave_unhastened = record { one = record { transmit = record { size = 229; ecn = Some Ect0; remote = 0 }; poll = record { event = refl; answer = refl }; served = refl; sent = unhastened_sent; went = unhastened_went }; asks = refl }
 
 pub unhastened_not : ProbesHasten unhastened_run → ⊥
 unfolding gave_unhastened

@@ -40,8 +40,8 @@ held_started = record {
   server_making = record (making server_id) { windows = narrow_windows };
   client_is = record { range = record { receive_window = lit< tt; stream_receive_window = lit< tt; bounds = record { bidi = lit≤ tt; uni = lit≤ tt; divides = lit< tt; initial = lit≤ tt; least = lit≤ tt }; search = tt }; sizes = lit≤ tt; says = parameters_say; id = refl };
   server_is = record { range = record { receive_window = lit< tt; stream_receive_window = lit< tt; bounds = record { bidi = lit≤ tt; uni = lit≤ tt; divides = lit< tt; initial = lit≤ tt; least = lit≤ tt }; search = tt }; sizes = lit≤ tt; says = parameters_say; id = refl };
-  client = subst (λ read. IsMade Client plain_settings narrow_windows read client_id server_id 0 true (λ n. 63) held_start.client) (sym parameters_say) refl;
-  server = subst (λ read. IsMade Server plain_settings narrow_windows read server_id client_id 0 true (λ n. 63) held_start.server) (sym parameters_say) refl;
+  client = subst (λ read. IsMade Client plain_settings narrow_windows read client_id server_id 0 0 true (λ n. 63) held_start.client) (sym parameters_say) refl;
+  server = subst (λ read. IsMade Server plain_settings narrow_windows read server_id client_id 0 0 true (λ n. 63) held_start.server) (sym parameters_say) refl;
   client_gave = refl;
   server_gave = refl;
   client_heard = refl;
@@ -248,7 +248,7 @@ unfolding once_held
 next_went = refl
 
 abbrev next_gave : GaveAsking overfull_run Client 3 0
-next_gave = record { one = record { transmit = record { size = 1200; ecn = Some Ect0 }; poll = record { event = refl; answer = refl }; served = refl; sent = next_sent; went = next_went }; asks = refl }
+next_gave = record { one = record { transmit = record { size = 1200; ecn = Some Ect0; remote = 0 }; poll = record { event = refl; answer = refl }; served = refl; sent = next_sent; went = next_went }; asks = refl }
 
 none_before : (watch overfull_run Client 3).flight.probes ≡ 0
 unfolding once_held
@@ -390,7 +390,7 @@ third_went = refl
 abbrev third_gave : GaveAsking third_probe_run Client 7 1024000000
 third_gave = record {
   one = record {
-    transmit = record { size = 1107; ecn = Some Ect0 };
+    transmit = record { size = 1107; ecn = Some Ect0; remote = 0 };
     poll = record { event = refl; answer = refl };
     served = refl;
     sent = third_sent;

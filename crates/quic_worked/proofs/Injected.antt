@@ -97,11 +97,11 @@ opens_so side i w injection a served leads at = judged i side w injection a lead
 
 pub opens_wrongly : OpensExactly always_opens → ⊥
 opens_wrongly h =
-    let never : false ≡ true = (h Server 0 started (record { now = 0; ecn = None; bytes = [] }) answers.Opens refl refl (record { event = refl; answer = refl })).0 refl in
+    let never : false ≡ true = (h Server 0 started (record { now = 0; remote = 0; ecn = None; bytes = [] }) answers.Opens refl refl (record { event = refl; answer = refl })).0 refl in
     cc
 
 pub takes_wrongly : OpensExactly never_opens → ⊥
-takes_wrongly h = let opens = (h Server 0 started (record { now = 0; ecn = None; bytes = hello_datagram }) (answers.Inject receives.Taken) refl refl (record { event = refl; answer = refl })).1 refl in cc
+takes_wrongly h = let opens = (h Server 0 started (record { now = 0; remote = 0; ecn = None; bytes = hello_datagram }) (answers.Inject receives.Taken) refl refl (record { event = refl; answer = refl })).1 refl in cc
 
 pub never_always : IsNoRun always_opens
 never_always = stops _ _ _ _ _ (λ opened. cc)

@@ -37,11 +37,11 @@ use Rattle.quic_worked.proofs.Steps.{counts_so, others_so}
 -- server counts it
 refused_first : (now : ℕ) → IsStep worked_policies once_sent (forges now) refused (came_in 1 1 once_sent)
 unfolding once_sent
-refused_first now = record { answer = refl; end = sym (injected_stays worked_policies.server once_sent.server (record { now = now; ecn = None; bytes = forged_datagram })); control = refl; heard = counts_so worked_policies once_sent (forges now) refused; openings = refl; others = refl; lacking = tt }
+refused_first now = record { answer = refl; end = sym (injected_stays worked_policies.server once_sent.server (record { now = now; remote = 0; ecn = None; bytes = forged_datagram })); control = refl; heard = counts_so worked_policies once_sent (forges now) refused; openings = refl; others = refl; lacking = tt }
 
 refused_again : (now : ℕ) → IsStep worked_policies (came_in 3 1 once_taken) (forges now) refused noisy_left
 unfolding once_taken
-refused_again now = record { answer = refl; end = sym (injected_stays worked_policies.server once_taken.server (record { now = now; ecn = None; bytes = forged_datagram })); control = refl; heard = counts_so worked_policies (came_in 3 1 once_taken) (forges now) refused; openings = refl; others = refl; lacking = tt }
+refused_again now = record { answer = refl; end = sym (injected_stays worked_policies.server once_taken.server (record { now = now; remote = 0; ecn = None; bytes = forged_datagram })); control = refl; heard = counts_so worked_policies (came_in 3 1 once_taken) (forges now) refused; openings = refl; others = refl; lacking = tt }
 
 -- the datagram comes behind what was refused, and comes again
 takes_behind : IsStep worked_policies (came_in 1 1 once_sent) delivers (answers.Deliver receives.Taken) (came_in 2 1 once_taken)

@@ -45,12 +45,12 @@ narrow_say = refl
 
 unfoldable pub limited_started : AreStarted limited_start
 limited_started = record {
-  client_making = record { settings = keeps_seven; windows = steady; parameters = worked_parameters; id = client_id; moment = 0; validated = true; words = λ n. 63 };
-  server_making = record { settings = takes_eight; windows = steady; parameters = narrow_parameters; id = server_id; moment = 0; validated = true; words = λ n. 63 };
+  client_making = record { settings = keeps_seven; windows = steady; parameters = worked_parameters; id = client_id; remote = 0; moment = 0; validated = true; words = λ n. 63 };
+  server_making = record { settings = takes_eight; windows = steady; parameters = narrow_parameters; id = server_id; remote = 0; moment = 0; validated = true; words = λ n. 63 };
   client_is = record { range = record { receive_window = lit< tt; stream_receive_window = lit< tt; bounds = record { bidi = lit≤ tt; uni = lit≤ tt; divides = lit< tt; initial = lit≤ tt; least = lit≤ tt }; search = tt }; sizes = lit≤ tt; says = parameters_say; id = refl };
   server_is = record { range = record { receive_window = lit< tt; stream_receive_window = lit< tt; bounds = record { bidi = lit≤ tt; uni = lit≤ tt; divides = lit< tt; initial = lit≤ tt; least = lit≤ tt }; search = tt }; sizes = lit≤ tt; says = narrow_say; id = refl };
-  client = subst (λ read. IsMade Client keeps_seven steady read client_id server_id 0 true (λ n. 63) limited_start.client) (sym narrow_say) refl;
-  server = subst (λ read. IsMade Server takes_eight steady read server_id client_id 0 true (λ n. 63) limited_start.server) (sym parameters_say) refl;
+  client = subst (λ read. IsMade Client keeps_seven steady read client_id server_id 0 0 true (λ n. 63) limited_start.client) (sym narrow_say) refl;
+  server = subst (λ read. IsMade Server takes_eight steady read server_id client_id 0 0 true (λ n. 63) limited_start.server) (sym parameters_say) refl;
   client_gave = refl;
   server_gave = refl;
   client_heard = refl;
@@ -364,8 +364,8 @@ keeps_thirteen = refl
 pub keeps_own : KeepsTo (parameters_of takes_eight) Client [] own_client → ⊥
 keeps_own k = let clash : ◌≡◌ {A = ℕ} 4611686018427387903 8 = k.all_data in omega (arith, clash)
 
-pub never_own : MadeFrom Client keeps_seven steady narrow_parameters client_id server_id 0 true (λ n. 63) own_client → ⊥
+pub never_own : MadeFrom Client keeps_seven steady narrow_parameters client_id server_id 0 0 true (λ n. 63) own_client → ⊥
 never_own made =
-    let is : own_client ≡ limited_start.client = subst (λ read. IsMade Client keeps_seven steady read client_id server_id 0 true (λ n. 63) own_client) narrow_say made in
+    let is : own_client ≡ limited_start.client = subst (λ read. IsMade Client keeps_seven steady read client_id server_id 0 0 true (λ n. 63) own_client) narrow_say made in
     let clash : ◌≡◌ {A = ℕ} 4611686018427387903 8 = ap (λ (e : End). e.streams.sending.limit) is in
     omega (arith, clash)

@@ -23,7 +23,7 @@ unfolding client_acked
 long_went = refl
 
 gave_long : GaveOne too_long Client 2 0
-gave_long = record { transmit = record { size = 1201; ecn = Some Ect0 }; poll = record { event = refl; answer = refl }; served = refl; sent = long_sent; went = long_went }
+gave_long = record { transmit = record { size = 1201; ecn = Some Ect0; remote = 0 }; poll = record { event = refl; answer = refl }; served = refl; sent = long_sent; went = long_went }
 
 pub long_wrong : DatagramsAreSized too_long → ⊥
 unfolding gave_long

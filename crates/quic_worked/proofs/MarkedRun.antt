@@ -133,7 +133,7 @@ unfolding client_acked ecn_at
 echo_no_probe = refl
 
 gave_echo : GaveOne echo_run Server 7 0
-gave_echo = record { transmit = record { size = 34; ecn = Some Ect0 }; poll = record { event = refl; answer = refl }; served = refl; sent = echo_sent; went = echo_went }
+gave_echo = record { transmit = record { size = 34; ecn = Some Ect0; remote = 0 }; poll = record { event = refl; answer = refl }; served = refl; sent = echo_sent; went = echo_went }
 
 pub echo_shows : EachWaited echo_run → ⊥
 unfolding gave_echo

@@ -503,7 +503,7 @@ second_byte (m ∷ ms) = slice_index m 1
 
 pub turned_wrong : MessagesGoInOrder (two_run pong_message ping_message) → ⊥
 turned_wrong h =
-    let order = h Client 2 0 (record { size = 234; ecn = Some Ect0 }) (two_sent pong_message ping_message) refl (record { event = refl; answer = refl }) turned_went in
+    let order = h Client 2 0 (record { size = 234; ecn = Some Ect0; remote = 0 }) (two_sent pong_message ping_message) refl (record { event = refl; answer = refl }) turned_went in
     let clash : ◌≡◌ {A = ℕ} 111 105 = ap second_byte (order ∙ turned_wait) in
     omega (arith, clash)
 

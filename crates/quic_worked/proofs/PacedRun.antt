@@ -119,7 +119,7 @@ word_went = refl
 pub goes_then : GaveAsking paced_run Client 3 full_again
 goes_then = record {
   one = record {
-    transmit = record { size = 230; ecn = Some Ect0 };
+    transmit = record { size = 230; ecn = Some Ect0; remote = 0 };
     poll = record { event = refl; answer = refl };
     served = refl;
     sent = word_sent;
@@ -194,7 +194,7 @@ unfolding once_taken
 soon_went = refl
 
 abbrev soon_gave : GaveAsking unheld_run Client 2 0
-soon_gave = record { one = record { transmit = record { size = 230; ecn = Some Ect0 }; poll = record { event = refl; answer = refl }; served = refl; sent = soon_sent; went = soon_went }; asks = refl }
+soon_gave = record { one = record { transmit = record { size = 230; ecn = Some Ect0; remote = 0 }; poll = record { event = refl; answer = refl }; served = refl; sent = soon_sent; went = soon_went }; asks = refl }
 
 soon_probes : (watch unheld_run Client 2).flight.probes ≡ 0
 soon_probes = refl
@@ -250,7 +250,7 @@ unfolding once_scarce
 again_went = refl
 
 abbrev again_gave : GaveAsking uncharged_run Client 7 first_expiry
-again_gave = record { one = record { transmit = record { size = 35; ecn = Some Ect0 }; poll = record { event = refl; answer = refl }; served = refl; sent = again_sent; went = again_went }; asks = refl }
+again_gave = record { one = record { transmit = record { size = 35; ecn = Some Ect0; remote = 0 }; poll = record { event = refl; answer = refl }; served = refl; sent = again_sent; went = again_went }; asks = refl }
 
 again_probes : (watch uncharged_run Client 7).flight.probes ≡ 0
 unfolding once_scarce

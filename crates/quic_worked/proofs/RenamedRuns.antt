@@ -275,7 +275,7 @@ unfolding client_acked
 next_asked = refl
 
 gave_old : GaveOne old_used Client 4 0
-gave_old = record { transmit = record { size = 31; ecn = Some Ect0 }; poll = record { event = refl; answer = refl }; served = refl; sent = acking_sent; went = old_sent }
+gave_old = record { transmit = record { size = 31; ecn = Some Ect0; remote = 0 }; poll = record { event = refl; answer = refl }; served = refl; sent = acking_sent; went = old_sent }
 
 pub old_shows : IdsAreInUse old_used → ⊥
 unfolding gave_old
@@ -368,7 +368,7 @@ old_is_none = behind refl client_tells (behind refl server_tells (behind refl cl
 -- ---- a server that forgets an id early
 
 pub early_shows : UnknownOnlyWhereRetired forgets_early → ⊥
-early_shows h = absurd (h Server 1 0 (record { now = 0; ecn = None; index = 0 }) (client_datagram 0 0 ids_payload) refl refl (record { event = refl; answer = refl }) refl (inl (refl, refl))).was_taken
+early_shows h = absurd (h Server 1 0 (record { now = 0; remote = 0; ecn = None; index = 0 }) (client_datagram 0 0 ids_payload) refl refl (record { event = refl; answer = refl }) refl (inl (refl, refl))).was_taken
 
 pub early_is_honest : IsHonest forgets_early
 early_is_honest = honest_steady forgets_early (record { start = refl; keys = refl; client = (tt, (tt, tt)); server = (tt, (tt, tt)) })
@@ -389,7 +389,7 @@ two_shows = record { served = refl; view = record { client = closed_view (reason
 pub two_blames : NoBlame two_issued → ⊥
 two_blames h = h Client 7 (Some (reasons.Transport (plain_error 9))) two_shows
 
-pub two_close : (received worked_policies.client (once_renamed 6).client (arriving 0 None false) (from_server 1 two_payload)).answer ≡ receives.Closed (plain_error 9)
+pub two_close : (received worked_policies.client (once_renamed 6).client (arriving 0 0 None false) (from_server 1 two_payload)).answer ≡ receives.Closed (plain_error 9)
 unfolding once_renamed
 two_close = refl
 

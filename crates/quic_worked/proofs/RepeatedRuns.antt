@@ -98,7 +98,7 @@ unfolding client_acked
 no_probe_of_client = refl
 
 gave_ping : GaveOne ping_again Client 2 0
-gave_ping = record { transmit = record { size = 29; ecn = Some Ect0 }; poll = record { event = refl; answer = refl }; served = refl; sent = second_ping; went = pinged_twice }
+gave_ping = record { transmit = record { size = 29; ecn = Some Ect0; remote = 0 }; poll = record { event = refl; answer = refl }; served = refl; sent = second_ping; went = pinged_twice }
 
 pub ping_shows : EachWaited ping_again → ⊥
 unfolding gave_ping
@@ -140,7 +140,7 @@ unfolding client_acked
 no_probe_of_server = refl
 
 gave_ack : GaveOne ack_again Server 7 0
-gave_ack = record { transmit = record { size = 31; ecn = Some Ect0 }; poll = record { event = refl; answer = refl }; served = refl; sent = second_ack; went = acked_twice }
+gave_ack = record { transmit = record { size = 31; ecn = Some Ect0; remote = 0 }; poll = record { event = refl; answer = refl }; served = refl; sent = second_ack; went = acked_twice }
 
 pub ack_shows : EachWaited ack_again → ⊥
 unfolding gave_ack
@@ -182,7 +182,7 @@ unfolding limited_heard
 no_probe_of_limit read = refl
 
 gave_limit : (read : ReadCall) → GaveOne (limit_again read) Server 10 0
-gave_limit read = record { transmit = record { size = 36; ecn = Some Ect0 }; poll = record { event = refl; answer = refl }; served = refl; sent = second_limit; went = limited_twice read }
+gave_limit read = record { transmit = record { size = 36; ecn = Some Ect0; remote = 0 }; poll = record { event = refl; answer = refl }; served = refl; sent = second_limit; went = limited_twice read }
 
 pub limit_shows : (read : ReadCall) → EachWaited (limit_again read) → ⊥
 unfolding gave_limit
@@ -225,7 +225,7 @@ unfolding client_acked
 no_probe_of_challenge = refl
 
 gave_challenge : GaveOne challenge_again Server 5 0
-gave_challenge = record { transmit = record { size = 1200; ecn = Some Ect0 }; poll = record { event = refl; answer = refl }; served = refl; sent = second_challenge; went = challenged_twice }
+gave_challenge = record { transmit = record { size = 1200; ecn = Some Ect0; remote = 0 }; poll = record { event = refl; answer = refl }; served = refl; sent = second_challenge; went = challenged_twice }
 
 pub challenge_shows : EachWaited challenge_again → ⊥
 unfolding gave_challenge
@@ -268,7 +268,7 @@ unfolding client_acked
 no_probe_of_response = refl
 
 gave_response : GaveOne response_again Client 7 0
-gave_response = record { transmit = record { size = 1200; ecn = None }; poll = record { event = refl; answer = refl }; served = refl; sent = last_response; went = answered_twice }
+gave_response = record { transmit = record { size = 1200; ecn = None; remote = 0 }; poll = record { event = refl; answer = refl }; served = refl; sent = last_response; went = answered_twice }
 
 pub response_shows : EachWaited response_again → ⊥
 unfolding gave_response

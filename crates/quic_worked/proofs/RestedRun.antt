@@ -47,8 +47,8 @@ rested_started = record {
   server_making = record (making server_id) { windows = roomy_windows };
   client_is = record { range = in_range; sizes = lit≤ tt; says = parameters_say; id = refl };
   server_is = record { range = in_range; sizes = lit≤ tt; says = parameters_say; id = refl };
-  client = subst (λ read. IsMade Client plain_settings roomy_windows read client_id server_id 0 true (λ n. 63) rested_start.client) (sym parameters_say) refl;
-  server = subst (λ read. IsMade Server plain_settings roomy_windows read server_id client_id 0 true (λ n. 63) rested_start.server) (sym parameters_say) refl;
+  client = subst (λ read. IsMade Client plain_settings roomy_windows read client_id server_id 0 0 true (λ n. 63) rested_start.client) (sym parameters_say) refl;
+  server = subst (λ read. IsMade Server plain_settings roomy_windows read server_id client_id 0 0 true (λ n. 63) rested_start.server) (sym parameters_say) refl;
   client_gave = refl;
   server_gave = refl;
   client_heard = refl;

@@ -43,7 +43,7 @@ searched_started = record {
   server_making = record (making server_id) { windows = shut };
   client_is = record { range = searching_range; sizes = lit≤ tt; says = parameters_say; id = refl };
   server_is = record { range = in_range; sizes = lit≤ tt; says = parameters_say; id = refl };
-  client = subst (λ read. IsMade Client search_settings steady read client_id server_id 0 true (λ n. 63) searched_start.client) (sym parameters_say) refl;
+  client = subst (λ read. IsMade Client search_settings steady read client_id server_id 0 0 true (λ n. 63) searched_start.client) (sym parameters_say) refl;
   server = server_is_made;
   client_gave = refl;
   server_gave = refl;
@@ -131,7 +131,7 @@ probe_went = refl
 abbrev gave_asking : GaveAsking searched_run Client 1 0
 gave_asking = record {
   one = record {
-    transmit = record { size = 1326; ecn = Some Ect0 };
+    transmit = record { size = 1326; ecn = Some Ect0; remote = 0 };
     poll = record { event = refl; answer = refl };
     served = refl;
     sent = size_sent;
@@ -225,7 +225,7 @@ ack_went = refl
 pub ack_is_small : (gave : GaveOne searched_run Server 4 35000000) × (gave.sent.size ≤ (seen_at searched_run Server 4).current_mtu)
 ack_is_small = (
   record {
-    transmit = record { size = 32; ecn = Some Ect0 };
+    transmit = record { size = 32; ecn = Some Ect0; remote = 0 };
     poll = record { event = refl; answer = refl };
     served = refl;
     sent = ack_sent;

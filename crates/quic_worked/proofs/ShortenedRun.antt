@@ -46,7 +46,7 @@ filling_started = record {
   server_making = record (making server_id) { windows = shut };
   client_is = record { range = filling_range; sizes = lit≤ tt; says = parameters_say; id = refl };
   server_is = record { range = in_range; sizes = lit≤ tt; says = parameters_say; id = refl };
-  client = subst (λ read. IsMade Client filling_settings steady read client_id server_id 0 true (λ n. 63) filling_start.client) (sym parameters_say) refl;
+  client = subst (λ read. IsMade Client filling_settings steady read client_id server_id 0 0 true (λ n. 63) filling_start.client) (sym parameters_say) refl;
   server = server_is_made;
   client_gave = refl;
   server_gave = refl;
@@ -223,13 +223,13 @@ unfolding once_shortened
 second_went = refl
 
 pub full_goes : (gave : GaveAsking shortened_run Client 7 20000000) × (gave.one.sent ≡ full_sent)
-full_goes = (record { one = record { transmit = record { size = 1326; ecn = None }; poll = record { event = refl; answer = refl }; served = refl; sent = full_sent; went = full_went }; asks = refl }, refl)
+full_goes = (record { one = record { transmit = record { size = 1326; ecn = None; remote = 0 }; poll = record { event = refl; answer = refl }; served = refl; sent = full_sent; went = full_went }; asks = refl }, refl)
 
 pub first_goes : (gave : GaveAsking shortened_run Client 9 105000000) × (gave.one.sent ≡ probe_sent 3)
-first_goes = (record { one = record { transmit = record { size = 1200; ecn = None }; poll = record { event = refl; answer = refl }; served = refl; sent = probe_sent 3; went = first_went }; asks = refl }, refl)
+first_goes = (record { one = record { transmit = record { size = 1200; ecn = None; remote = 0 }; poll = record { event = refl; answer = refl }; served = refl; sent = probe_sent 3; went = first_went }; asks = refl }, refl)
 
 pub second_goes : (gave : GaveAsking shortened_run Client 10 105000000) × (gave.one.sent ≡ probe_sent 4)
-second_goes = (record { one = record { transmit = record { size = 1200; ecn = None }; poll = record { event = refl; answer = refl }; served = refl; sent = probe_sent 4; went = second_went }; asks = refl }, refl)
+second_goes = (record { one = record { transmit = record { size = 1200; ecn = None; remote = 0 }; poll = record { event = refl; answer = refl }; served = refl; sent = probe_sent 4; went = second_went }; asks = refl }, refl)
 
 -- what told the ids, as it was sent
 abbrev ids_sent : Sent
@@ -249,7 +249,7 @@ unfolding once_shortened
 long_went = refl
 
 gave_long : GaveOne long_probe_run Client 9 105000000
-gave_long = record { transmit = record { size = 1326; ecn = None }; poll = record { event = refl; answer = refl }; served = refl; sent = long_probe_sent; went = long_went }
+gave_long = record { transmit = record { size = 1326; ecn = None; remote = 0 }; poll = record { event = refl; answer = refl }; served = refl; sent = long_probe_sent; went = long_went }
 
 long_waits : (watch long_probe_run Client 9).flight.probes ≡ 2
 unfolding once_shortened

@@ -77,8 +77,8 @@ shut_started = record {
   server_making = record (making server_id) { windows = roomy_windows };
   client_is = record { range = in_range; sizes = lit≤ tt; says = parameters_say; id = refl };
   server_is = record { range = in_range; sizes = lit≤ tt; says = parameters_say; id = refl };
-  client = subst (λ read. IsMade Client plain_settings roomy_windows read client_id server_id 0 true (λ n. 63) rested_start.client) (sym parameters_say) refl;
-  server = subst (λ read. IsMade Server plain_settings roomy_windows read server_id client_id 0 true (λ n. 63) rested_start.server) (sym parameters_say) refl;
+  client = subst (λ read. IsMade Client plain_settings roomy_windows read client_id server_id 0 0 true (λ n. 63) rested_start.client) (sym parameters_say) refl;
+  server = subst (λ read. IsMade Server plain_settings roomy_windows read server_id client_id 0 0 true (λ n. 63) rested_start.server) (sym parameters_say) refl;
   client_gave = refl;
   server_gave = refl;
   client_heard = refl;
@@ -123,8 +123,8 @@ lone_started = record {
   server_making = record (making server_id) { settings = with_uni 1; windows = roomy_windows; parameters = lone_parameters };
   client_is = record { range = in_range; sizes = lit≤ tt; says = parameters_say; id = refl };
   server_is = record { range = lone_range; sizes = lit≤ tt; says = lone_says; id = refl };
-  client = subst (λ read. IsMade Client plain_settings roomy_windows read client_id server_id 0 true (λ n. 63) lone_start.client) (sym lone_says) refl;
-  server = subst (λ read. IsMade Server (with_uni 1) roomy_windows read server_id client_id 0 true (λ n. 63) lone_start.server) (sym parameters_say) refl;
+  client = subst (λ read. IsMade Client plain_settings roomy_windows read client_id server_id 0 0 true (λ n. 63) lone_start.client) (sym lone_says) refl;
+  server = subst (λ read. IsMade Server (with_uni 1) roomy_windows read server_id client_id 0 0 true (λ n. 63) lone_start.server) (sym parameters_say) refl;
   client_gave = refl;
   server_gave = refl;
   client_heard = refl;

@@ -36,7 +36,7 @@ far_started = record {
   client_is = record { range = in_range; sizes = lit≤ tt; says = parameters_say; id = refl };
   server_is = record { range = in_range; sizes = lit≤ tt; says = parameters_say; id = refl };
   client = client_is_made;
-  server = subst (λ read. IsMade Server plain_settings steady read server_id client_id 0 false (λ n. 63) far_start.server) (sym parameters_say) refl;
+  server = subst (λ read. IsMade Server plain_settings steady read server_id client_id 0 0 false (λ n. 63) far_start.server) (sym parameters_say) refl;
   client_gave = refl;
   server_gave = refl;
   client_heard = refl;

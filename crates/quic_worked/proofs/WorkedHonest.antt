@@ -16,7 +16,7 @@ use Rattle.quic_worked.proofs.Codes.{no_codes}
 
 -- an end with default settings and this id, at moment 0 on a validated path
 abbrev pub making : List ℕ → Making
-making id = record { settings = plain_settings; windows = steady; parameters = worked_parameters; id = id; moment = 0; validated = true; words = λ n. 63 }
+making id = record { settings = plain_settings; windows = steady; parameters = worked_parameters; id = id; remote = 0; moment = 0; validated = true; words = λ n. 63 }
 
 pub in_range : IsInRange plain_settings
 in_range = record { receive_window = lit< tt; stream_receive_window = lit< tt; bounds = record { bidi = lit≤ tt; uni = lit≤ tt; divides = lit< tt; initial = lit≤ tt; least = lit≤ tt }; search = tt }

@@ -29,36 +29,36 @@ pub parameters_say : parameters_at worked_parameters ≡ Ok (parameters_of plain
 unfolding parameters_at judged values_met met_in met_within met_after whole_at entry_at
 parameters_say = refl
 
-pub client_is_made : MadeFrom Client plain_settings steady worked_parameters client_id server_id 0 true (λ n. 63)
+pub client_is_made : MadeFrom Client plain_settings steady worked_parameters client_id server_id 0 0 true (λ n. 63)
     client_made
 client_is_made =
-    subst (λ read. IsMade Client plain_settings steady read client_id server_id 0 true (λ n. 63) client_made)
+    subst (λ read. IsMade Client plain_settings steady read client_id server_id 0 0 true (λ n. 63) client_made)
     (sym parameters_say) refl
 
-pub server_is_made : MadeFrom Server plain_settings shut worked_parameters server_id client_id 0 true (λ n. 63)
+pub server_is_made : MadeFrom Server plain_settings shut worked_parameters server_id client_id 0 0 true (λ n. 63)
     server_made
 server_is_made =
-    subst (λ read. IsMade Server plain_settings shut read server_id client_id 0 true (λ n. 63) server_made)
+    subst (λ read. IsMade Server plain_settings shut read server_id client_id 0 0 true (λ n. 63) server_made)
     (sym parameters_say) refl
 
-pub steady_is_made : MadeFrom Server plain_settings steady worked_parameters server_id client_id 0 true (λ n. 63)
+pub steady_is_made : MadeFrom Server plain_settings steady worked_parameters server_id client_id 0 0 true (λ n. 63)
     both_steady.server
 steady_is_made =
-    subst (λ read. IsMade Server plain_settings steady read server_id client_id 0 true (λ n. 63) both_steady.server)
+    subst (λ read. IsMade Server plain_settings steady read server_id client_id 0 0 true (λ n. 63) both_steady.server)
     (sym parameters_say) refl
 
 few_say : parameters_at (parameters_with 5) ≡ Ok few_kept
 unfolding parameters_at judged values_met met_in met_within met_after whole_at entry_at
 few_say = refl
 
-pub few_is_made : MadeFrom Client plain_settings steady (parameters_with 5) client_id server_id 0 true (λ n. 63)
+pub few_is_made : MadeFrom Client plain_settings steady (parameters_with 5) client_id server_id 0 0 true (λ n. 63)
     few_started.client
 few_is_made =
-    subst (λ read. IsMade Client plain_settings steady read client_id server_id 0 true (λ n. 63) few_started.client)
+    subst (λ read. IsMade Client plain_settings steady read client_id server_id 0 0 true (λ n. 63) few_started.client)
     (sym few_say) refl
 
 -- its first datagram tells four ids
-pub few_given : (client_gives few_ended.client 0).answer ≡ Ok (Some (record { size = 146; ecn = Some Ect0 }))
+pub few_given : (client_gives few_ended.client 0).answer ≡ Ok (Some (record { size = 146; ecn = Some Ect0; remote = 0 }))
 unfolding once_taken
 few_given = refl
 

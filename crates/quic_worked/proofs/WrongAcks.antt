@@ -151,7 +151,7 @@ unfolding client_acked
 narrow_went read = refl
 
 narrow_gave : (read : ReadCall) → GaveOne (narrow_name read) Server 6 25000000
-narrow_gave read = record { transmit = record { size = 32; ecn = Some Ect0 }; poll = record { event = refl; answer = refl }; served = refl; sent = narrow_sent; went = narrow_went read }
+narrow_gave read = record { transmit = record { size = 32; ecn = Some Ect0; remote = 0 }; poll = record { event = refl; answer = refl }; served = refl; sent = narrow_sent; went = narrow_went read }
 
 narrow_took : (read : ReadCall) → took (narrow_name read) Server 6 ≡ hello_packet ∷ []
 unfolding client_acked

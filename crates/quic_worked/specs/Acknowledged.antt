@@ -57,11 +57,11 @@ client_datagram number reference payload =
 
 -- what the client makes at a moment of the server's first datagram, with this payload
 abbrev pub client_takes : End → ℕ → List ℕ → Outcome
-client_takes client now payload = received worked_policies.client client (arriving now None false) (from_server 0 payload)
+client_takes client now payload = received worked_policies.client client (arriving now 0 None false) (from_server 0 payload)
 
 -- what an injection of bytes at moment 0 is answered
 abbrev pub injected : Policy → End → List ℕ → Answer
-injected p e bytes = injected_if (would_open p e bytes) false p e (record { now = 0; ecn = None; bytes = bytes })
+injected p e bytes = injected_if (would_open p e 0 bytes) false p e (record { now = 0; remote = 0; ecn = None; bytes = bytes })
 
 -- ---- the acknowledgement
 

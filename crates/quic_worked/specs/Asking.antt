@@ -54,8 +54,8 @@ asked_parameters = worked_parameters ++ (0xc0 ∷ 0x00 ∷ 0x00 ∷ 0x00 ∷ 0xf
 -- server is shut
 abbrev pub asking_start_with : Settings → World
 asking_start_with settings = record started {
-  client = new_end Client settings steady (parameters_of asked_settings) client_id server_id 0 true (λ n. 63);
-  server = new_end Server asked_settings shut (parameters_of plain_settings) server_id client_id 0 true (λ n. 63);
+  client = new_end Client settings steady (parameters_of asked_settings) client_id server_id 0 0 true (λ n. 63);
+  server = new_end Server asked_settings shut (parameters_of plain_settings) server_id client_id 0 0 true (λ n. 63);
 }
 
 -- where the client asks

@@ -46,7 +46,7 @@ waiting_seen read = seen_at (raised_run read) Client 14 (calls.Timeout 25000000)
 
 -- its acknowledgement comes to the server, at which the datagram with the limit is lost
 abbrev pub losing_seen : ReadCall → Seen
-losing_seen read = seen_at (raised_run read) Server 16 (calls.Deliver (record { now = 25000000; ecn = None; index = 1 })) (answers.Deliver receives.Taken)
+losing_seen read = seen_at (raised_run read) Server 16 (calls.Deliver (record { now = 25000000; remote = 0; ecn = None; index = 1 })) (answers.Deliver receives.Taken)
 
 -- the client takes the datagram in which the server asks it to answer
 abbrev pub challenged_seen : Seen
@@ -62,7 +62,7 @@ using_seen = seen_at renaming_run Client 3 calls.UseNextId (answers.UseNextId (O
 
 -- the server takes the datagram that says that its first id is retired
 abbrev pub retired_seen : Seen
-retired_seen = seen_at renaming_run Server 5 (calls.Deliver (record { now = 0; ecn = None; index = 1 })) (answers.Deliver receives.Taken)
+retired_seen = seen_at renaming_run Server 5 (calls.Deliver (record { now = 0; remote = 0; ecn = None; index = 1 })) (answers.Deliver receives.Taken)
 
 -- the server, whose peer didn't answer for 3072 ms
 abbrev pub unanswered_server : End

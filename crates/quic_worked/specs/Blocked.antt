@@ -59,8 +59,8 @@ small_parameters window =
 -- both ends, where the server takes so many bytes in all, before anything was given
 abbrev pub small_start : ℕ → World
 small_start window = record {
-  client = new_end Client plain_settings roomy_windows (parameters_of (with_window window)) client_id server_id 0 true (λ n. 63);
-  server = new_end Server (with_window window) roomy_windows (parameters_of plain_settings) server_id client_id 0 true (λ n. 63);
+  client = new_end Client plain_settings roomy_windows (parameters_of (with_window window)) client_id server_id 0 0 true (λ n. 63);
+  server = new_end Server (with_window window) roomy_windows (parameters_of plain_settings) server_id client_id 0 0 true (λ n. 63);
   from_client = [];
   from_server = [];
   client_control = roomy_control;

@@ -302,7 +302,7 @@ early_name = record {
 
 -- these bytes are injected at an end at moment 0, without a mark
 abbrev pub injects : Side → List ℕ → RunEvent
-injects side bytes = record { side = side; call = calls.Inject (record { now = 0; ecn = None; bytes = bytes }) }
+injects side bytes = record { side = side; call = calls.Inject (record { now = 0; remote = 0; ecn = None; bytes = bytes }) }
 
 -- a run of injections that are answered so
 abbrev pub injecting : List RunEvent → List Answer → Run

@@ -134,11 +134,11 @@ much_happened = drained_by reasons.Idle (took (datagram hello) (took (stream hel
 
 -- a client whose random source counts
 abbrev pub counting_client : End
-counting_client = new_end Client plain_settings steady (parameters_of plain_settings) client_id server_id 0 true counting
+counting_client = new_end Client plain_settings steady (parameters_of plain_settings) client_id server_id 0 0 true counting
 
 -- a server whose random source does, and to which its peer's address isn't validated
 abbrev pub asking_server : End
-asking_server = new_end Server plain_settings steady (parameters_of plain_settings) server_id client_id 0 false counting
+asking_server = new_end Server plain_settings steady (parameters_of plain_settings) server_id client_id 0 0 false counting
 
 -- to an end PATH_CHALLENGE with a word comes in a packet
 abbrev pub challenged_in : ℕ → ℕ → End → End
@@ -178,4 +178,4 @@ close_went e = with_closing e (close_given e.closing)
 
 -- a packet with PING opened at an end, under a number
 abbrev pub ping_opened : ℕ → End → Outcome
-ping_opened number e = opened_to (record { first = 0x40; number = number; payload = 0x01 ∷ [] }) (arriving 0 None false) e
+ping_opened number e = opened_to (record { first = 0x40; number = number; payload = 0x01 ∷ [] }) (arriving 0 0 None false) e

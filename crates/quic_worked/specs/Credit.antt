@@ -31,8 +31,8 @@ use Rattle.quic_worked.specs.Paired.{writes_on, asks_server, client_hears}
 -- both ends, where the server has these settings, before anything was given
 abbrev pub ends_of : Settings → World
 ends_of narrow = record {
-  client = new_end Client plain_settings steady (parameters_of narrow) client_id server_id 0 true (λ n. 63);
-  server = new_end Server narrow steady (parameters_of plain_settings) server_id client_id 0 true (λ n. 63);
+  client = new_end Client plain_settings steady (parameters_of narrow) client_id server_id 0 0 true (λ n. 63);
+  server = new_end Server narrow steady (parameters_of plain_settings) server_id client_id 0 0 true (λ n. 63);
   from_client = [];
   from_server = [];
   client_control = steady_control;

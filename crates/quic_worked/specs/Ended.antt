@@ -91,8 +91,8 @@ idle_parameters = (0x01 ∷ 0x04 ∷ 0x80 ∷ 0x00 ∷ 0x75 ∷ 0x30 ∷ []) ++ 
 -- both ends, before anything was given
 abbrev pub idle_start : World
 idle_start = record {
-  client = new_end Client idle_settings steady (parameters_of plain_settings) client_id server_id 0 true (λ n. 63);
-  server = new_end Server plain_settings shut (parameters_of idle_settings) server_id client_id 0 true (λ n. 63);
+  client = new_end Client idle_settings steady (parameters_of plain_settings) client_id server_id 0 0 true (λ n. 63);
+  server = new_end Server plain_settings shut (parameters_of idle_settings) server_id client_id 0 0 true (λ n. 63);
   from_client = [];
   from_server = [];
   client_control = steady_control;

@@ -146,8 +146,8 @@ having_told e = with_waiting e nothing_waits
 -- the numbers of each 63 is the first that is left out
 abbrev pub ends_with : Settings → Settings → Ends
 ends_with client server = record {
-  client = having_told (new_end Client client steady (parameters_of server) [] [] 0 true (λ n. 63));
-  server = having_told (new_end Server server steady (parameters_of client) [] [] 0 true (λ n. 63));
+  client = having_told (new_end Client client steady (parameters_of server) [] [] 0 0 true (λ n. 63));
+  server = having_told (new_end Server server steady (parameters_of client) [] [] 0 0 true (λ n. 63));
 }
 
 -- what one says of itself that lets come so many bytes on all streams

@@ -73,7 +73,7 @@ alive_settings = record plain_settings { keep_alive_interval = Some 10000000000 
 
 -- both ends, before anything was given
 abbrev pub alive_start : World
-alive_start = with_client both_steady (new_end Client alive_settings steady (parameters_of plain_settings) client_id server_id 0 true (λ n. 63))
+alive_start = with_client both_steady (new_end Client alive_settings steady (parameters_of plain_settings) client_id server_id 0 0 true (λ n. 63))
 
 -- the client tells its ids, and its timers are served ten seconds later
 abbrev pub alive_events : List RunEvent

@@ -99,8 +99,8 @@ one_way_parameters =
 -- both ends, of which the server may open one one-way stream
 abbrev pub one_back : World
 one_back = record {
-  client = new_end Client (with_uni 1) steady (parameters_of plain_settings) client_id server_id 0 true (λ n. 63);
-  server = new_end Server plain_settings steady (parameters_of (with_uni 1)) server_id client_id 0 true (λ n. 63);
+  client = new_end Client (with_uni 1) steady (parameters_of plain_settings) client_id server_id 0 0 true (λ n. 63);
+  server = new_end Server plain_settings steady (parameters_of (with_uni 1)) server_id client_id 0 0 true (λ n. 63);
   from_client = [];
   from_server = [];
   client_control = steady_control;
@@ -196,7 +196,7 @@ noted_early = record {
 
 -- no byte at all is injected at the client after five seconds
 abbrev pub injects_late : RunEvent
-injects_late = record { side = Client; call = calls.Inject (record { now = 5000000000; ecn = None; bytes = [] }) }
+injects_late = record { side = Client; call = calls.Inject (record { now = 5000000000; remote = 0; ecn = None; bytes = [] }) }
 
 -- behind it the client gives its datagram at moment 0, and shows its loss timer so
 abbrev pub injected_before : ℕ → Run

@@ -41,8 +41,8 @@ narrow_windows = record { initial = narrow_window; present = narrow_window }
 -- both ends, before anything was given
 abbrev pub held_start : World
 held_start = record {
-  client = new_end Client plain_settings narrow_windows (parameters_of plain_settings) client_id server_id 0 true (λ n. 63);
-  server = new_end Server plain_settings narrow_windows (parameters_of plain_settings) server_id client_id 0 true (λ n. 63);
+  client = new_end Client plain_settings narrow_windows (parameters_of plain_settings) client_id server_id 0 0 true (λ n. 63);
+  server = new_end Server plain_settings narrow_windows (parameters_of plain_settings) server_id client_id 0 0 true (λ n. 63);
   from_client = [];
   from_server = [];
   client_control = narrow_control;

@@ -25,7 +25,7 @@ forged_datagram = take 229 hello_datagram ++ 0x00 ∷ []
 
 -- it is injected at the server at a moment, without a mark
 abbrev pub forges : ℕ → RunEvent
-forges now = record { side = Server; call = calls.Inject (record { now = now; ecn = None; bytes = forged_datagram }) }
+forges now = record { side = Server; call = calls.Inject (record { now = now; remote = 0; ecn = None; bytes = forged_datagram }) }
 
 -- the key refuses it
 abbrev pub refused : Answer

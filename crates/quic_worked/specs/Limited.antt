@@ -51,8 +51,8 @@ narrow_parameters =
 -- both, before anything was given
 abbrev pub limited_start : World
 limited_start = record {
-  client = new_end Client keeps_seven steady (parameters_of takes_eight) client_id server_id 0 true (λ n. 63);
-  server = new_end Server takes_eight steady (parameters_of keeps_seven) server_id client_id 0 true (λ n. 63);
+  client = new_end Client keeps_seven steady (parameters_of takes_eight) client_id server_id 0 0 true (λ n. 63);
+  server = new_end Server takes_eight steady (parameters_of keeps_seven) server_id client_id 0 0 true (λ n. 63);
   from_client = [];
   from_server = [];
   client_control = steady_control;
@@ -239,4 +239,4 @@ pub record LeavesAt (read : ReadCall) (s : AreStarted limited_start) (i id of_al
 
 -- the client, where what its own parameters tell counts for what its peer's tell
 abbrev pub own_client : End
-own_client = new_end Client keeps_seven steady (parameters_of keeps_seven) client_id server_id 0 true (λ n. 63)
+own_client = new_end Client keeps_seven steady (parameters_of keeps_seven) client_id server_id 0 0 true (λ n. 63)

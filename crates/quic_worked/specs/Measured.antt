@@ -120,7 +120,7 @@ zero_first (suc n) = 63
 
 -- both ends, of which the client leaves out number 0: that was the first word of its random source
 abbrev pub leaving_out : World
-leaving_out = with_client started (new_end Client plain_settings steady (parameters_of plain_settings) client_id server_id 0 true zero_first)
+leaving_out = with_client started (new_end Client plain_settings steady (parameters_of plain_settings) client_id server_id 0 0 true zero_first)
 
 -- a datagram goes, and is acknowledged
 abbrev pub skipping_events : List RunEvent

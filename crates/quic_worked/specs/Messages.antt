@@ -197,7 +197,7 @@ message_refused =
 
 -- a datagram of the client's comes to the server at a moment
 abbrev pub comes_to_server : ℕ → ℕ → RunEvent
-comes_to_server now index = record { side = Server; call = calls.Deliver (record { now = now; ecn = None; index = index }) }
+comes_to_server now index = record { side = Server; call = calls.Deliver (record { now = now; remote = 0; ecn = None; index = index }) }
 
 -- the server is asked for a PING
 abbrev pub server_pings : RunEvent

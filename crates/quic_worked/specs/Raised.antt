@@ -36,7 +36,7 @@ ping_sent = server_pings ∷ asks_server ∷ []
 
 -- one of the server's datagrams comes to the client
 abbrev pub comes_to_client : ℕ → RunEvent
-comes_to_client index = record { side = Client; call = calls.Deliver (record { now = 0; ecn = None; index = index }) }
+comes_to_client index = record { side = Client; call = calls.Deliver (record { now = 0; remote = 0; ecn = None; index = index }) }
 
 -- 25 ms pass at the client
 abbrev pub client_waits : RunEvent
@@ -44,7 +44,7 @@ client_waits = record { side = Client; call = calls.Timeout 25000000 }
 
 -- its acknowledgement comes to the server
 abbrev pub ack_comes : RunEvent
-ack_comes = record { side = Server; call = calls.Deliver (record { now = 25000000; ecn = None; index = 1 }) }
+ack_comes = record { side = Server; call = calls.Deliver (record { now = 25000000; remote = 0; ecn = None; index = 1 }) }
 
 -- up to the loss
 abbrev pub losing_limit : ReadCall → List RunEvent

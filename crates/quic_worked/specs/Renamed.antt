@@ -138,7 +138,7 @@ forgets_early = record renaming_run {
 
 -- the server's second datagram comes to the client
 abbrev pub client_hears_second : RunEvent
-client_hears_second = record { side = Client; call = calls.Deliver (record { now = 0; ecn = None; index = 1 }) }
+client_hears_second = record { side = Client; call = calls.Deliver (record { now = 0; remote = 0; ecn = None; index = 1 }) }
 
 -- two ids more, and an acknowledgement of number 1
 abbrev pub two_payload : List ℕ

@@ -50,7 +50,7 @@ writes_bytes bytes = record { side = Client; call = calls.Write 0 bytes }
 -- a delivery to the server at moment 0, without a mark
 abbrev pub delivers_at : ℕ → RunEvent
 delivers_at index =
-    record { side = Server; call = calls.Deliver (record { now = 0; ecn = None; index = index }) }
+    record { side = Server; call = calls.Deliver (record { now = 0; remote = 0; ecn = None; index = index }) }
 
 -- the client gives two datagrams
 abbrev pub both_events : List RunEvent

@@ -43,8 +43,8 @@ roomy_windows = record { initial = roomy_window; present = roomy_window }
 -- both ends, before anything was given
 abbrev pub rested_start : World
 rested_start = record {
-  client = new_end Client plain_settings roomy_windows (parameters_of plain_settings) client_id server_id 0 true (λ n. 63);
-  server = new_end Server plain_settings roomy_windows (parameters_of plain_settings) server_id client_id 0 true (λ n. 63);
+  client = new_end Client plain_settings roomy_windows (parameters_of plain_settings) client_id server_id 0 0 true (λ n. 63);
+  server = new_end Server plain_settings roomy_windows (parameters_of plain_settings) server_id client_id 0 0 true (λ n. 63);
   from_client = [];
   from_server = [];
   client_control = roomy_control;
@@ -57,7 +57,7 @@ rested_start = record {
 
 -- the client's second datagram comes to the server at a moment
 abbrev pub second_comes : ℕ → RunEvent
-second_comes now = record { side = Server; call = calls.Deliver (record { now = now; ecn = None; index = 1 }) }
+second_comes now = record { side = Server; call = calls.Deliver (record { now = now; remote = 0; ecn = None; index = 1 }) }
 
 -- how both come to rest behind a datagram of the client's: it comes to the server, which is asked
 -- for its acknowledgement after 25 ms; that comes to the client, which is asked for its own after

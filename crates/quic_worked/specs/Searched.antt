@@ -29,7 +29,7 @@ use Rattle.quic_config.specs.Transport.{parameters_of}
 
 -- both ends, of which the client looks for a larger size
 abbrev pub searched_start : World
-searched_start = with_client started (new_end Client search_settings steady (parameters_of plain_settings) client_id server_id 0 true (λ n. 63))
+searched_start = with_client started (new_end Client search_settings steady (parameters_of plain_settings) client_id server_id 0 0 true (λ n. 63))
 
 -- the client is asked for a datagram, and tells its ids; it is asked once more, and nothing waits;
 -- its probe comes to the server, which is asked for its acknowledgement after 25 ms; that comes to

@@ -34,7 +34,7 @@ filling_settings = record search_settings { pad_to_mtu = true }
 
 -- both ends, of which the client does so
 abbrev pub filling_start : World
-filling_start = with_client started (new_end Client filling_settings steady (parameters_of plain_settings) client_id server_id 0 true (λ n. 63))
+filling_start = with_client started (new_end Client filling_settings steady (parameters_of plain_settings) client_id server_id 0 0 true (λ n. 63))
 
 -- ---- events and answers
 

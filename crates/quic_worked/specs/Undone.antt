@@ -50,8 +50,8 @@ lone_parameters =
 -- both ends, where the server lets one one-way stream be open
 abbrev pub lone_start : World
 lone_start = record {
-  client = new_end Client plain_settings roomy_windows (parameters_of (with_uni 1)) client_id server_id 0 true (λ n. 63);
-  server = new_end Server (with_uni 1) roomy_windows (parameters_of plain_settings) server_id client_id 0 true (λ n. 63);
+  client = new_end Client plain_settings roomy_windows (parameters_of (with_uni 1)) client_id server_id 0 0 true (λ n. 63);
+  server = new_end Server (with_uni 1) roomy_windows (parameters_of plain_settings) server_id client_id 0 0 true (λ n. 63);
   from_client = [];
   from_server = [];
   client_control = roomy_control;

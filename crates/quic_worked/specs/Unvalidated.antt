@@ -33,7 +33,7 @@ use Rattle.quic_worked.specs.Losses.{ping_payload}
 
 -- both ends, where the server's peer isn't known to receive at its address
 abbrev pub far_start : World
-far_start = with_server both_steady (new_end Server plain_settings steady (parameters_of plain_settings) server_id client_id 0 false (λ n. 63))
+far_start = with_server both_steady (new_end Server plain_settings steady (parameters_of plain_settings) server_id client_id 0 0 false (λ n. 63))
 
 -- the client gives a full datagram, which comes to the server; then that is asked for one
 abbrev pub far_events : List RunEvent

@@ -215,12 +215,12 @@ worked_parameters = parameters_with 8
 -- the first that is left out
 abbrev pub client_made : End
 client_made =
-    new_end Client plain_settings steady (parameters_of plain_settings) client_id server_id 0 true (λ n. 63)
+    new_end Client plain_settings steady (parameters_of plain_settings) client_id server_id 0 0 true (λ n. 63)
 
 -- the server before the first event: its window is shut
 abbrev pub server_made : End
 server_made =
-    new_end Server plain_settings shut (parameters_of plain_settings) server_id client_id 0 true (λ n. 63)
+    new_end Server plain_settings shut (parameters_of plain_settings) server_id client_id 0 0 true (λ n. 63)
 
 -- both ends, before anything was given
 abbrev pub started : World
@@ -241,7 +241,7 @@ few_kept = record (parameters_of plain_settings) { active_connection_id_limit = 
 
 -- both ends, of which the client has such a peer
 abbrev pub few_started : World
-few_started = record started { client = new_end Client plain_settings steady few_kept client_id server_id 0 true (λ n. 63) }
+few_started = record started { client = new_end Client plain_settings steady few_kept client_id server_id 0 0 true (λ n. 63) }
 
 -- ---- the ids that each end issues at once
 
@@ -290,7 +290,7 @@ ids_again = record nothing_waits { new_cids = issued_ids }
 abbrev pub both_steady : World
 both_steady = record {
   client = client_made;
-  server = new_end Server plain_settings steady (parameters_of plain_settings) server_id client_id 0 true (λ n. 63);
+  server = new_end Server plain_settings steady (parameters_of plain_settings) server_id client_id 0 0 true (λ n. 63);
   from_client = [];
   from_server = [];
   client_control = steady_control;
@@ -338,7 +338,7 @@ within limit e = record e { streams = record e.streams { sending = record e.stre
 -- the client, which looks for a greater size of datagrams, on a path that is validated or isn't;
 -- what it asks then and which ids it tells were sent
 abbrev pub searching : Bool → End
-searching validated = with_waiting (new_end Client search_settings steady (parameters_of plain_settings) client_id server_id 0 validated (λ n. 63)) parts.nothing_waits
+searching validated = with_waiting (new_end Client search_settings steady (parameters_of plain_settings) client_id server_id 0 0 validated (λ n. 63)) parts.nothing_waits
 
 -- settings by which the peer may open no two-way stream
 abbrev pub no_two_way : Settings
@@ -417,7 +417,7 @@ hello_opening = record { first = 0x40; number = 0; payload = hello_whole }
 
 -- what the server makes of a datagram at moment 0
 abbrev pub at_server : End → List ℕ → Received
-at_server server datagram = (received worked_policies.server server (arriving 0 None false) datagram).answer
+at_server server datagram = (received worked_policies.server server (arriving 0 0 None false) datagram).answer
 
 -- a datagram of so many bytes that went at moment 0 with the bytes of stream 0 from one offset up
 -- to another, and with its end or not, and of which this has to be sent again besides if it is lost
@@ -469,7 +469,7 @@ asks_datagram = record { side = Client; call = calls.Poll 0 }
 
 -- the first datagram, at moment 0 and without a mark
 abbrev pub delivery : Delivery
-delivery = record { now = 0; ecn = None; index = 0 }
+delivery = record { now = 0; remote = 0; ecn = None; index = 0 }
 
 -- it is delivered to the server
 abbrev pub delivers : RunEvent
@@ -511,11 +511,11 @@ all_nexts = gives_chunk hello ∷ Ok None ∷ []
 
 -- the client's poll gives a datagram of so many bytes, marked ECT(0)
 abbrev pub gives_bytes : ℕ → Answer
-gives_bytes size = answers.Poll (Ok (Some (record { size = size; ecn = Some Ect0 })))
+gives_bytes size = answers.Poll (Ok (Some (record { size = size; ecn = Some Ect0; remote = 0 })))
 
 -- the same, once the peer or the path keeps no marks
 abbrev pub gives_unmarked : ℕ → Answer
-gives_unmarked size = answers.Poll (Ok (Some (record { size = size; ecn = None })))
+gives_unmarked size = answers.Poll (Ok (Some (record { size = size; ecn = None; remote = 0 })))
 
 -- a write lacks memory
 abbrev pub write_lacks : Answer

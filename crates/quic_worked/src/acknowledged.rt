@@ -39,7 +39,7 @@ pub fn hello_is_acknowledged()
     ensures stopped { next_timer server_due.timers ≡ None }
     ensures given { (server_gives server_due 25000000).datagram ≡ Some (from_server 0 ack_payload) }
     ensures size { (server_gives server_due 25000000).answer
-        ≡ Ok (Some (record { size = 32; ecn = Some Ect0 })) }
+        ≡ Ok (Some (record { size = 32; ecn = Some Ect0; remote = 0 })) }
     ensures once { (server_gives server_acked 25000000).answer ≡ Ok None }
     ensures along { (composed (end_after_ping once_taken.server)).bytes ≡ 0x01 ∷ told_ids ack_at_once }
     ensures before { (composed (end_after_ping server_due)).bytes ≡ ack_payload ++ first_ping }
@@ -104,12 +104,12 @@ pub fn timeouts_are_probed()
 /// dropped.
 #[tactic(auto, unfolding(crate::specs::Worked::once_taken))]
 pub fn injections_are_judged()
-    ensures opens { would_open worked_policies.server server_made hello_datagram ≡ true }
-    ensures again { would_open worked_policies.server once_taken.server hello_datagram ≡ true }
-    ensures drained { would_open worked_policies.server (drained_by NumberLimit server_made)
+    ensures opens { would_open worked_policies.server server_made 0 hello_datagram ≡ true }
+    ensures again { would_open worked_policies.server once_taken.server 0 hello_datagram ≡ true }
+    ensures drained { would_open worked_policies.server (drained_by NumberLimit server_made) 0
         hello_datagram ≡ true }
-    ensures elsewhere { would_open worked_policies.client client_made hello_datagram ≡ false }
-    ensures nothing { would_open worked_policies.server server_made [] ≡ false }
+    ensures elsewhere { would_open worked_policies.client client_made 0 hello_datagram ≡ false }
+    ensures nothing { would_open worked_policies.server server_made 0 [] ≡ false }
     ensures no_call { injected worked_policies.server server_made hello_datagram ≡ answers.Opens }
     ensures dropped { injected worked_policies.client client_made hello_datagram
         ≡ answers.Inject (receives.Dropped drops.UnknownId) }

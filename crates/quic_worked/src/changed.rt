@@ -245,8 +245,8 @@ pub fn third_refusal_closes()
     ensures first { is_last 3 nothing_heard ≡ false }
     ensures second { is_last 3 (heard_failure nothing_heard) ≡ false }
     ensures third { is_last 3 (heard_failure (heard_failure nothing_heard)) ≡ true }
-    ensures drops { (unopened_in states.Open false (arriving 0 None false) client_made).answer
+    ensures drops { (unopened_in states.Open false (arriving 0 0 None false) client_made).answer
         ≡ receives.Dropped drops.NotOpened }
-    ensures closes { (unopened_in states.Open true (arriving 0 None true) client_made).answer
+    ensures closes { (unopened_in states.Open true (arriving 0 0 None true) client_made).answer
         ≡ receives.Closed (plain_error 15) }
 {}

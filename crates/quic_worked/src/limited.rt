@@ -65,5 +65,5 @@ pub fn limits_are_told()
 pub fn takes_own_parameters_for_limits()
     ensures keeps { KeepsTo (parameters_of takes_eight) Client [] own_client → ⊥ }
     ensures machine { MadeFrom Client keeps_seven steady narrow_parameters client_id server_id
-        0 true (λ n. 63) own_client → ⊥ }
+        0 0 true (λ n. 63) own_client → ⊥ }
 {}

@@ -65,7 +65,7 @@ pub fn id_is_forgotten()
 pub fn two_ids_are_issued()
     ensures blame { NoBlame two_issued → ⊥ }
     ensures closes { (received worked_policies.client (once_renamed 6).client
-        (arriving 0 None false) (from_server 1 two_payload)).answer
+        (arriving 0 0 None false) (from_server 1 two_payload)).answer
         ≡ receives.Closed (plain_error 9) }
     ensures premises { IsHonest two_issued }
     ensures machine { IsNoRun two_issued }

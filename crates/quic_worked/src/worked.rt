@@ -48,9 +48,9 @@ ghost use Rattle.quic_worked.specs.Worked.{steady_window, steady, long_keys, unp
 /// Each end is made of the other's parameters and first id, at moment 0 on a validated path. The
 /// window of the server is shut, so that it only acknowledges.
 pub fn ends_are_made()
-    ensures client { MadeFrom Client plain_settings steady worked_parameters client_id server_id 0
+    ensures client { MadeFrom Client plain_settings steady worked_parameters client_id server_id 0 0
         true (λ n. 63) client_made }
-    ensures server { MadeFrom Server plain_settings shut worked_parameters server_id client_id 0
+    ensures server { MadeFrom Server plain_settings shut worked_parameters server_id client_id 0 0
         true (λ n. 63) server_made }
 {}
 
@@ -73,7 +73,7 @@ pub fn hello_is_given()
 /// that keeps five, a client tells four beside the one with which it began, under numbers 1 to 4.
 /// So its first datagram has 146 bytes.
 pub fn peer_may_keep_fewer()
-    ensures made { MadeFrom Client plain_settings steady (parameters_with 5) client_id server_id 0
+    ensures made { MadeFrom Client plain_settings steady (parameters_with 5) client_id server_id 0 0
         true (λ n. 63) few_started.client }
     ensures ids { few_started.client.ids
         ≡ first_ids client_id server_id 5 0 (words_behind 1 (λ n. 63)) }
@@ -82,7 +82,7 @@ pub fn peer_may_keep_fewer()
     ensures told { few_started.client.waiting.frames.new_cids
         ≡ issued 1 ∷ issued 2 ∷ issued 3 ∷ issued 4 ∷ [] }
     ensures size { (client_gives few_ended.client 0).answer
-        ≡ Ok (Some (record { size = 146; ecn = Some Ect0 })) }
+        ≡ Ok (Some (record { size = 146; ecn = Some Ect0; remote = 0 })) }
 {}
 
 /// The datagram shows the server's id, its number and its frame to the server, and nothing to
@@ -216,7 +216,7 @@ pub fn broken_rules_are_found()
     ensures other_end { at_server once_taken.server (from_client 1 (0x09 ∷ 0x00 ∷ 0x61 ∷ []))
         ≡ Closed (plain_error 6) }
     ensures beyond_count { at_server
-        (new_end Server no_two_way steady (parameters_of plain_settings) server_id client_id 0
+        (new_end Server no_two_way steady (parameters_of plain_settings) server_id client_id 0 0
         true (λ n. 63))
         hello_datagram ≡ Closed (plain_error 4) }
     ensures none { at_server server_made (from_client 0 (0x40 ∷ 0x00 ∷ 0x01 ∷ [])) ≡ Taken }
@@ -229,7 +229,7 @@ pub fn calls_are_bounded()
     ensures second_open { end_opens Bi once_opened.client ≡ Some 4 }
     ensures one_way { end_opens Uni once_opened.client ≡ Some 2 }
     ensures no_count { end_opens Bi
-        (new_end Client plain_settings steady (parameters_of no_two_way) client_id server_id 0
+        (new_end Client plain_settings steady (parameters_of no_two_way) client_id server_id 0 0
         true (λ n. 63))
         ≡ None }
     ensures server_open { end_opens Bi server_made ≡ Some 1 }
@@ -258,9 +258,9 @@ pub fn calls_are_bounded()
     ensures numbers_used { (client_gives (numbered_from (2 ^ 31 - 16) once_ended.client) 0).end.closing.reason
         ≡ Some NumberLimit }
     ensures no_number_left { (client_gives (numbered_from (2 ^ 31 - 16) once_ended.client) 0).answer
-        ≡ Ok (Some (record { size = 33; ecn = Some Ect0 })) }
+        ≡ Ok (Some (record { size = 33; ecn = Some Ect0; remote = 0 })) }
     ensures last_number { (client_gives (numbered_from (2 ^ 31 - 17) once_ended.client) 0).answer
-        ≡ Ok (Some (record { size = 233; ecn = Some Ect0 })) }
+        ≡ Ok (Some (record { size = 233; ecn = Some Ect0; remote = 0 })) }
     ensures bad_parameters { refusal_of plain_settings steady_window long_keys
         (parameters_at (0x04 ∷ 0x01 ∷ [])) client_id server_id ≡ Some Parameters }
     ensures short_id { refusal_of plain_settings steady_window long_keys
@@ -286,11 +286,11 @@ pub fn calls_are_bounded()
 /// greatest size that is looked at, or none is looked for (RFC 8899, section 5.3).
 pub fn sizes_are_probed()
     ensures probe { (client_gives (searching true) 0).answer
-        ≡ Ok (Some (record { size = 1326; ecn = Some Ect0 })) }
+        ≡ Ok (Some (record { size = 1326; ecn = Some Ect0; remote = 0 })) }
     ensures alone { (draft_at (searching true) 0).frames ≡ ping ∷ [] }
     ensures opened { open_probe (client_gives (searching true) 0).end.path.discovery ≡ Some 0 }
     ensures room { (client_gives (with_window (searching true) 1453) 0).answer
-        ≡ Ok (Some (record { size = 1326; ecn = Some Ect0 })) }
+        ≡ Ok (Some (record { size = 1326; ecn = Some Ect0; remote = 0 })) }
     ensures no_room { (client_gives (with_window (searching true) 1452) 0).answer ≡ Ok None }
     ensures not_validated { (client_gives (searching false) 0).answer ≡ Ok None }
     ensures not_looked_for { (client_gives (with_waiting client_made nothing_waits) 0).answer

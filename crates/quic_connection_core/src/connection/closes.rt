@@ -178,6 +178,7 @@ impl<H: HeaderKey + Drop, K: PacketKey + Drop, R: Rng + Drop, C: Controller> Con
         Ok(Some(Transmit {
             size,
             ecn: self.mark(),
+            remote: self.remote_address(),
         }))
     }
 

@@ -63,8 +63,8 @@ impl<H: HeaderKey + Drop, K: PacketKey + Drop, R: Rng + Drop, C: Controller> Con
     /// Drops a packet that didn't open. An open endpoint closes if the peer's key refused as many
     /// as it may.
     pub(crate) fn refuse_packet(&mut self, now: Instant) -> Received
-        ensures answer { result ≡ (unopened_in self.old.end.closing.state (is_last (K.refusal_limit self.old.keys.packet.remote) self.old.heard) (arriving now None (is_last (K.refusal_limit self.old.keys.packet.remote) self.old.heard)) self.old.end).answer }
-        ensures end { self.new ≡ with_end (hearing self.old (heard_answer result self.old.heard)) (unopened_in self.old.end.closing.state (is_last (K.refusal_limit self.old.keys.packet.remote) self.old.heard) (arriving now None (is_last (K.refusal_limit self.old.keys.packet.remote) self.old.heard)) self.old.end).end }
+        ensures answer { result ≡ (unopened_in self.old.end.closing.state (is_last (K.refusal_limit self.old.keys.packet.remote) self.old.heard) (arriving now 0 None (is_last (K.refusal_limit self.old.keys.packet.remote) self.old.heard)) self.old.end).answer }
+        ensures end { self.new ≡ with_end (hearing self.old (heard_answer result self.old.heard)) (unopened_in self.old.end.closing.state (is_last (K.refusal_limit self.old.keys.packet.remote) self.old.heard) (arriving now 0 None (is_last (K.refusal_limit self.old.keys.packet.remote) self.old.heard)) self.old.end).end }
     {
         self.count_failure();
         if !self.is_open() {

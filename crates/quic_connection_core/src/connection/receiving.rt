@@ -27,6 +27,7 @@ use quic_connection_parts::stream_frames::take_other;
 use quic_machine::{DropReason, Instant, Received, State};
 use quic_packet::crypto::{HeaderKey, NotOpened, PacketKey};
 use quic_packet::{HeaderError, Opened, open_packet};
+use quic_paths::Address;
 use quic_wire::frame::{Ack, Frame, InvalidFrame, Unpadded};
 use quic_wire_core::{ConnectionId, EcnCodepoint, Reason, TransportError};
 use rand_core::Rng;
@@ -37,8 +38,8 @@ impl<H: HeaderKey + Drop, K: PacketKey + Drop, R: Rng + Drop, C: Controller> Con
     R,
     C,
 > {
-    /// Takes a datagram that came at this time with this ECN codepoint, opening it in place (RFC
-    /// 9000, sections 5.2 and 12).
+    /// Takes a datagram that came at this time from this address with this ECN codepoint, opening
+    /// it in place (RFC 9000, sections 5.2 and 12).
     ///
     /// Its bytes count as received, whatever is made of it (section 8.1). It counts as a failure if
     /// its packet doesn't open: with the last that the peer's key may refuse, an open endpoint
@@ -62,44 +63,47 @@ impl<H: HeaderKey + Drop, K: PacketKey + Drop, R: Rng + Drop, C: Controller> Con
     pub fn receive(
         &mut self,
         now: Instant,
+        remote: Address,
         ecn: Option<EcnCodepoint>,
         datagram: &mut [u8],
     ) -> Received
-        ensures answer { result ≢ Received.Failed → result ≡ (received (policy_of H.protection K.aead K.seal_limit K.refusal_limit (words_of R.stream) self.old) self.old.end (arriving now ecn (is_last (K.refusal_limit self.old.keys.packet.remote) self.old.heard)) datagram.old).answer }
+        ensures answer { result ≢ Received.Failed → result ≡ (received (policy_of H.protection K.aead K.seal_limit K.refusal_limit (words_of R.stream) self.old) self.old.end (arriving now remote ecn (is_last (K.refusal_limit self.old.keys.packet.remote) self.old.heard)) datagram.old).answer }
         ensures end { result ≢ Received.Failed → self.new ≡ drawing self.new.random (telling C.steps (hearing self.old (heard_datagram datagram.old result self.old.heard))
-            (told_received (policy_of H.protection K.aead K.seal_limit K.refusal_limit (words_of R.stream) self.old) self.old.end now datagram.old)
-            (received (policy_of H.protection K.aead K.seal_limit K.refusal_limit (words_of R.stream) self.old) self.old.end (arriving now ecn (is_last (K.refusal_limit self.old.keys.packet.remote) self.old.heard)) datagram.old).end) }
+            (told_received (policy_of H.protection K.aead K.seal_limit K.refusal_limit (words_of R.stream) self.old) self.old.end (arriving now remote ecn false) datagram.old)
+            (received (policy_of H.protection K.aead K.seal_limit K.refusal_limit (words_of R.stream) self.old) self.old.end (arriving now remote ecn (is_last (K.refusal_limit self.old.keys.packet.remote) self.old.heard)) datagram.old).end) }
         ensures random { result ≢ Received.Failed → R.stream self.new.random ≡ after_words (words_drawn self.new.end - words_drawn self.old.end) (R.stream self.old.random) }
         ensures failed { result ≡ Received.Failed → HasFailed self.old self.new }
         ensures before { result ≡ Received.Failed → self.old.end.closing.state ≢ State.Failed }
         ensures stopped { result ≡ Received.Failed → self.new.end.timers ≡ no_timers }
-        ensures lacking { result ≡ Received.Failed → TakesFrames (received (policy_of H.protection K.aead K.seal_limit K.refusal_limit (words_of R.stream) self.old) self.old.end (arriving now ecn false) datagram.old).answer }
+        ensures lacking { result ≡ Received.Failed → TakesFrames (received (policy_of H.protection K.aead K.seal_limit K.refusal_limit (words_of R.stream) self.old) self.old.end (arriving now remote ecn false) datagram.old).answer }
     {
         let len = datagram.len();
         self.stats.udp_rx.on_datagram(len);
         self.path.on_datagram_received(len as u64);
-        let received = self.take_datagram(now, ecn, datagram);
+        let received = self.take_datagram(now, remote, ecn, datagram);
         self.count_drop(&received);
         received
     }
 
-    /// Takes a datagram that came at this time with this ECN codepoint, opening it in place.
+    /// Takes a datagram that came at this time from this address with this ECN codepoint, opening
+    /// it in place.
     #[tactic(auto, using(quic_connection_parts::proofs::Drawing::draws_same))]
     fn take_datagram(
         &mut self,
         now: Instant,
+        remote: Address,
         ecn: Option<EcnCodepoint>,
         datagram: &mut [u8],
     ) -> Received
-        ensures answer { result ≢ Received.Failed → result ≡ (received (policy_of H.protection K.aead K.seal_limit K.refusal_limit (words_of R.stream) self.old) self.old.end (arriving now ecn (is_last (K.refusal_limit self.old.keys.packet.remote) self.old.heard)) datagram.old).answer }
+        ensures answer { result ≢ Received.Failed → result ≡ (received (policy_of H.protection K.aead K.seal_limit K.refusal_limit (words_of R.stream) self.old) self.old.end (arriving now remote ecn (is_last (K.refusal_limit self.old.keys.packet.remote) self.old.heard)) datagram.old).answer }
         ensures end { result ≢ Received.Failed → self.new ≡ drawing self.new.random (telling C.steps (hearing self.old (heard_answer result self.old.heard))
-            (told_received (policy_of H.protection K.aead K.seal_limit K.refusal_limit (words_of R.stream) self.old) self.old.end now datagram.old)
-            (received (policy_of H.protection K.aead K.seal_limit K.refusal_limit (words_of R.stream) self.old) self.old.end (arriving now ecn (is_last (K.refusal_limit self.old.keys.packet.remote) self.old.heard)) datagram.old).end) }
+            (told_received (policy_of H.protection K.aead K.seal_limit K.refusal_limit (words_of R.stream) self.old) self.old.end (arriving now remote ecn false) datagram.old)
+            (received (policy_of H.protection K.aead K.seal_limit K.refusal_limit (words_of R.stream) self.old) self.old.end (arriving now remote ecn (is_last (K.refusal_limit self.old.keys.packet.remote) self.old.heard)) datagram.old).end) }
         ensures random { result ≢ Received.Failed → R.stream self.new.random ≡ after_words (words_drawn self.new.end - words_drawn self.old.end) (R.stream self.old.random) }
         ensures failed { result ≡ Received.Failed → HasFailed self.old self.new }
         ensures before { result ≡ Received.Failed → self.old.end.closing.state ≢ State.Failed }
         ensures stopped { result ≡ Received.Failed → self.new.end.timers ≡ no_timers }
-        ensures lacking { result ≡ Received.Failed → TakesFrames (received (policy_of H.protection K.aead K.seal_limit K.refusal_limit (words_of R.stream) self.old) self.old.end (arriving now ecn false) datagram.old).answer }
+        ensures lacking { result ≡ Received.Failed → TakesFrames (received (policy_of H.protection K.aead K.seal_limit K.refusal_limit (words_of R.stream) self.old) self.old.end (arriving now remote ecn false) datagram.old).answer }
     {
         match self.state() {
             State::Failed => return Received::Dropped(DropReason::Failed),
@@ -113,7 +117,7 @@ impl<H: HeaderKey + Drop, K: PacketKey + Drop, R: Rng + Drop, C: Controller> Con
             return self.refuse_packet(now);
         };
         let payload = &datagram[opened.start..opened.end];
-        let received = self.take_opened(now, ecn, &opened, payload);
+        let received = self.take_opened(now, remote, ecn, &opened, payload);
         if !is_read(&received) {
             return received;
         }
@@ -129,12 +133,12 @@ impl<H: HeaderKey + Drop, K: PacketKey + Drop, R: Rng + Drop, C: Controller> Con
         self.ids.decode(datagram)
     }
 
-    /// Whether a datagram would open here, whatever the state of the endpoint, and also if it came
-    /// before: it has a short header with an own ID, its packet opens under its number, and its key
-    /// phase is 0. It is opened in place, so `scratch` is a copy of it, whose bytes may be changed;
-    /// the endpoint stays as it is.
-    pub fn would_open(&self, scratch: &mut [u8]) -> bool
-        ensures { result ≡ would_open (policy_of H.protection K.aead K.seal_limit K.refusal_limit (words_of R.stream) self.now) self.now.end scratch.old }
+    /// Whether a datagram from this address would open here, whatever the state of the endpoint,
+    /// and also if it came before: it has a short header with an own ID, its packet opens under its
+    /// number, and its key phase is 0. It is opened in place, so `scratch` is a copy of it, whose
+    /// bytes may be changed; the endpoint stays as it is.
+    pub fn would_open(&self, remote: Address, scratch: &mut [u8]) -> bool
+        ensures { result ≡ would_open (policy_of H.protection K.aead K.seal_limit K.refusal_limit (words_of R.stream) self.now) self.now.end remote scratch.old }
     {
         if self.destination_of(scratch).is_err() {
             return false;
@@ -169,16 +173,17 @@ impl<H: HeaderKey + Drop, K: PacketKey + Drop, R: Rng + Drop, C: Controller> Con
     fn take_opened(
         &mut self,
         now: Instant,
+        remote: Address,
         ecn: Option<EcnCodepoint>,
         opened: &Opened,
         payload: &[u8],
     ) -> Received
         requires { opened.now.number < 2 ^ 62 }
-        ensures answer { result ≢ Received.Failed → result ≡ (opened_to (record { first = opened.now.first; number = opened.now.number; payload = payload.now }) (arriving now ecn false) self.old.end).answer }
-        ensures end { result ≢ Received.Failed → self.new ≡ telling C.steps self.old (told_opened (record { first = opened.now.first; number = opened.now.number; payload = payload.now }) now self.old.end) (opened_to (record { first = opened.now.first; number = opened.now.number; payload = payload.now }) (arriving now ecn false) self.old.end).end }
+        ensures answer { result ≢ Received.Failed → result ≡ (opened_to (record { first = opened.now.first; number = opened.now.number; payload = payload.now }) (arriving now remote ecn false) self.old.end).answer }
+        ensures end { result ≢ Received.Failed → self.new ≡ telling C.steps self.old (told_opened (record { first = opened.now.first; number = opened.now.number; payload = payload.now }) (arriving now remote ecn false) self.old.end) (opened_to (record { first = opened.now.first; number = opened.now.number; payload = payload.now }) (arriving now remote ecn false) self.old.end).end }
         ensures failed { result ≡ Received.Failed → HasFailed self.old self.new }
         ensures stopped { result ≡ Received.Failed → self.new.end.timers ≡ no_timers }
-        ensures lacking { result ≡ Received.Failed → TakesFrames (opened_to (record { first = opened.now.first; number = opened.now.number; payload = payload.now }) (arriving now ecn false) self.old.end).answer }
+        ensures lacking { result ≡ Received.Failed → TakesFrames (opened_to (record { first = opened.now.first; number = opened.now.number; payload = payload.now }) (arriving now remote ecn false) self.old.end).answer }
     {
         if opened.key_phase() {
             return Received::Dropped(DropReason::KeyPhase);
@@ -187,7 +192,7 @@ impl<H: HeaderKey + Drop, K: PacketKey + Drop, R: Rng + Drop, C: Controller> Con
             return Received::Dropped(DropReason::Duplicate);
         }
         match self.state() {
-            State::Open => self.process(now, ecn, opened, payload),
+            State::Open => self.process(now, remote, ecn, opened, payload),
             State::Closing => {
                 self.closing.ask();
                 Received::Dropped(DropReason::Closing)
@@ -201,16 +206,17 @@ impl<H: HeaderKey + Drop, K: PacketKey + Drop, R: Rng + Drop, C: Controller> Con
     fn process(
         &mut self,
         now: Instant,
+        remote: Address,
         ecn: Option<EcnCodepoint>,
         opened: &Opened,
         payload: &[u8],
     ) -> Received
         requires { opened.now.number < 2 ^ 62 }
-        ensures answer { result ≢ Received.Failed → result ≡ (processed (record { first = opened.now.first; number = opened.now.number; payload = payload.now }) (arriving now ecn false) self.old.end).answer }
-        ensures end { result ≢ Received.Failed → self.new ≡ telling C.steps self.old (told_processed (record { first = opened.now.first; number = opened.now.number; payload = payload.now }) now self.old.end) (processed (record { first = opened.now.first; number = opened.now.number; payload = payload.now }) (arriving now ecn false) self.old.end).end }
+        ensures answer { result ≢ Received.Failed → result ≡ (processed (record { first = opened.now.first; number = opened.now.number; payload = payload.now }) (arriving now remote ecn false) self.old.end).answer }
+        ensures end { result ≢ Received.Failed → self.new ≡ telling C.steps self.old (told_processed (record { first = opened.now.first; number = opened.now.number; payload = payload.now }) (arriving now remote ecn false) self.old.end) (processed (record { first = opened.now.first; number = opened.now.number; payload = payload.now }) (arriving now remote ecn false) self.old.end).end }
         ensures failed { result ≡ Received.Failed → HasFailed self.old self.new }
         ensures stopped { result ≡ Received.Failed → self.new.end.timers ≡ no_timers }
-        ensures lacking { result ≡ Received.Failed → TakesFrames (processed (record { first = opened.now.first; number = opened.now.number; payload = payload.now }) (arriving now ecn false) self.old.end).answer }
+        ensures lacking { result ≡ Received.Failed → TakesFrames (processed (record { first = opened.now.first; number = opened.now.number; payload = payload.now }) (arriving now remote ecn false) self.old.end).answer }
     {
         self.tick(now);
         match self.take_packet(ecn, opened, payload) {

@@ -118,18 +118,18 @@ first_size s limit range sizes takes within =
 made_lives : (e : End) (new : IsNew e) → IsInRange new.settings → new.settings.min_mtu ≤ most_payload → length new.peer_id ≤ 20 → Lives (transport_of new.settings) [] e
 made_lives e new range sizes short = go (parameters_at new.parameters) refl new.made
   where
-    first : (theirs : ParameterValues) → parameters_at new.parameters ≡ Ok theirs → e ≡ new_end new.side new.settings new.windows theirs new.own_id new.peer_id new.moment new.validated new.words → Lives (transport_of new.settings) [] e
+    first : (theirs : ParameterValues) → parameters_at new.parameters ≡ Ok theirs → e ≡ new_end new.side new.settings new.windows theirs new.own_id new.peer_id new.remote new.moment new.validated new.words → Lives (transport_of new.settings) [] e
     first theirs is made = record {
       knows = subst (Knows []) (sym made) (record { acks = acks_first; taken = λ k has. absurd has; expected = refl; owes = λ f owed. cc });
       sends = made_sendable e new;
-      kept = subst (KeptAt (transport_of new.settings)) (sym made) (kept_first new.settings new.side new.windows theirs new.own_id new.peer_id new.moment new.validated new.words);
+      kept = subst (KeptAt (transport_of new.settings)) (sym made) (kept_first new.settings new.side new.windows theirs new.own_id new.peer_id new.remote new.moment new.validated new.words);
       ids = subst (λ (x : End). AreShort x.ids.peer) (sym made) (record { used = short; later = λ c i. absurd i });
       size = (
           let most = read_in_range new.parameters theirs is MaxUdpPayloadSize in
           subst (λ (x : End). IsBounded 1200 most_payload x.path.discovery) (sym made) (first_size new.settings theirs.max_udp_payload_size range sizes most.0 most.1));
     }
 
-    go : (r : Result ParameterValues TransportParametersError) → parameters_at new.parameters ≡ r → IsMade new.side new.settings new.windows r new.own_id new.peer_id new.moment new.validated new.words e → Lives (transport_of new.settings) [] e
+    go : (r : Result ParameterValues TransportParametersError) → parameters_at new.parameters ≡ r → IsMade new.side new.settings new.windows r new.own_id new.peer_id new.remote new.moment new.validated new.words e → Lives (transport_of new.settings) [] e
     go (Ok theirs) is made = first theirs is made
     go (Err error) is made = absurd made
 

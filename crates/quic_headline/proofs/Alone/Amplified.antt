@@ -86,10 +86,10 @@ module _ (t : TransportSettings) where
   roomy e least k = record { id = k.ids.used; size = k.size.size; least = subst (λ (s : TransportSettings). 1200 ≤ s.min_mtu) (sym k.kept.same) least; few = k.kept.numbers.few }
 
 -- at the start, where the peer takes 1200 bytes
-keeps_first : (s : Settings) (range : IsInRange s) (side : Side) (windows : Windows) (theirs : ParameterValues) (own_id peer_id : List ℕ) (now : ℕ) (validated : Bool) (words : ℕ → ℕ) → length peer_id ≤ 20 → 1200 ≤ theirs.max_udp_payload_size
-    → Keeps (transport_of s) (new_end side s windows theirs own_id peer_id now validated words)
-keeps_first s range side windows theirs own_id peer_id now validated words short takes = record {
-  kept = kept_first s side windows theirs own_id peer_id now validated words;
+keeps_first : (s : Settings) (range : IsInRange s) (side : Side) (windows : Windows) (theirs : ParameterValues) (own_id peer_id : List ℕ) (remote now : ℕ) (validated : Bool) (words : ℕ → ℕ) → length peer_id ≤ 20 → 1200 ≤ theirs.max_udp_payload_size
+    → Keeps (transport_of s) (new_end side s windows theirs own_id peer_id remote now validated words)
+keeps_first s range side windows theirs own_id peer_id remote now validated words short takes = record {
+  kept = kept_first s side windows theirs own_id peer_id remote now validated words;
   ids = record { used = short; later = λ c i. absurd i };
   size = (
       let initial = range.bounds.initial in
@@ -97,7 +97,7 @@ keeps_first s range side windows theirs own_id peer_id now validated words short
   owes = owes validated;
 }
   where
-    owes : (b : Bool) → OwesShort (new_end side s windows theirs own_id peer_id now b words)
+    owes : (b : Bool) → OwesShort (new_end side s windows theirs own_id peer_id remote now b words)
     owes true f is = cc
     owes false f is = cc
 
@@ -105,8 +105,8 @@ keeps_first s range side windows theirs own_id peer_id now validated words short
 made_keeps : (e : End) (new : IsNew e) → IsInRange new.settings → length new.peer_id ≤ 20 → Keeps (transport_of new.settings) e
 made_keeps e new range short = go (parameters_at new.parameters) refl new.made
   where
-    go : (r : Result ParameterValues TransportParametersError) → parameters_at new.parameters ≡ r → IsMade new.side new.settings new.windows r new.own_id new.peer_id new.moment new.validated new.words e → Keeps (transport_of new.settings) e
-    go (Ok theirs) is made = subst (Keeps (transport_of new.settings)) (sym made) (keeps_first new.settings range new.side new.windows theirs new.own_id new.peer_id new.moment new.validated new.words short (read_in_range new.parameters theirs is MaxUdpPayloadSize).0)
+    go : (r : Result ParameterValues TransportParametersError) → parameters_at new.parameters ≡ r → IsMade new.side new.settings new.windows r new.own_id new.peer_id new.remote new.moment new.validated new.words e → Keeps (transport_of new.settings) e
+    go (Ok theirs) is made = subst (Keeps (transport_of new.settings)) (sym made) (keeps_first new.settings range new.side new.windows theirs new.own_id new.peer_id new.remote new.moment new.validated new.words short (read_in_range new.parameters theirs is MaxUdpPayloadSize).0)
     go (Err error) is made = absurd made
 
 -- ---- a poll

@@ -27,9 +27,9 @@ use Rattle.quic_headline.proofs.Alone.Places.{made_holds, AtCall, at_call}
 -- ---- at the start
 
 -- what holds of each end as it is made holds of a new one
-pub new_holds : (P : End → Type 0) (e : End) → ((side : Side) (settings : Settings) (windows : Windows) (theirs : ParameterValues) (own_id peer_id : List ℕ) (now : ℕ) (validated : Bool) (words : ℕ → ℕ) → P (new_end side settings windows theirs own_id peer_id now validated words))
+pub new_holds : (P : End → Type 0) (e : End) → ((side : Side) (settings : Settings) (windows : Windows) (theirs : ParameterValues) (own_id peer_id : List ℕ) (remote now : ℕ) (validated : Bool) (words : ℕ → ℕ) → P (new_end side settings windows theirs own_id peer_id remote now validated words))
     → IsNew e → P e
-new_holds P e all new = made_holds P e new (λ theirs. all new.side new.settings new.windows theirs new.own_id new.peer_id new.moment new.validated new.words)
+new_holds P e all new = made_holds P e new (λ theirs. all new.side new.settings new.windows theirs new.own_id new.peer_id new.remote new.moment new.validated new.words)
 
 -- ---- a frame
 
@@ -70,5 +70,5 @@ bytes_come p theirs x left cs told new f i id k byte call a chunk served at_plac
     let here : AtCall p theirs (λ (e : End). HoldsCame came e.streams) call a = at_call p theirs (λ d. In d ds) (λ (e : End). HoldsCame came e.streams) (λ window blocked e h. h)
     (λ e c b is hands h. call_came came p e theirs h (λ d. In d ds) (λ d handed g stands. frame_brings p ds e d handed g stands) c b is hands)
     i x left cs told call a f served at_place at_answer (λ d among. among)
-    (new_holds (λ (e : End). HoldsCame came e.streams) x.end (λ side settings windows theirs own_id peer_id now validated words. (came_first came side settings.max_uni settings.max_bidi settings.send_window settings.receive_window settings.stream_receive_window theirs)) new) in
+    (new_holds (λ (e : End). HoldsCame came e.streams) x.end (λ side settings windows theirs own_id peer_id remote now validated words. (came_first came side settings.max_uni settings.max_bidi settings.send_window settings.receive_window settings.stream_receive_window theirs)) new) in
     call_gives came p here.end theirs id call a here.answer here.holds chunk among k byte at

@@ -283,5 +283,5 @@ module _ (settings : TransportSettings) where
 
 -- ---- at the start
 
-pub kept_first : (settings : Settings) (side : Side) (windows : Windows) (theirs : ParameterValues) (own_id peer_id : List ℕ) (now : ℕ) (validated : Bool) (words : ℕ → ℕ) → KeptAt (transport_of settings) (new_end side settings windows theirs own_id peer_id now validated words)
-kept_first settings side windows theirs own_id peer_id now validated words = record { same = refl; messages = none_wait settings.datagram_receive_buffer_size; numbers = record { runs = tt; few = omega arith }; ids = tt }
+pub kept_first : (settings : Settings) (side : Side) (windows : Windows) (theirs : ParameterValues) (own_id peer_id : List ℕ) (remote now : ℕ) (validated : Bool) (words : ℕ → ℕ) → KeptAt (transport_of settings) (new_end side settings windows theirs own_id peer_id remote now validated words)
+kept_first settings side windows theirs own_id peer_id remote now validated words = record { same = refl; messages = none_wait settings.datagram_receive_buffer_size; numbers = record { runs = tt; few = omega arith }; ids = tt }

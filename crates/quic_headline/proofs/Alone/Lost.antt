@@ -151,7 +151,7 @@ call_over p e theirs calls.UseNextId a i = by_next_id (λ (x : End). IsOver x.cl
 call_over p e theirs (calls.Poll now) a i = polled_over e i e.closing.state refl p now
 call_over p e theirs (calls.Timeout now) a i = timed_over e i e.closing.state refl p now
 call_over p e theirs (calls.Deliver delivery) a i = delivered_over e i (slice_get theirs delivery.index) p (delivered_by (says_last a) delivery)
-call_over p e theirs (calls.Inject injection) a i = go (would_open p e injection.bytes)
+call_over p e theirs (calls.Inject injection) a i = go (would_open p e injection.remote injection.bytes)
   where
     go : (b : Bool) → IsOver (after_injected_if b (says_last a) p e injection).closing
     go true = i

@@ -148,5 +148,5 @@ messages_come p theirs x left cs told new f i message served at_place at_answer 
     let here : AtCall p theirs (λ (e : End). HaveCome came e.messages.queues) calls.Recv (answers.Recv (Some message)) = at_call p theirs (λ d. In d ds) (λ (e : End). HaveCome came e.messages.queues) (λ window blocked e h. h)
     (λ e c b is hands h. call_came came p e theirs h (λ d. In d ds) (λ d handed m stands. frame_brings p ds e d handed m stands) c b hands)
     i x left cs told calls.Recv (answers.Recv (Some message)) f served at_place at_answer (λ d among. among)
-    (new_holds (λ (e : End). HaveCome came e.messages.queues) x.end (λ side settings windows theirs own_id peer_id now validated words m among. absurd among) new) in
+    (new_holds (λ (e : End). HaveCome came e.messages.queues) x.end (λ side settings windows theirs own_id peer_id remote now validated words m among. absurd among) new) in
     here.holds message (oldest_in here.end.messages.queues.incoming message (answered message (oldest here.end.messages.queues.incoming) here.answer))

@@ -21,10 +21,10 @@ use Rattle.quic_headline.specs.Alone.{Lone, IsLoneStep, IsNew, FollowsAlone, han
 -- ---- at the start
 
 -- what holds of an end made so, whatever its peer's parameters say, holds of it
-pub made_holds : (P : End → Type 0) (e : End) (new : IsNew e) → ((theirs : ParameterValues) → P (new_end new.side new.settings new.windows theirs new.own_id new.peer_id new.moment new.validated new.words)) → P e
+pub made_holds : (P : End → Type 0) (e : End) (new : IsNew e) → ((theirs : ParameterValues) → P (new_end new.side new.settings new.windows theirs new.own_id new.peer_id new.remote new.moment new.validated new.words)) → P e
 made_holds P e new all = go (parameters_at new.parameters) new.made
   where
-    go : {E : Type 0} (r : Result ParameterValues E) → IsMade new.side new.settings new.windows r new.own_id new.peer_id new.moment new.validated new.words e → P e
+    go : {E : Type 0} (r : Result ParameterValues E) → IsMade new.side new.settings new.windows r new.own_id new.peer_id new.remote new.moment new.validated new.words e → P e
     go (Ok theirs) made = subst P (sym made) (all theirs)
     go (Err error) made = absurd made
 

@@ -213,9 +213,9 @@ module _ (parameters : List ℕ) (theirs : ParameterValues) (says : parameters_a
       let local = (read_in_range parameters theirs says InitialMaxStreamDataBidiLocal).1 in
       record { own_bi = omega arith; own_uni = omega arith; remote = omega arith }
 
-  first_sendable : (side : Side) (settings : Settings) (windows : Windows) (own_id peer_id : List ℕ) (now : ℕ) (validated : Bool) (words : ℕ → ℕ) → Sendable (new_end side settings windows theirs own_id peer_id now validated words)
-  first_sendable side settings windows own_id peer_id now validated words =
-      let first = first_holds side settings windows theirs own_id peer_id now validated words in
+  first_sendable : (side : Side) (settings : Settings) (windows : Windows) (own_id peer_id : List ℕ) (remote now : ℕ) (validated : Bool) (words : ℕ → ℕ) → Sendable (new_end side settings windows theirs own_id peer_id remote now validated words)
+  first_sendable side settings windows own_id peer_id remote now validated words =
+      let first = first_holds side settings windows theirs own_id peer_id remote now validated words in
       record {
         done = λ id. nothing_done;
         sents = [];
@@ -233,6 +233,6 @@ module _ (parameters : List ℕ) (theirs : ParameterValues) (says : parameters_a
 pub made_sendable : (e : End) → IsNew e → Sendable e
 made_sendable e new = go (parameters_at new.parameters) refl new.made
   where
-    go : (r : Result ParameterValues TransportParametersError) → parameters_at new.parameters ≡ r → IsMade new.side new.settings new.windows r new.own_id new.peer_id new.moment new.validated new.words e → Sendable e
-    go (Ok theirs) is made = subst Sendable (sym made) (first_sendable new.parameters theirs is new.side new.settings new.windows new.own_id new.peer_id new.moment new.validated new.words)
+    go : (r : Result ParameterValues TransportParametersError) → parameters_at new.parameters ≡ r → IsMade new.side new.settings new.windows r new.own_id new.peer_id new.remote new.moment new.validated new.words e → Sendable e
+    go (Ok theirs) is made = subst Sendable (sym made) (first_sendable new.parameters theirs is new.side new.settings new.windows new.own_id new.peer_id new.remote new.moment new.validated new.words)
     go (Err error) is made = absurd made

@@ -346,16 +346,16 @@ module _ (p : Policy) (theirs : List (List ℕ)) (e : End) (injection : Injectio
   hidden_headed (Err error) arrival d hidden = stays refl refl
   hidden_headed (Ok id) arrival d hidden = hidden_packet (opening p e d) arrival hidden
 
-  hidden_received : (s : State) (arrival : Arrival) (d : List ℕ) → would_open p e d ≡ false → Enters (received_in s p e arrival d)
+  hidden_received : (s : State) (arrival : Arrival) (d : List ℕ) → would_open p e arrival.remote d ≡ false → Enters (received_in s p e arrival d)
   hidden_received states.Failed arrival d hidden = stays refl refl
   hidden_received states.Drained arrival d hidden = stays refl refl
   hidden_received states.Open arrival d hidden = hidden_headed (decoded (fixed_length_id own_id_length) (known e.ids) d) arrival d hidden
   hidden_received states.Closing arrival d hidden = hidden_headed (decoded (fixed_length_id own_id_length) (known e.ids) d) arrival d hidden
 
-  injected_shuts : (is_last : Bool) → Shut p theirs e (calls.Inject injection) (injected_if (would_open p e injection.bytes) is_last p e injection) (after_injected_if (would_open p e injection.bytes) is_last p e injection).closing
-  injected_shuts is_last = go (would_open p e injection.bytes) refl
+  injected_shuts : (is_last : Bool) → Shut p theirs e (calls.Inject injection) (injected_if (would_open p e injection.remote injection.bytes) is_last p e injection) (after_injected_if (would_open p e injection.remote injection.bytes) is_last p e injection).closing
+  injected_shuts is_last = go (would_open p e injection.remote injection.bytes) refl
     where
-      go : (b : Bool) → would_open p e injection.bytes ≡ b → Shut p theirs e (calls.Inject injection) (injected_if b is_last p e injection) (after_injected_if b is_last p e injection).closing
+      go : (b : Bool) → would_open p e injection.remote injection.bytes ≡ b → Shut p theirs e (calls.Inject injection) (injected_if b is_last p e injection) (after_injected_if b is_last p e injection).closing
       go true is = stays refl refl
       go false is = hidden_received e.closing.state (injected_by is_last injection) injection.bytes is
 
@@ -376,7 +376,7 @@ call_shuts p theirs e (calls.Poll now) a is served = subst (λ (b : Answer). Shu
 call_shuts p theirs e (calls.Timeout now) a is served = subst (λ (b : Answer). Shut p theirs e (calls.Timeout now) b (timed_out p e now).end.closing) (sym (timeout_answer p e now a is served)) (timed_shuts p theirs e now)
 call_shuts p theirs e (calls.Deliver delivery) a is served = delivered_shuts p theirs e delivery (slice_get theirs delivery.index) refl a is served
 call_shuts p theirs e (calls.Inject injection) a is served =
-    subst (λ (b : Answer). Shut p theirs e (calls.Inject injection) b (after_injected_if (would_open p e injection.bytes) (says_last a) p e injection).closing) (sym is) (injected_shuts p theirs e injection (says_last a))
+    subst (λ (b : Answer). Shut p theirs e (calls.Inject injection) b (after_injected_if (would_open p e injection.remote injection.bytes) (says_last a) p e injection).closing) (sym is) (injected_shuts p theirs e injection (says_last a))
 call_shuts p theirs e (calls.Close close) a is served = close_shuts p theirs e close a
 call_shuts p theirs e calls.UseNextId a is served = by_next_id (λ (x : End). Shut p theirs e calls.UseNextId a x.closing) e a (stays refl refl) (λ c. stays refl refl) (λ c most. stays refl refl)
 call_shuts p theirs e calls.Event a is served = by_event e (λ (x : End). Shut p theirs e calls.Event a x.closing) (stays refl refl) (λ told. stays refl refl)

@@ -162,7 +162,7 @@ only_deliveries_ask p e theirs calls.Ping a other is = ap asks_again is
 only_deliveries_ask p e theirs (calls.Poll now) a other is = either_asks a _ _ refl refl is
 only_deliveries_ask p e theirs (calls.Timeout now) a other is = either_asks a _ _ refl refl is
 only_deliveries_ask p e theirs (calls.Deliver delivery) a other is = cc
-only_deliveries_ask p e theirs (calls.Inject injection) a other is = ap asks_again is ∙ injected_asks (would_open p e injection.bytes) (says_last a) p e injection
+only_deliveries_ask p e theirs (calls.Inject injection) a other is = ap asks_again is ∙ injected_asks (would_open p e injection.remote injection.bytes) (says_last a) p e injection
 only_deliveries_ask p e theirs calls.Event a other is = ap asks_again is
 only_deliveries_ask p e theirs (calls.Timer timer) a other is = ap asks_again is
 only_deliveries_ask p e theirs calls.NextTimeout a other is = ap asks_again is
@@ -333,16 +333,16 @@ module _ (e : End) (call : Call) (a : Answer) (none : gave a ≡ false) (asks : 
   hidden_headed (Err error) p arrival d hidden = as_is
   hidden_headed (Ok id) p arrival d hidden = hidden_packet (opening p e d) p arrival hidden
 
-  hidden_received : (s : State) (p : Policy) (arrival : Arrival) (d : List ℕ) → would_open p e d ≡ false → Left (received_in s p e arrival d).end
+  hidden_received : (s : State) (p : Policy) (arrival : Arrival) (d : List ℕ) → would_open p e arrival.remote d ≡ false → Left (received_in s p e arrival d).end
   hidden_received states.Failed p arrival d hidden = as_is
   hidden_received states.Drained p arrival d hidden = as_is
   hidden_received states.Open p arrival d hidden = hidden_headed (decoded (fixed_length_id own_id_length) (known e.ids) d) p arrival d hidden
   hidden_received states.Closing p arrival d hidden = hidden_headed (decoded (fixed_length_id own_id_length) (known e.ids) d) p arrival d hidden
 
-  injected_turns : (p : Policy) (is_last : Bool) (injection : Injection) → Left (after_injected_if (would_open p e injection.bytes) is_last p e injection)
-  injected_turns p is_last injection = go (would_open p e injection.bytes) refl
+  injected_turns : (p : Policy) (is_last : Bool) (injection : Injection) → Left (after_injected_if (would_open p e injection.remote injection.bytes) is_last p e injection)
+  injected_turns p is_last injection = go (would_open p e injection.remote injection.bytes) refl
     where
-      go : (b : Bool) → would_open p e injection.bytes ≡ b → Left (after_injected_if b is_last p e injection)
+      go : (b : Bool) → would_open p e injection.remote injection.bytes ≡ b → Left (after_injected_if b is_last p e injection)
       go true is = as_is
       go false is = hidden_received e.closing.state p (injected_by is_last injection) injection.bytes is
 

@@ -215,7 +215,7 @@ call_why p e theirs calls.UseNextId a why = by_next_id (HasCause p e calls.UseNe
 call_why p e theirs (calls.Poll now) a why = polled_why p e (calls.Poll now) a why now
 call_why p e theirs (calls.Timeout now) a why = timed_why p e (calls.Timeout now) a why now refl e.closing.state refl
 call_why p e theirs (calls.Deliver delivery) a why = delivered_why p e (calls.Deliver delivery) a why (slice_get theirs delivery.index) p (delivered_by (says_last a) delivery) refl
-call_why p e theirs (calls.Inject injection) a why = go (would_open p e injection.bytes)
+call_why p e theirs (calls.Inject injection) a why = go (would_open p e injection.remote injection.bytes)
   where
     go : (b : Bool) → (after_injected_if b (says_last a) p e injection).closing.reason ≡ Some why → Cause p e (calls.Inject injection) a why
     go true is = was is

@@ -54,10 +54,10 @@ pub ready_probes : (x y : Party) → PacketsHold x y → Ready x y → (now : �
 ready_probes x y packets ready now = waits_of (ready_at x.end now).end (ready_holds x.end now packets.ascends ready.all)
 
 -- it is so at the start, whatever the peer told
-pub first_holds : (side : Side) (settings : Settings) (windows : Windows) (theirs : ParameterValues) (own_id peer_id : List ℕ) (now : ℕ) (validated : Bool) (words : ℕ → ℕ)
-    → (let x : End = new_end side settings windows theirs own_id peer_id now validated words in HoldsAll x × AreWritten x.ids.peer)
-first_holds side settings windows theirs own_id peer_id now validated words = (
-  again_all (silent_end side settings windows theirs own_id peer_id now validated words) (new_end side settings windows theirs own_id peer_id now validated words) refl refl refl (record {
+pub first_holds : (side : Side) (settings : Settings) (windows : Windows) (theirs : ParameterValues) (own_id peer_id : List ℕ) (remote now : ℕ) (validated : Bool) (words : ℕ → ℕ)
+    → (let x : End = new_end side settings windows theirs own_id peer_id remote now validated words in HoldsAll x × AreWritten x.ids.peer)
+first_holds side settings windows theirs own_id peer_id remote now validated words = (
+  again_all (silent_end side settings windows theirs own_id peer_id remote now validated words) (new_end side settings windows theirs own_id peer_id remote now validated words) refl refl refl (record {
     holds = record {
       pile = record { once = λ id. omega arith; reset = λ r i. absurd i; small = λ s i. absurd i };
       others = record { ids = first_told (words_behind 1 words) theirs.active_connection_id_limit; retired = λ n i. absurd i };
@@ -68,7 +68,7 @@ first_holds side settings windows theirs own_id peer_id now validated words = (
 )
 
 first_ready : (x y : Beginning) → HoldsAll (new_as x y) × AreWritten (new_as x y).ids.peer
-first_ready x y = first_holds x.side x.making.settings x.making.windows (parameters_of y.making.settings) x.making.id y.making.id x.making.moment x.making.validated x.making.words
+first_ready x y = first_holds x.side x.making.settings x.making.windows (parameters_of y.making.settings) x.making.id y.making.id x.making.remote x.making.moment x.making.validated x.making.words
 
 -- each call keeps it
 calls_ready : (x y : Party) (call : Call) (a : Answer) → Calls (And PacketsHold WritesHold) x y call a → Ready x y → HoldsAll (called x y.given call a).end × AreWritten (called x y.given call a).end.ids.peer

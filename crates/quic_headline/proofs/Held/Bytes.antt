@@ -118,7 +118,7 @@ module _ (p : Policy) (e : End) (theirs rest final : List (List ℕ)) (front : t
       | inl none ↦ subst (Counts (calls.Deliver delivery)) (sym none) none_received
       | inr came ↦ subst (Counts (calls.Deliver delivery)) (sym came.1) (delivered_counts delivery came.0 (subst (IsDelivered p e delivery (slice_get theirs delivery.index)) came.1 is))
     ]
-    call_received (calls.Inject injection) a is = subst (Counts (calls.Inject injection)) (sym is) (injected_counts injection (would_open p e injection.bytes) (says_last a))
+    call_received (calls.Inject injection) a is = subst (Counts (calls.Inject injection)) (sym is) (injected_counts injection (would_open p e injection.remote injection.bytes) (says_last a))
     call_received (calls.Poll now) a (inl is) = subst (Counts (calls.Poll now)) (sym is) (polled_counts now (polled p e now).answer)
     call_received (calls.Poll now) a (inr is) = subst (Counts (calls.Poll now)) (sym is) (polled_counts now (Err (record {})))
     call_received call a is = none_received
@@ -161,7 +161,7 @@ module _ (p : Policy) (e : End) (theirs rest final : List (List ℕ)) (front : t
       | inl none ↦ subst (Gives (calls.Deliver delivery)) (sym none) (none_given h.sent refl)
       | inr came ↦ subst (Gives (calls.Deliver delivery)) (sym came.1) (none_given (heard_delivery (slice_get theirs delivery.index) came.0 h).sent (delivered_given delivery (slice_get theirs delivery.index) came.0))
     ]
-    call_sent (calls.Inject injection) a is served = subst (Gives (calls.Inject injection)) (sym is) (injected_given injection (would_open p e injection.bytes) (says_last a))
+    call_sent (calls.Inject injection) a is served = subst (Gives (calls.Inject injection)) (sym is) (injected_given injection (would_open p e injection.remote injection.bytes) (says_last a))
     call_sent (calls.Poll now) a is served =
         subst (Gives (calls.Poll now)) (sym (poll_answer p e now a is served))
         (subst (λ (ds : List (List ℕ)). (heard_by theirs (calls.Poll now) (answers.Poll (polled p e now).answer) h).sent ≡ saturated (sum + sum_by length ds)) (sym (gives_as p e now (polled p e now).answer)) (polled_goes now))

@@ -78,7 +78,7 @@ record GivesSo (e : End) (q : Polled) (t : Transmit) : Type 0 where
 
 said_size : (d : List ℕ) (x : End) (t : Transmit) → (gives_datagram d x).answer ≡ Ok (Some t) → sum_by length (d ∷ []) ≡ t.size
 said_size d x t is =
-    let same : record { size = length d; ecn = mark_of x.path.marking } ≡ t = cc in
+    let same : record { size = length d; ecn = mark_of x.path.marking; remote = x.path.remote } ≡ t = cc in
     let long : length d ≡ t.size = ap (λ (u : Transmit). u.size) same in
     let one = sum_by-cons length d [] in
     omega (arith, long, one)

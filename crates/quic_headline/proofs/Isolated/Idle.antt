@@ -84,14 +84,14 @@ state_drops states.Failed o arrival e reason reading is whole = cc
 
 -- a packet that opened is dropped for its key phase, or as a duplicate
 opened_idle : (o : Opening) (arrival : Arrival) (e : End) (reason : DropReason) → reads e.closing.state ≡ true → drops_whole reason ≡ true → (opened_to o arrival e).answer ≡ Dropped reason
-    → Untouched e (opened_to o arrival e).end (told_opened o arrival.now e)
+    → Untouched e (opened_to o arrival e).end (told_opened o arrival e)
 opened_idle o arrival e reason reading whole = go (key_phase o.first) (is_duplicate e.numbers.opened o.number)
   where
     noted : End
     noted = with_numbers e (number_opened e.numbers o.number)
 
     go : (phase again : Bool) → (if phase then dropped drops.KeyPhase e else (if again then dropped drops.Duplicate e else by_state e.closing.state o arrival noted)).answer ≡ Dropped reason
-        → Untouched e (if phase then dropped drops.KeyPhase e else (if again then dropped drops.Duplicate e else by_state e.closing.state o arrival noted)).end (if phase || again then [] else told_by_state e.closing.state o arrival.now noted)
+        → Untouched e (if phase then dropped drops.KeyPhase e else (if again then dropped drops.Duplicate e else by_state e.closing.state o arrival noted)).end (if phase || again then [] else told_by_state e.closing.state o arrival noted)
     go true again is = (refl, refl)
     go false true is = (refl, refl)
     go false false is = absurd (state_drops e.closing.state o arrival noted reason reading is whole)
@@ -109,25 +109,25 @@ drops_undrawn : (a : Received) (reason : DropReason) → a ≡ Dropped reason �
 drops_undrawn a reason is = ap is_read is
 
 packet_idle : (o : Option Opening) (p : Policy) (arrival : Arrival) (e : End) (reason : DropReason) → reads e.closing.state ≡ true → drops_whole reason ≡ true → (opened_as o p arrival e).answer ≡ Dropped reason
-    → Untouched e (opened_as o p arrival e).end (told_opened_as o arrival.now e)
+    → Untouched e (opened_as o p arrival e).end (told_opened_as o arrival e)
 packet_idle None p arrival e reason reading whole is = unopened_idle e.closing.state arrival.last arrival e reason is
 packet_idle (Some o) p arrival e reason reading whole is =
-    subst (λ (b : Bool). Untouched e (drawn_if b p (opened_to o arrival e).end) (told_opened o arrival.now e)) (sym (drops_undrawn (opened_to o arrival e).answer reason is)) (opened_idle o arrival e reason reading whole is)
+    subst (λ (b : Bool). Untouched e (drawn_if b p (opened_to o arrival e).end) (told_opened o arrival e)) (sym (drops_undrawn (opened_to o arrival e).answer reason is)) (opened_idle o arrival e reason reading whole is)
 
 headed_idle : (r : Result (List ℕ) HeaderError) (p : Policy) (e : End) (arrival : Arrival) (d : List ℕ) (reason : DropReason) → reads e.closing.state ≡ true → drops_whole reason ≡ true → (headed r p e arrival d).answer ≡ Dropped reason
-    → Untouched e (headed r p e arrival d).end (told_headed r p e arrival.now d)
+    → Untouched e (headed r p e arrival d).end (told_headed r p e arrival d)
 headed_idle (Err error) p e arrival d reason reading whole is = (refl, refl)
 headed_idle (Ok id) p e arrival d reason reading whole is = packet_idle (opening p e d) p arrival e reason reading whole is
 
 -- a datagram that is dropped whole leaves the end as it was
 pub received_idle : (p : Policy) (e : End) (arrival : Arrival) (d : List ℕ) (reason : DropReason) → drops_whole reason ≡ true → (received p e arrival d).answer ≡ Dropped reason
-    → Untouched e (received p e arrival d).end (told_received p e arrival.now d)
+    → Untouched e (received p e arrival d).end (told_received p e arrival d)
 received_idle p e arrival d reason whole = go e.closing.state refl
   where
     head : Result (List ℕ) HeaderError
     head = decoded (fixed_length_id own_id_length) (known e.ids) d
 
-    go : (state : State) → e.closing.state ≡ state → (received_in state p e arrival d).answer ≡ Dropped reason → Untouched e (received_in state p e arrival d).end (told_received_in state p e arrival.now d)
+    go : (state : State) → e.closing.state ≡ state → (received_in state p e arrival d).answer ≡ Dropped reason → Untouched e (received_in state p e arrival d).end (told_received_in state p e arrival d)
     go states.Failed here is = (refl, refl)
     go states.Drained here is = (refl, refl)
     go states.Open here is = headed_idle head p e arrival d reason (ap reads here) whole is
@@ -149,7 +149,7 @@ injected_serves false is_last p e injection = refl
 
 -- a delivery that is dropped whole
 delivered_idle : (o : Option (List ℕ)) (p : Policy) (e : End) (delivery : Delivery) (reason : DropReason) → drops_whole reason ≡ true → IsDelivered p e delivery o (answers.Deliver (Dropped reason))
-    → Untouched e (after_delivered p e (delivered_by false delivery) o) (told_delivered p e delivery.now o)
+    → Untouched e (after_delivered p e (delivered_by false delivery) o) (told_delivered p e (delivered_by false delivery) o)
 delivered_idle None p e delivery reason whole is = (refl, refl)
 delivered_idle (Some d) p e delivery reason whole (inl is) =
     let dropped : (received p e (delivered_by false delivery) d).answer ≡ Dropped reason = cc in
@@ -158,10 +158,10 @@ delivered_idle (Some d) p e delivery reason whole (inr is) = absurd cc
 
 idle_call : (p : Policy) (control : Control) (heard : Heard) (e : End) (theirs : List (List ℕ)) (call : Call) (a : Answer) → is_idle call a ≡ true → says_last a ≡ false → IsAnswer p (reads_window control heard call e) theirs call a → Idles p control heard e theirs call a
 idle_call p control heard e theirs (calls.Inject injection) a idle early is = record {
-  left = subst (λ (b : Bool). after_injected_if (would_open p e injection.bytes) b p e injection ≡ e) (sym early) (injected_stays p e injection);
+  left = subst (λ (b : Bool). after_injected_if (would_open p e injection.remote injection.bytes) b p e injection ≡ e) (sym early) (injected_stays p e injection);
   told = refl;
   given = refl;
-  served = ap fails is ∙ injected_serves (would_open p e injection.bytes) (says_last a) p e injection;
+  served = ap fails is ∙ injected_serves (would_open p e injection.remote injection.bytes) (says_last a) p e injection;
 }
 idle_call p control heard e theirs (calls.Deliver delivery) (answers.Deliver (Dropped reason)) idle early is =
     let untouched = delivered_idle (slice_get theirs delivery.index) p e delivery reason idle is in
@@ -361,7 +361,7 @@ idle_counts k w next event a client server idle early few step = go event.side e
         omega arith
 
     idle_serves : (call : Call) (b : Answer) → is_idle call b ≡ true → IsAnswer (policy_at event.side k) (reads_window (control_at event.side w) (heard_at event.side w) call (end_at event.side w)) (given_by (other_side event.side) w) call b → fails b ≡ false
-    idle_serves (calls.Inject injection) b is says = ap fails says ∙ injected_serves (would_open (policy_at event.side k) (end_at event.side w) injection.bytes) (says_last b) (policy_at event.side k) (end_at event.side w) injection
+    idle_serves (calls.Inject injection) b is says = ap fails says ∙ injected_serves (would_open (policy_at event.side k) (end_at event.side w) injection.remote injection.bytes) (says_last b) (policy_at event.side k) (end_at event.side w) injection
     idle_serves (calls.Deliver delivery) (answers.Deliver (Dropped reason)) is says = refl
     idle_serves call b is says = absurd cc
 

@@ -40,15 +40,15 @@ headed_stays : (r : Result (List ℕ) HeaderError) (p : Policy) (e : End) (arriv
 headed_stays (Err error) p e arrival d early none = refl
 headed_stays (Ok id) p e arrival d early none = packet_stays (opening p e d) p arrival e early none
 
-received_stays : (state : State) (p : Policy) (e : End) (arrival : Arrival) (d : List ℕ) → arrival.last ≡ false → would_open p e d ≡ false → (received_in state p e arrival d).end ≡ e
+received_stays : (state : State) (p : Policy) (e : End) (arrival : Arrival) (d : List ℕ) → arrival.last ≡ false → would_open p e arrival.remote d ≡ false → (received_in state p e arrival d).end ≡ e
 received_stays states.Failed p e arrival d early none = refl
 received_stays states.Drained p e arrival d early none = refl
 received_stays states.Open p e arrival d early none = headed_stays (decoded (fixed_length_id own_id_length) (known e.ids) d) p e arrival d early none
 received_stays states.Closing p e arrival d early none = headed_stays (decoded (fixed_length_id own_id_length) (known e.ids) d) p e arrival d early none
 
-pub injected_stays : (p : Policy) (e : End) (injection : Injection) → after_injected_if (would_open p e injection.bytes) false p e injection ≡ e
-injected_stays p e injection = go (would_open p e injection.bytes) refl
+pub injected_stays : (p : Policy) (e : End) (injection : Injection) → after_injected_if (would_open p e injection.remote injection.bytes) false p e injection ≡ e
+injected_stays p e injection = go (would_open p e injection.remote injection.bytes) refl
   where
-    go : (b : Bool) → would_open p e injection.bytes ≡ b → after_injected_if b false p e injection ≡ e
+    go : (b : Bool) → would_open p e injection.remote injection.bytes ≡ b → after_injected_if b false p e injection ≡ e
     go true is = refl
     go false is = received_stays e.closing.state p e (injected_by false injection) injection.bytes refl is

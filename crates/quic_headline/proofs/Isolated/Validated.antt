@@ -95,7 +95,7 @@ call_failed p e theirs calls.UseNextId a is = by_next_id HasFailed e a is (λ c.
 call_failed p e theirs (calls.Poll now) a is = subst (λ (s : State). HasFailed (polled_in s p e now).end) (sym is) is
 call_failed p e theirs (calls.Timeout now) a is = subst (λ (s : State). HasFailed (timed_out_in s p e now).end) (sym is) is
 call_failed p e theirs (calls.Deliver delivery) a is = delivered_failed (slice_get theirs delivery.index) p e (delivered_by (says_last a) delivery) is
-call_failed p e theirs (calls.Inject injection) a is = go (would_open p e injection.bytes)
+call_failed p e theirs (calls.Inject injection) a is = go (would_open p e injection.remote injection.bytes)
   where
     go : (b : Bool) → HasFailed (after_injected_if b (says_last a) p e injection)
     go true = is

@@ -86,7 +86,7 @@ module _ (s : State) (u : Using) where
   others_use p e theirs (calls.Poll now) a other is = either_uses a _ _ refl refl is
   others_use p e theirs (calls.Timeout now) a other is = either_uses a _ _ refl refl is
   others_use p e theirs (calls.Deliver delivery) a other is = delivery_uses p e delivery (slice_get theirs delivery.index) a is
-  others_use p e theirs (calls.Inject injection) a other is = subst Same (sym is) (injection_uses (would_open p e injection.bytes) (says_last a) p e injection)
+  others_use p e theirs (calls.Inject injection) a other is = subst Same (sym is) (injection_uses (would_open p e injection.remote injection.bytes) (says_last a) p e injection)
   others_use p e theirs calls.Event a other is = subst Same (sym is) refl
   others_use p e theirs (calls.Timer timer) a other is = subst Same (sym is) refl
   others_use p e theirs calls.NextTimeout a other is = subst Same (sym is) refl

@@ -96,7 +96,7 @@ has_room x y p =
 
 -- the datagrams of an end that is made have 1200 bytes at least, since its peer takes so many, and
 -- no more than a UDP payload has
-pub made_sized : (side : Side) (m other : Making) → IsMaking m → HasSize 1200 MAX_UDP_PAYLOAD (new_end side m.settings m.windows (parameters_of other.settings) m.id other.id m.moment m.validated m.words)
+pub made_sized : (side : Side) (m other : Making) → IsMaking m → HasSize 1200 MAX_UDP_PAYLOAD (new_end side m.settings m.windows (parameters_of other.settings) m.id other.id m.remote m.moment m.validated m.words)
 made_sized side m other made =
     let initial = made.range.bounds.initial in
     sized_first 1200 MAX_UDP_PAYLOAD (transport_of m.settings) (omega arith) made.range.bounds.least made.sizes made.range.search
@@ -272,8 +272,8 @@ module _ (B : Way) (spells : (x y : Party) → AreJoined x y → B x y → B y x
     first = λ x y m. record {
       gives = record { rising = tt; below = λ s i. absurd i; next = refl; behind = omega arith; left_out = tt; each = tt };
       tells = λ s f i. absurd i;
-      long = first_long_ids x.side x.making.settings x.making.windows (parameters_of y.making.settings) x.making.id y.making.id x.making.moment x.making.validated x.making.words m.joined.y_long;
-      owes = first_owes x.side x.making.settings x.making.windows (parameters_of y.making.settings) x.making.id y.making.id x.making.moment x.making.validated x.making.words;
+      long = first_long_ids x.side x.making.settings x.making.windows (parameters_of y.making.settings) x.making.id y.making.id x.making.remote x.making.moment x.making.validated x.making.words m.joined.y_long;
+      owes = first_owes x.side x.making.settings x.making.windows (parameters_of y.making.settings) x.making.id y.making.id x.making.remote x.making.moment x.making.validated x.making.words;
       due = λ f is. cc;
       alone = λ s i. absurd i;
       sized = made_sized x.side x.making y.making m.x_is;

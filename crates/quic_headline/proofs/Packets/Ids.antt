@@ -498,9 +498,9 @@ long_arrivals e now n frames i passed before = record {
 -- ---- the start
 
 -- those with which an end begins
-pub first_long_ids : (side : Side) (settings : Settings) (windows : Windows) (theirs : ParameterValues) (own_id peer_id : List ℕ) (now : ℕ) (validated : Bool) (words : ℕ → ℕ) → length peer_id ≡ own_id_length
-    → LongIds (new_end side settings windows theirs own_id peer_id now validated words)
-first_long_ids side settings windows theirs own_id peer_id now validated words long = record {
+pub first_long_ids : (side : Side) (settings : Settings) (windows : Windows) (theirs : ParameterValues) (own_id peer_id : List ℕ) (remote now : ℕ) (validated : Bool) (words : ℕ → ℕ) → length peer_id ≡ own_id_length
+    → LongIds (new_end side settings windows theirs own_id peer_id remote now validated words)
+first_long_ids side settings windows theirs own_id peer_id remote now validated words long = record {
   waits = record { tells = drawn_ids_long (words_behind 1 words) (later_numbers (most_ids theirs.active_connection_id_limit)); retires = λ n i. absurd i };
   peer = record { used = long; later = λ c i. absurd i };
 }

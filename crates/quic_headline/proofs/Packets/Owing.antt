@@ -84,9 +84,9 @@ pub error_owes : (reason : LostReason) (e : End) → Owes (closed_by reason e)
 error_owes reason e f is = let same : error_close reason ≡ f = cc in subst IsClose same tt
 
 -- one that is made owes nothing
-pub first_owes : (side : Side) (settings : Settings) (windows : Windows) (theirs : ParameterValues) (own_id peer_id : List ℕ) (now : ℕ) (validated : Bool) (words : ℕ → ℕ) → Owes (new_end side settings windows theirs own_id peer_id now validated words)
-first_owes side settings windows theirs own_id peer_id now true words f is = cc
-first_owes side settings windows theirs own_id peer_id now false words f is = cc
+pub first_owes : (side : Side) (settings : Settings) (windows : Windows) (theirs : ParameterValues) (own_id peer_id : List ℕ) (remote now : ℕ) (validated : Bool) (words : ℕ → ℕ) → Owes (new_end side settings windows theirs own_id peer_id remote now validated words)
+first_owes side settings windows theirs own_id peer_id remote now true words f is = cc
+first_owes side settings windows theirs own_id peer_id remote now false words f is = cc
 
 -- ---- any call
 

@@ -41,11 +41,11 @@ told_by_answer p e injection a true c last same is = (λ told. sym same, λ open
 told_by_answer p e injection a false c last same is = (λ told. cc, λ opened. cc)
 
 -- an end that expects this number answers by it
-opens_by : (p : Policy) (e : End) (injection : Injection) (a : Answer) (x : ℕ) → expected e.numbers ≡ x → a ≡ injected_if (would_open p e injection.bytes) (says_last a) p e injection
+opens_by : (p : Policy) (e : End) (injection : Injection) (a : Answer) (x : ℕ) → expected e.numbers ≡ x → a ≡ injected_if (would_open p e injection.remote injection.bytes) (says_last a) p e injection
     → (a ≡ answers.Opens) ↔ (is_some (opens p (known e.ids) x injection.bytes) ≡ true)
 opens_by p e injection a x expects is =
     let d : List ℕ = injection.bytes in
-    told_by_answer p e injection a (would_open p e d) (is_some (opens p (known e.ids) x d)) (says_last a) (ap (λ (n : ℕ). is_some (opens p (known e.ids) n d)) expects) is
+    told_by_answer p e injection a (would_open p e injection.remote d) (is_some (opens p (known e.ids) x d)) (says_last a) (ap (λ (n : ℕ). is_some (opens p (known e.ids) n d)) expects) is
 
 -- ---- what ACK frames name
 

@@ -178,7 +178,7 @@ pub record Beginning : Type 0 where
 
 -- the end as it is made, whose peer begins so
 abbrev pub new_as : Beginning → Beginning → End
-new_as x y = new_end x.side x.making.settings x.making.windows (parameters_of y.making.settings) x.making.id y.making.id x.making.moment x.making.validated x.making.words
+new_as x y = new_end x.side x.making.settings x.making.windows (parameters_of y.making.settings) x.making.id y.making.id x.making.remote x.making.moment x.making.validated x.making.words
 
 -- the end that begins so, whose peer begins so
 abbrev pub begun_as : Beginning → Beginning → Party

@@ -34,15 +34,15 @@ use Rattle.quic_headline.proofs.Places.Moments.{Grown, grown, Moment, moment, la
 -- ---- how an honest run begins
 
 -- what an end is made as
-made_is : {E : Type 0} (side : Side) (settings : Settings) (windows : Windows) (r : Result ParameterValues E) (theirs : ParameterValues) (own_id peer_id : List ℕ) (now : ℕ) (validated : Bool) (words : ℕ → ℕ) (e : End) → r ≡ Ok theirs → IsMade side settings windows r own_id peer_id now validated words e
-    → e ≡ new_end side settings windows theirs own_id peer_id now validated words
-made_is side settings windows r theirs own_id peer_id now validated words e is made = rw is at made
+made_is : {E : Type 0} (side : Side) (settings : Settings) (windows : Windows) (r : Result ParameterValues E) (theirs : ParameterValues) (own_id peer_id : List ℕ) (remote now : ℕ) (validated : Bool) (words : ℕ → ℕ) (e : End) → r ≡ Ok theirs → IsMade side settings windows r own_id peer_id remote now validated words e
+    → e ≡ new_end side settings windows theirs own_id peer_id remote now validated words
+made_is side settings windows r theirs own_id peer_id remote now validated words e is made = rw is at made
 
 -- the ends as they were made
 pub start_is : (w : World) (s : AreStarted w) (side : Side)
-    → end_at side w ≡ new_end side (making_at side w s).settings (making_at side w s).windows (parameters_of (making_at (other_side side) w s).settings) (making_at side w s).id (making_at (other_side side) w s).id (making_at side w s).moment (making_at side w s).validated (making_at side w s).words
-start_is w s Client = made_is Client s.client_making.settings s.client_making.windows (parameters_at s.server_making.parameters) (parameters_of s.server_making.settings) s.client_making.id s.server_making.id s.client_making.moment s.client_making.validated s.client_making.words w.client s.server_is.says s.client
-start_is w s Server = made_is Server s.server_making.settings s.server_making.windows (parameters_at s.client_making.parameters) (parameters_of s.client_making.settings) s.server_making.id s.client_making.id s.server_making.moment s.server_making.validated s.server_making.words w.server s.client_is.says s.server
+    → end_at side w ≡ new_end side (making_at side w s).settings (making_at side w s).windows (parameters_of (making_at (other_side side) w s).settings) (making_at side w s).id (making_at (other_side side) w s).id (making_at side w s).remote (making_at side w s).moment (making_at side w s).validated (making_at side w s).words
+start_is w s Client = made_is Client s.client_making.settings s.client_making.windows (parameters_at s.server_making.parameters) (parameters_of s.server_making.settings) s.client_making.id s.server_making.id s.client_making.remote s.client_making.moment s.client_making.validated s.client_making.words w.client s.server_is.says s.client
+start_is w s Server = made_is Server s.server_making.settings s.server_making.windows (parameters_at s.client_making.parameters) (parameters_of s.client_making.settings) s.server_making.id s.client_making.id s.server_making.remote s.server_making.moment s.server_making.validated s.server_making.words w.server s.client_is.says s.server
 
 -- the id that an end is known by first
 abbrev pub first_id : Run → Side → List ℕ

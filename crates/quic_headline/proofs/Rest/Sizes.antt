@@ -56,7 +56,7 @@ room_at Server w h = h.server
 starts_within : (w : World) → AreStarted w → (side : Side) → current_mtu (end_at side w).path ≤ first_mtu (end_at side w).transport
 starts_within w s side = subst (λ (e : End). current_mtu e.path ≤ first_mtu e.transport) (sym (start_is w s side))
     (let m = making_at side w s in
-    let size = first_size m.validated (transport_of m.settings) (parameters_of (making_at (other_side side) w s).settings).max_udp_payload_size m.windows m.moment in
+    let size = first_size m.remote m.validated (transport_of m.settings) (parameters_of (making_at (other_side side) w s).settings).max_udp_payload_size m.windows m.moment in
     omega arith)
 
 -- its search begins within its bounds

@@ -226,7 +226,7 @@ module _ (K : Streams → Type 0) (k : Spelling K) (c : Bringing K) (p : Policy)
 
       go : (o : Option LostReason) → bounds p x ≡ o → polled p e now ≡ sends o p all_goes → GivesProbe p e now
       go None none is = record {
-        transmit = record { size = length (datagram_of p (draft_of all_goes)); ecn = mark_of (sends None p all_goes).end.path.marking };
+        transmit = record { size = length (datagram_of p (draft_of all_goes)); ecn = mark_of (sends None p all_goes).end.path.marking; remote = (sends None p all_goes).end.path.remote };
         answer = ap (λ (q : Polled). q.answer) is;
         asks = ap asks_of (ordinary none) ∙ frames_ask;
         fewer = ap (λ (q : Polled). q.end.tracking.probes + 1) is ∙ fewer;

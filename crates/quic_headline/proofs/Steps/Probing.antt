@@ -104,7 +104,7 @@ giving p e now t s room owes is same = by_sends p e now Of (record {
     opened = opened;
     may = (bounds_none p e bound).0;
     some = some;
-    size = same_bytes (record { size = length (datagram_of p (draft_at e now)); ecn = mark_of (after_given p (draft_at e now)).path.marking }) t gave;
+    size = same_bytes (record { size = length (datagram_of p (draft_at e now)); ecn = mark_of (after_given p (draft_at e now)).path.marking; remote = (after_given p (draft_at e now)).path.remote }) t gave;
     left = refl;
     sent = only_one (sent_as e now (draft_at e now)) s went;
   });
@@ -123,7 +123,7 @@ giving p e now t s room owes is same = by_sends p e now Of (record {
         owes = due;
         room = room_stays e x ids mtu settings room;
         mtu = mtu;
-        size = same_bytes (record { size = length (datagram_of p (draft_as (poll.closing f) x)); ecn = mark_of (after_close p (draft_as (poll.closing f) x)).path.marking }) t gave;
+        size = same_bytes (record { size = length (datagram_of p (draft_as (poll.closing f) x)); ecn = mark_of (after_close p (draft_as (poll.closing f) x)).path.marking; remote = (after_close p (draft_as (poll.closing f) x)).path.remote }) t gave;
         sent = only_one (sent_as e now (draft_as (poll.closing f) x)) s went;
       }),
     )

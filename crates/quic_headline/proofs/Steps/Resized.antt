@@ -42,7 +42,7 @@ use Rattle.quic_machine.specs.Closing.{ticked}
 use Rattle.quic_machine.specs.Ids.{known}
 use Rattle.quic_machine.specs.Opens.{own_id_length}
 use Rattle.quic_machine.specs.Tracking.{TrackedPacket, lost_by, acked_by}
-use Rattle.quic_machine.specs.Arrival.{Arrival, delivered_by}
+use Rattle.quic_machine.specs.Arrival.{Arrival, early, delivered_by}
 use Rattle.quic_machine.specs.End.{End, with_closing, with_numbers}
 use Rattle.quic_machine.specs.Control.{Control, flies, told_sent, told_packet, told_acks_ended, last_sent}
 use Rattle.quic_machine.specs.Sizes.{is_resized, told_if_resized, told_size, with_acked, search_acked, told_packets, others_of, after_lost, is_persistent, told_congested, told_losses}
@@ -293,7 +293,7 @@ ends_tell (Some (closed_by_peer close)) asks urged n mark d ts e t = t
 ends_tell (Some (broke error)) asks urged n mark d ts e t = t
 ends_tell (Some too_many_pieces) asks urged n mark d ts e t = t
 
-by_state_tells : (s : State) (o : Opening) (arrival : Arrival) (e : End) → Tells e.path.discovery (told_by_state s o arrival.now e) (by_state s o arrival e).end.path.discovery
+by_state_tells : (s : State) (o : Opening) (arrival : Arrival) (e : End) → Tells e.path.discovery (told_by_state s o (early arrival) e) (by_state s o arrival e).end.path.discovery
 by_state_tells states.Open o arrival e =
     let begins : End = with_closing e (ticked e.closing arrival.now) in
     let taken : Progress = take_payload o.first (items o.payload) begins in
@@ -302,13 +302,13 @@ by_state_tells states.Closing o arrival e = still e.path.discovery [] tt
 by_state_tells states.Drained o arrival e = still e.path.discovery [] tt
 by_state_tells states.Failed o arrival e = still e.path.discovery [] tt
 
-opened_tells : (o : Opening) (arrival : Arrival) (e : End) → Tells e.path.discovery (told_opened o arrival.now e) (opened_to o arrival e).end.path.discovery
+opened_tells : (o : Opening) (arrival : Arrival) (e : End) → Tells e.path.discovery (told_opened o (early arrival) e) (opened_to o arrival e).end.path.discovery
 opened_tells o arrival e = go (key_phase o.first) (is_duplicate e.numbers.opened o.number)
   where
     noted : End
     noted = with_numbers e (number_opened e.numbers o.number)
 
-    go : (a b : Bool) → Tells e.path.discovery (if a || b then [] else told_by_state e.closing.state o arrival.now noted)
+    go : (a b : Bool) → Tells e.path.discovery (if a || b then [] else told_by_state e.closing.state o (early arrival) noted)
         (if a then dropped drops.KeyPhase e else (if b then dropped drops.Duplicate e else by_state e.closing.state o arrival noted)).end.path.discovery
     go true b = still e.path.discovery [] tt
     go false true = still e.path.discovery [] tt
@@ -326,21 +326,21 @@ drawn_tells : (b : Bool) (p : Policy) (d : Discovery) (ts : List Told) (e : End)
 drawn_tells true p d ts e t = t
 drawn_tells false p d ts e t = t
 
-opened_as_tells : (o : Option Opening) (p : Policy) (arrival : Arrival) (e : End) → Tells e.path.discovery (told_opened_as o arrival.now e) (opened_as o p arrival e).end.path.discovery
+opened_as_tells : (o : Option Opening) (p : Policy) (arrival : Arrival) (e : End) → Tells e.path.discovery (told_opened_as o (early arrival) e) (opened_as o p arrival e).end.path.discovery
 opened_as_tells None p arrival e = unopened_tells e.closing.state arrival.last arrival e
-opened_as_tells (Some o) p arrival e = drawn_tells (is_read (opened_to o arrival e).answer) p e.path.discovery (told_opened o arrival.now e) (opened_to o arrival e).end (opened_tells o arrival e)
+opened_as_tells (Some o) p arrival e = drawn_tells (is_read (opened_to o arrival e).answer) p e.path.discovery (told_opened o (early arrival) e) (opened_to o arrival e).end (opened_tells o arrival e)
 
-headed_tells : (r : Result (List ℕ) HeaderError) (p : Policy) (e : End) (arrival : Arrival) (d : List ℕ) → Tells e.path.discovery (told_headed r p e arrival.now d) (headed r p e arrival d).end.path.discovery
+headed_tells : (r : Result (List ℕ) HeaderError) (p : Policy) (e : End) (arrival : Arrival) (d : List ℕ) → Tells e.path.discovery (told_headed r p e (early arrival) d) (headed r p e arrival d).end.path.discovery
 headed_tells (Err error) p e arrival d = still e.path.discovery [] tt
 headed_tells (Ok id) p e arrival d = opened_as_tells (opening p e d) p arrival e
 
-received_tells : (s : State) (p : Policy) (e : End) (arrival : Arrival) (d : List ℕ) → Tells e.path.discovery (told_received_in s p e arrival.now d) (received_in s p e arrival d).end.path.discovery
+received_tells : (s : State) (p : Policy) (e : End) (arrival : Arrival) (d : List ℕ) → Tells e.path.discovery (told_received_in s p e (early arrival) d) (received_in s p e arrival d).end.path.discovery
 received_tells states.Failed p e arrival d = still e.path.discovery [] tt
 received_tells states.Drained p e arrival d = still e.path.discovery [] tt
 received_tells states.Open p e arrival d = headed_tells (decoded (fixed_length_id own_id_length) (known e.ids) d) p e arrival d
 received_tells states.Closing p e arrival d = headed_tells (decoded (fixed_length_id own_id_length) (known e.ids) d) p e arrival d
 
-delivered_tells : (p : Policy) (e : End) (arrival : Arrival) (o : Option (List ℕ)) → Tells e.path.discovery (told_delivered p e arrival.now o) (after_delivered p e arrival o).path.discovery
+delivered_tells : (p : Policy) (e : End) (arrival : Arrival) (o : Option (List ℕ)) → Tells e.path.discovery (told_delivered p e (early arrival) o) (after_delivered p e arrival o).path.discovery
 delivered_tells p e arrival None = still e.path.discovery [] tt
 delivered_tells p e arrival (Some d) = received_tells e.closing.state p e arrival d
 

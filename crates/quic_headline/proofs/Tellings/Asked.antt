@@ -48,9 +48,9 @@ abbrev pub IsUnaskedIf : End → Type 0
 IsUnaskedIf e = IsSilentIf (standing e)
 
 -- so is an end that is made
-pub first_unasked : (side : Side) (settings : Settings) (windows : Windows) (theirs : ParameterValues) (own_id peer_id : List ℕ) (now : ℕ) (validated : Bool) (words : ℕ → ℕ) → IsUnaskedIf (new_end side settings windows theirs own_id peer_id now validated words)
-first_unasked side settings windows theirs own_id peer_id now true words is = (refl, refl)
-first_unasked side settings windows theirs own_id peer_id now false words is = cc
+pub first_unasked : (side : Side) (settings : Settings) (windows : Windows) (theirs : ParameterValues) (own_id peer_id : List ℕ) (remote now : ℕ) (validated : Bool) (words : ℕ → ℕ) → IsUnaskedIf (new_end side settings windows theirs own_id peer_id remote now validated words)
+first_unasked side settings windows theirs own_id peer_id remote now true words is = (refl, refl)
+first_unasked side settings windows theirs own_id peer_id remote now false words is = cc
 
 -- ---- frames
 

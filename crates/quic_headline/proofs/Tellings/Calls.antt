@@ -336,7 +336,7 @@ module _ (x y : Party) (joined : AreJoined x y) (meets : Meets y x) (sight : Sig
 
     -- an open end is handed a datagram
     open_call : x.end.closing.state ≡ states.Open → (d : List ℕ) → slice_get y.given delivery.index ≡ Some d → (a : Answer) → a ≡ answers.Deliver (received x.policy x.end (delivered_by (says_last a) delivery) d).answer
-        → TellsCall (lens x y) c validated first limited seen (told_of (calls.Deliver delivery) a states.Open) (told_received x.policy x.end delivery.now d)
+        → TellsCall (lens x y) c validated first limited seen (told_of (calls.Deliver delivery) a states.Open) (told_received x.policy x.end (delivered_by false delivery) d)
     open_call opened d at a is = record {
       after = after;
       came = came;
@@ -376,18 +376,18 @@ module _ (x y : Party) (joined : AreJoined x y) (meets : Meets y x) (sight : Sig
         knows : Knows x.end.numbers seen.intake
         knows = subst (λ (i : Intake). Knows x.end.numbers i) (sym seen_intake) (subst (λ (s : State). KnowsIn s x.end.numbers (came_to x y)) opened meets.knows)
 
-        heard : BringsBy a (told_received x.policy x.end delivery.now d) after
-        heard = subst (λ (b : Answer). BringsBy b (told_received x.policy x.end delivery.now d) after) (sym is)
+        heard : BringsBy a (told_received x.policy x.end (delivered_by false delivery) d) after
+        heard = subst (λ (b : Answer). BringsBy b (told_received x.policy x.end (delivered_by false delivery) d) after) (sym is)
             (by_hearing x.policy x.end (delivered_by (says_last a) delivery) seen.intake d BringsBy knows opened from_peer (hearings opened))
 
     pub delivery_told : (a : Answer) → IsAnswer x.policy x.end y.given (calls.Deliver delivery) a → fails a ≡ false
-        → TellsCall (lens x y) c validated first limited seen (told_of (calls.Deliver delivery) a x.end.closing.state) (told_delivered x.policy x.end delivery.now (slice_get y.given delivery.index))
+        → TellsCall (lens x y) c validated first limited seen (told_of (calls.Deliver delivery) a x.end.closing.state) (told_delivered x.policy x.end (delivered_by false delivery) (slice_get y.given delivery.index))
     delivery_told a is served = go (slice_get y.given delivery.index) refl is
       where
         silent : gave a ≡ false
         silent = only_polls_give x.policy x.end y.given (calls.Deliver delivery) a refl is
 
-        go : (o : Option (List ℕ)) → slice_get y.given delivery.index ≡ o → IsDelivered x.policy x.end delivery o a → TellsCall (lens x y) c validated first limited seen (told_of (calls.Deliver delivery) a x.end.closing.state) (told_delivered x.policy x.end delivery.now o)
+        go : (o : Option (List ℕ)) → slice_get y.given delivery.index ≡ o → IsDelivered x.policy x.end delivery o a → TellsCall (lens x y) c validated first limited seen (told_of (calls.Deliver delivery) a x.end.closing.state) (told_delivered x.policy x.end (delivered_by false delivery) o)
         go None at none =
             quiet_call (lens x y) c validated first limited seen (told_of (calls.Deliver delivery) a x.end.closing.state)
             (ap (λ (b : Answer). and_handed x.end.closing.state (handed y.final (calls.Deliver delivery) b) x.policy a seen.intake) none ∙ nothing_handed x.end.closing.state x.policy a seen.intake)
@@ -395,12 +395,12 @@ module _ (x y : Party) (joined : AreJoined x y) (meets : Meets y x) (sight : Sig
         go (Some d) at (inr failed) = cc
         go (Some d) at (inl said) = by_state x.end.closing.state refl
           where
-            none : (s : State) → x.end.closing.state ≡ s → (s ≡ states.Open → ⊥) → and_told x.policy y.final (told_of (calls.Deliver delivery) a s) seen.intake ≡ seen.intake → TellsCall (lens x y) c validated first limited seen (told_of (calls.Deliver delivery) a s) (told_received x.policy x.end delivery.now d)
+            none : (s : State) → x.end.closing.state ≡ s → (s ≡ states.Open → ⊥) → and_told x.policy y.final (told_of (calls.Deliver delivery) a s) seen.intake ≡ seen.intake → TellsCall (lens x y) c validated first limited seen (told_of (calls.Deliver delivery) a s) (told_received x.policy x.end (delivered_by false delivery) d)
             none s closed shut same =
-                subst (λ (ts : List congestion.Told). TellsCall (lens x y) c validated first limited seen (told_of (calls.Deliver delivery) a s) ts) (sym (closed_told x.policy x.end delivery.now d x.end.closing.state refl (λ opened. shut (sym closed ∙ opened))))
+                subst (λ (ts : List congestion.Told). TellsCall (lens x y) c validated first limited seen (told_of (calls.Deliver delivery) a s) ts) (sym (closed_told x.policy x.end (delivered_by false delivery) d x.end.closing.state refl (λ opened. shut (sym closed ∙ opened))))
                 (quiet_call (lens x y) c validated first limited seen (told_of (calls.Deliver delivery) a s) same (untimely s (calls.Deliver delivery) refl) silent)
 
-            by_state : (s : State) → x.end.closing.state ≡ s → TellsCall (lens x y) c validated first limited seen (told_of (calls.Deliver delivery) a s) (told_received x.policy x.end delivery.now d)
+            by_state : (s : State) → x.end.closing.state ≡ s → TellsCall (lens x y) c validated first limited seen (told_of (calls.Deliver delivery) a s) (told_received x.policy x.end (delivered_by false delivery) d)
             by_state states.Open opened = open_call opened d at a said
             by_state states.Closing closed = none states.Closing closed (λ opened. cc) refl
             by_state states.Drained closed = none states.Drained closed (λ opened. cc) refl

@@ -331,7 +331,7 @@ module _ (G : Way) (g : Group Nothing G) (packets : (x y : Party) → G x y → 
           let s = honest.start in
           let m = making_at side r.start s in
           let other = making_at (other_side side) r.start s in
-          subst IsUnaskedIf (sym (start_is r.start s side)) (first_unasked side m.settings m.windows (parameters_of other.settings) m.id other.id m.moment m.validated m.words)
+          subst IsUnaskedIf (sym (start_is r.start s side)) (first_unasked side m.settings m.windows (parameters_of other.settings) m.id other.id m.remote m.moment m.validated m.words)
 
       at_start : IsFirst (first_at side zero) (end_at side r.start).path
       at_start =

@@ -18,7 +18,7 @@ use Rattle.quic_machine.specs.declared.answers.DropReason.TheVariants as drops
 use Rattle.quic_machine.specs.declared.answers.Received.TheVariants.{Taken, Closed}
 use Rattle.quic_machine.specs.declared.run.Answer.{Answer}
 use Rattle.quic_machine.specs.declared.run.Answer.TheVariants as answers
-use Rattle.quic_machine.specs.Arrival.{Arrival}
+use Rattle.quic_machine.specs.Arrival.{Arrival, early}
 use Rattle.quic_machine.specs.Ids.{known}
 use Rattle.quic_machine.specs.Policy.{Policy}
 use Rattle.quic_machine.specs.Opens.{own_id_length, in_phase, opens_behind}
@@ -98,59 +98,59 @@ module _ (q : Policy) (e : End) (arrival : Arrival) (i : Intake) (d : List ℕ) 
     payload false = faults (take_items (items o.payload) (begun e arrival.now o.number)).fault refl
 
     abbrev Heard : Bool → Bool → Bool → State → Type 0
-    Heard phase again b s = P (answers.Deliver (outcome phase again s).answer) (if phase || again then [] else told_by_state s o arrival.now noted) (came phase b (answers.Deliver (outcome phase again s).answer))
+    Heard phase again b s = P (answers.Deliver (outcome phase again s).answer) (if phase || again then [] else told_by_state s o (early arrival) noted) (came phase b (answers.Deliver (outcome phase again s).answer))
 
     tested : (phase again : Bool) → Heard phase again again states.Open
     tested true again = cases.nothing (answers.Deliver (dropped drops.KeyPhase e).answer)
     tested false true = cases.nothing (answers.Deliver (dropped drops.Duplicate e).answer)
     tested false false = payload (not (reserved_bits o.first == 0) || is_empty (items o.payload))
 
-    packet : P (answers.Deliver (opened_as (Some o) q arrival e).answer) (told_opened_as (Some o) arrival.now e) (and_opened (if key_phase o.first then None else Some o) (answers.Deliver (opened_as (Some o) q arrival e).answer) i)
+    packet : P (answers.Deliver (opened_as (Some o) q arrival e).answer) (told_opened_as (Some o) (early arrival) e) (and_opened (if key_phase o.first then None else Some o) (answers.Deliver (opened_as (Some o) q arrival e).answer) i)
     packet =
         let again : Bool = is_duplicate e.numbers.opened o.number in
         let a : Answer = answers.Deliver (opened_as (Some o) q arrival e).answer in
-        subst (λ (j : Intake). P a (told_opened_as (Some o) arrival.now e) j) (sym (came_is (key_phase o.first) a))
+        subst (λ (j : Intake). P a (told_opened_as (Some o) (early arrival) e) j) (sym (came_is (key_phase o.first) a))
         (subst (λ (b : Bool). Heard (key_phase o.first) again b e.closing.state) (is_duplicate-is i.opened e.numbers.opened o.number k.seen)
         (subst (λ (s : State). Heard (key_phase o.first) again again s) (sym opened) (tested (key_phase o.first) again)))
 
-  opening_case : (o : Option Opening) → opening q e d ≡ o → P (answers.Deliver (opened_as o q arrival e).answer) (told_opened_as o arrival.now e) (and_opened (in_phase o) (answers.Deliver (opened_as o q arrival e).answer) i)
+  opening_case : (o : Option Opening) → opening q e d ≡ o → P (answers.Deliver (opened_as o q arrival e).answer) (told_opened_as o (early arrival) e) (and_opened (in_phase o) (answers.Deliver (opened_as o q arrival e).answer) i)
   opening_case None is = cases.nothing (answers.Deliver (opened_as None q arrival e).answer)
   opening_case (Some o) is = packet o (sent o is)
 
-  header_case : (r : Result (List ℕ) HeaderError) → P (answers.Deliver (headed r q e arrival d).answer) (told_headed r q e arrival.now d) (and_opened (opens_behind r q (expected e.numbers) d) (answers.Deliver (headed r q e arrival d).answer) i)
+  header_case : (r : Result (List ℕ) HeaderError) → P (answers.Deliver (headed r q e arrival d).answer) (told_headed r q e (early arrival) d) (and_opened (opens_behind r q (expected e.numbers) d) (answers.Deliver (headed r q e arrival d).answer) i)
   header_case (Err error) = cases.nothing (answers.Deliver (headed (Err error) q e arrival d).answer)
   header_case (Ok id) = opening_case (opening q e d) refl
 
-  at_open : P (answers.Deliver (received_in states.Open q e arrival d).answer) (told_received_in states.Open q e arrival.now d) (and_opened (came_open q i.took (answers.Deliver (received_in states.Open q e arrival d).answer) d) (answers.Deliver (received_in states.Open q e arrival d).answer) i)
+  at_open : P (answers.Deliver (received_in states.Open q e arrival d).answer) (told_received_in states.Open q e (early arrival) d) (and_opened (came_open q i.took (answers.Deliver (received_in states.Open q e arrival d).answer) d) (answers.Deliver (received_in states.Open q e arrival d).answer) i)
   at_open =
       let a : Answer = answers.Deliver (received_in states.Open q e arrival d).answer in
-      let told : List Told = told_received_in states.Open q e arrival.now d in
+      let told : List Told = told_received_in states.Open q e (early arrival) d in
       subst (λ (o : Option Opening). P a told (and_opened o a i)) (sym (came_open_is q e arrival d i.took k.expected)) (header_case (decoded (fixed_length_id own_id_length) (known e.ids) d))
 
   -- what holds in each case holds of the datagram
-  pub by_hearing : P (answers.Deliver (received q e arrival d).answer) (told_received q e arrival.now d) (and_handed states.Open (Some d) q (answers.Deliver (received q e arrival d).answer) i)
-  by_hearing = subst (λ (s : State). P (answers.Deliver (received_in s q e arrival d).answer) (told_received_in s q e arrival.now d) (and_opened (came_open q i.took (answers.Deliver (received_in s q e arrival d).answer) d) (answers.Deliver (received_in s q e arrival d).answer) i)) (sym opened) at_open
+  pub by_hearing : P (answers.Deliver (received q e arrival d).answer) (told_received q e (early arrival) d) (and_handed states.Open (Some d) q (answers.Deliver (received q e arrival d).answer) i)
+  by_hearing = subst (λ (s : State). P (answers.Deliver (received_in s q e arrival d).answer) (told_received_in s q e (early arrival) d) (and_opened (came_open q i.took (answers.Deliver (received_in s q e arrival d).answer) d) (answers.Deliver (received_in s q e arrival d).answer) i)) (sym opened) at_open
 
 -- ---- an end that isn't open
 
-closed_packet : (o : Option Opening) (now : ℕ) (e : End) → e.closing.state ≡ states.Closing → told_opened_as o now e ≡ []
-closed_packet None now e is = refl
-closed_packet (Some o) now e is = go (key_phase o.first || is_duplicate e.numbers.opened o.number)
+closed_packet : (o : Option Opening) (arrival : Arrival) (e : End) → e.closing.state ≡ states.Closing → told_opened_as o arrival e ≡ []
+closed_packet None arrival e is = refl
+closed_packet (Some o) arrival e is = go (key_phase o.first || is_duplicate e.numbers.opened o.number)
   where
     noted : End
     noted = with_numbers e (number_opened e.numbers o.number)
 
-    go : (b : Bool) → (if b then [] else told_by_state e.closing.state o now noted) ≡ []
+    go : (b : Bool) → (if b then [] else told_by_state e.closing.state o arrival noted) ≡ []
     go true = refl
-    go false = ap (λ (s : State). told_by_state s o now noted) is
+    go false = ap (λ (s : State). told_by_state s o arrival noted) is
 
-closed_headed : (r : Result (List ℕ) HeaderError) (p : Policy) (e : End) (now : ℕ) (d : List ℕ) → e.closing.state ≡ states.Closing → told_headed r p e now d ≡ []
-closed_headed (Err error) p e now d is = refl
-closed_headed (Ok id) p e now d is = closed_packet (opening p e d) now e is
+closed_headed : (r : Result (List ℕ) HeaderError) (p : Policy) (e : End) (arrival : Arrival) (d : List ℕ) → e.closing.state ≡ states.Closing → told_headed r p e arrival d ≡ []
+closed_headed (Err error) p e arrival d is = refl
+closed_headed (Ok id) p e arrival d is = closed_packet (opening p e d) arrival e is
 
 -- its controller is told nothing
-pub closed_told : (p : Policy) (e : End) (now : ℕ) (d : List ℕ) (s : State) → e.closing.state ≡ s → (s ≡ states.Open → ⊥) → told_received_in s p e now d ≡ []
-closed_told p e now d states.Open is closed = absurd (closed refl)
-closed_told p e now d states.Closing is closed = closed_headed (decoded (fixed_length_id own_id_length) (known e.ids) d) p e now d is
-closed_told p e now d states.Drained is closed = refl
-closed_told p e now d states.Failed is closed = refl
+pub closed_told : (p : Policy) (e : End) (arrival : Arrival) (d : List ℕ) (s : State) → e.closing.state ≡ s → (s ≡ states.Open → ⊥) → told_received_in s p e arrival d ≡ []
+closed_told p e arrival d states.Open is closed = absurd (closed refl)
+closed_told p e arrival d states.Closing is closed = closed_headed (decoded (fixed_length_id own_id_length) (known e.ids) d) p e arrival d is
+closed_told p e arrival d states.Drained is closed = refl
+closed_told p e arrival d states.Failed is closed = refl

@@ -317,7 +317,7 @@ call_goes p e theirs calls.UseNextId a = left_goes e (end_on_next_id e a) (next_
 call_goes p e theirs (calls.Poll now) a = polled_goes p e now
 call_goes p e theirs (calls.Timeout now) a = timed_goes p e now
 call_goes p e theirs (calls.Deliver delivery) a = delivered_goes e (delivered_by (says_last a) delivery) (slice_get theirs delivery.index) p
-call_goes p e theirs (calls.Inject injection) a = injected_goes (would_open p e injection.bytes) (says_last a) p e injection
+call_goes p e theirs (calls.Inject injection) a = injected_goes (would_open p e injection.remote injection.bytes) (says_last a) p e injection
 call_goes p e theirs calls.Event a = by_event e (λ (x : End). Goes None e x) (goes_same None e) (λ told. (le_self e.closing.clock, stays_so refl refl))
 call_goes p e theirs call a = goes_same None e
 

@@ -375,23 +375,23 @@ module _ (x y : Party) (a : Answer) (i : Asks x y) where
   }
 
 -- one that is made asks its first word, where the address of its peer isn't validated
-first_due : (side : Side) (settings : Settings) (windows : Windows) (theirs : ParameterValues) (own_id peer_id : List ℕ) (now : ℕ) (validated : Bool) (words : ℕ → ℕ) (final : List (List ℕ))
-    → (let e = new_end side settings windows theirs own_id peer_id now validated words in
+first_due : (side : Side) (settings : Settings) (windows : Windows) (theirs : ParameterValues) (own_id peer_id : List ℕ) (remote now : ℕ) (validated : Bool) (words : ℕ → ℕ) (final : List (List ℕ))
+    → (let e = new_end side settings windows theirs own_id peer_id remote now validated words in
     let r = first_questions e.path.validated (first_watch final now e.transport.initial_rtt (e.peer_params.max_ack_delay * 1000000)) in
     DueSo r.count r.due (standing e))
-first_due side settings windows theirs own_id peer_id now true words final = record { asked = λ unvalidated. cc; set = refl }
-first_due side settings windows theirs own_id peer_id now false words final = record {
+first_due side settings windows theirs own_id peer_id remote now true words final = record { asked = λ unvalidated. cc; set = refl }
+first_due side settings windows theirs own_id peer_id remote now false words final = record {
   asked = λ unvalidated. refl;
   set = ap (λ (k : ℕ). Some k) (sym (moment_reckoned (terms_of e) now (first_watch final now e.transport.initial_rtt (e.peer_params.max_ack_delay * 1000000)).flight e (record { terms = refl; clock = refl; named = refl; waits = tt; asked = refl; rtt = refl; delay = refl; request = refl })));
 }
   where
     e : End
-    e = new_end side settings windows theirs own_id peer_id now false words
+    e = new_end side settings windows theirs own_id peer_id remote now false words
 
 -- over the packets and what observers know of them
 pub questions_group : Group Observed Asks
 questions_group = record {
-  first = λ x y m there back. record { due = λ opened. first_due x.side x.making.settings x.making.windows (parameters_of y.making.settings) x.making.id y.making.id x.making.moment x.making.validated x.making.words x.final };
+  first = λ x y m there back. record { due = λ opened. first_due x.side x.making.settings x.making.windows (parameters_of y.making.settings) x.making.id y.making.id x.making.remote x.making.moment x.making.validated x.making.words x.final };
   writer = λ x y call a c i back. call_asks x y a i call c;
   reader = λ x y call a c there i. record { due = i.due };
   shows = λ x y here there b back i j. record { due = i.due };

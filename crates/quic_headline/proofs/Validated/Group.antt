@@ -344,14 +344,14 @@ module _ (x y : Party) (a : Answer) (i : Challenging x y) where
   }
 
 -- one that is made asks its first word, where the address of its peer isn't validated
-first_asks : (side : Side) (settings : Settings) (windows : Windows) (theirs : ParameterValues) (own_id peer_id : List ℕ) (now : ℕ) (validated : Bool) (words : ℕ → ℕ) → AsksSo None true (standing (new_end side settings windows theirs own_id peer_id now validated words))
-first_asks side settings windows theirs own_id peer_id now true words = λ unvalidated. cc
-first_asks side settings windows theirs own_id peer_id now false words = λ unvalidated. record { word = words (words_drawn (silent_end side settings windows theirs own_id peer_id now false words)); asked = refl; either = inl (refl, refl) }
+first_asks : (side : Side) (settings : Settings) (windows : Windows) (theirs : ParameterValues) (own_id peer_id : List ℕ) (remote now : ℕ) (validated : Bool) (words : ℕ → ℕ) → AsksSo None true (standing (new_end side settings windows theirs own_id peer_id remote now validated words))
+first_asks side settings windows theirs own_id peer_id remote now true words = λ unvalidated. cc
+first_asks side settings windows theirs own_id peer_id remote now false words = λ unvalidated. record { word = words (words_drawn (silent_end side settings windows theirs own_id peer_id remote now false words)); asked = refl; either = inl (refl, refl) }
 
 -- over the packets between both ends, what observers know of them, and how both ask
 pub challenging_group : Group ObservedAsking Challenging
 challenging_group = record {
-  first = λ x y m there back. record { asks = λ opened. first_asks x.side x.making.settings x.making.windows (parameters_of y.making.settings) x.making.id y.making.id x.making.moment x.making.validated x.making.words; answers = λ s i. absurd i; small = λ words opened. words.asked };
+  first = λ x y m there back. record { asks = λ opened. first_asks x.side x.making.settings x.making.windows (parameters_of y.making.settings) x.making.id y.making.id x.making.remote x.making.moment x.making.validated x.making.words; answers = λ s i. absurd i; small = λ words opened. words.asked };
   writer = λ x y call a c i back. call_asks x y a i call c;
   reader = λ x y call a c there i. record { asks = i.asks; answers = i.answers; small = λ words opened. i.small (record { drawn = words.drawn; asked = words.asked }) opened };
   shows = λ x y here there b back i j. record { asks = i.asks; answers = i.answers; small = λ words opened. i.small (record { drawn = words.drawn; asked = words.asked }) opened };

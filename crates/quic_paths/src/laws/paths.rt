@@ -24,12 +24,12 @@ pub fn bytes_wait_for_bytes<C>()
 /// validated is sent no more than three times what it sent (RFC 9000, section 8.1). So it is on a
 /// new path, on one in place of another, and from any moment on at which it was so.
 pub fn unvalidated_peers_get_threefold<C>()
-    ensures first { (searches : Bool) (limit : Option ℕ) (generation now window : ℕ)
+    ensures first { (remote : ℕ) (searches : Bool) (limit : Option ℕ) (generation now window : ℕ)
         (settings : TransportSettings) (controller : C) (datagrams : List Datagram)
-        → AreAllowed datagrams (new_path searches limit generation now settings controller window)
+        → AreAllowed datagrams (new_path remote searches limit generation now settings controller window)
         → bytes_went datagrams ≤ 3 * bytes_came datagrams }
-    ensures next { (prev : PathValue C) (generation now window : ℕ) (datagrams : List Datagram)
-        → AreAllowed datagrams (next_path prev generation now window)
+    ensures next { (remote : ℕ) (prev : PathValue C) (generation now window : ℕ)
+        (datagrams : List Datagram) → AreAllowed datagrams (next_path remote prev generation now window)
         → bytes_went datagrams ≤ 3 * bytes_came datagrams }
     ensures later { (path : PathValue C) (datagrams : List Datagram) → path.validated ≡ false
         → path.sent < 2 ^ 64 → path.received < 2 ^ 64 → path.sent ≤ 3 * path.received
@@ -41,13 +41,13 @@ pub fn unvalidated_peers_get_threefold<C>()
 /// their size: asked at the moment at which they were made or reset, for any round trip and window,
 /// the pacer names no later one.
 pub fn fresh_paths_send_at_once<C>()
-    ensures new { (searches : Bool) (limit : Option ℕ) (generation now initial rtt window : ℕ)
-        (settings : TransportSettings) (controller : C)
-        → let path = new_path searches limit generation now settings controller initial in
+    ensures new { (remote : ℕ) (searches : Bool) (limit : Option ℕ)
+        (generation now initial rtt window : ℕ) (settings : TransportSettings) (controller : C)
+        → let path = new_path remote searches limit generation now settings controller initial in
         let size = path.discovery.size in
         delay_of path.pacing rtt size size window now ≡ None }
-    ensures next { (prev : PathValue C) (generation now taken rtt window : ℕ)
-        → let path = next_path prev generation now taken in
+    ensures next { (remote : ℕ) (prev : PathValue C) (generation now taken rtt window : ℕ)
+        → let path = next_path remote prev generation now taken in
         let size = path.discovery.size in
         delay_of path.pacing rtt size size window now ≡ None }
     ensures reset { (old : PathValue C) (now initial rtt window : ℕ) (settings : TransportSettings)

@@ -28,7 +28,7 @@ returns-clause-polled g c = λ k are.
     let from : World = world_of (windows_of g.C.Controller.steps g.C.Controller.window_of) c.args.ends.now c.args.given.now in
     let next : World = world_of (windows_of g.C.Controller.steps g.C.Controller.window_of) c.step.new.ends c.step.new.given in
     let to : World = world_of (windows_of g.C.Controller.steps g.C.Controller.window_of) c.step-2.new.ends c.step-2.new.given in
-    let delivery = rw (c.not.ensures, c.count_given-index.ensures c.args.ends.now.client.end c.args.ends.now.server.end (windows c.args.ends.now.client.control) (windows c.args.ends.now.server.control) c.args.ends.now.client.heard c.args.ends.now.server.heard) at (c.in_ok-step.ensures.step k (are_on _ _ _ _ _ k _ _ are c.step.ensures.goes_on)) in
+    let delivery = rw (c.not-2.ensures, c.peer_address.ensures c.step.new.given, c.not.ensures, c.count_given-index.ensures c.args.ends.now.client.end c.args.ends.now.server.end (windows c.args.ends.now.client.control) (windows c.args.ends.now.server.control) c.args.ends.now.client.heard c.args.ends.now.server.heard) at (c.in_ok-step.ensures.step k (are_on _ _ _ _ _ k _ _ are c.step.ensures.goes_on)) in
     record {
       are_open = c.requires.opened;
       answer = c.in_ok-answer.answer;

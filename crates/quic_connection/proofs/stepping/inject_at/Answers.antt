@@ -17,9 +17,9 @@ returns-clause-answer g c =
     let old = c.args.end.now in
     let i = c.args.injection.now in
     let d : List ℕ = c.deref_mut-2.result.now in
-    let none : would_open p old.end d ≡ false = search rules in
+    let none : would_open p old.end i.remote d ≡ false = search rules in
     let bytes : ◌≡◌ {A = List ℕ} i.bytes d = search rules in
-    let shut : would_open p old.end i.bytes ≡ false = ap (would_open p old.end) bytes ∙ none in
+    let shut : would_open p old.end i.remote i.bytes ≡ false = ap (would_open p old.end i.remote) bytes ∙ none in
     let limit : ℕ = g.K.PacketKey.refusal_limit old.keys.packet.remote in
     let last : Bool = is_last limit old.heard in
     let r = c.receive in
@@ -31,9 +31,9 @@ returns-clause-end g c =
     let old = c.args.end.now in
     let i = c.args.injection.now in
     let d : List ℕ = c.deref_mut-2.result.now in
-    let none : would_open p old.end d ≡ false = search rules in
+    let none : would_open p old.end i.remote d ≡ false = search rules in
     let bytes : ◌≡◌ {A = List ℕ} i.bytes d = search rules in
-    let shut : would_open p old.end i.bytes ≡ false = ap (would_open p old.end) bytes ∙ none in
+    let shut : would_open p old.end i.remote i.bytes ≡ false = ap (would_open p old.end i.remote) bytes ∙ none in
     let limit : ℕ = g.K.PacketKey.refusal_limit old.keys.packet.remote in
     let last : Bool = is_last limit old.heard in
     let r = c.receive in
@@ -45,9 +45,9 @@ returns-clause-control g c =
     let old = c.args.end.now in
     let i = c.args.injection.now in
     let d : List ℕ = c.deref_mut-2.result.now in
-    let none : would_open p old.end d ≡ false = search rules in
+    let none : would_open p old.end i.remote d ≡ false = search rules in
     let bytes : ◌≡◌ {A = List ℕ} i.bytes d = search rules in
-    let shut : would_open p old.end i.bytes ≡ false = ap (would_open p old.end) bytes ∙ none in
+    let shut : would_open p old.end i.remote i.bytes ≡ false = ap (would_open p old.end i.remote) bytes ∙ none in
     let limit : ℕ = g.K.PacketKey.refusal_limit old.keys.packet.remote in
     let last : Bool = is_last limit old.heard in
     let r = c.receive in
@@ -59,9 +59,9 @@ returns-clause-heard g c =
     let old = c.args.end.now in
     let i = c.args.injection.now in
     let d : List ℕ = c.deref_mut-2.result.now in
-    let none : would_open p old.end d ≡ false = search rules in
+    let none : would_open p old.end i.remote d ≡ false = search rules in
     let bytes : ◌≡◌ {A = List ℕ} i.bytes d = search rules in
-    let shut : would_open p old.end i.bytes ≡ false = ap (would_open p old.end) bytes ∙ none in
+    let shut : would_open p old.end i.remote i.bytes ≡ false = ap (would_open p old.end i.remote) bytes ∙ none in
     let limit : ℕ = g.K.PacketKey.refusal_limit old.keys.packet.remote in
     let last : Bool = is_last limit old.heard in
     let r = c.receive in
@@ -73,13 +73,13 @@ returns-clause-openings g c =
     let old = c.args.end.now in
     let i = c.args.injection.now in
     let d : List ℕ = c.deref_mut-2.result.now in
-    let none : would_open p old.end d ≡ false = search rules in
+    let none : would_open p old.end i.remote d ≡ false = search rules in
     let bytes : ◌≡◌ {A = List ℕ} i.bytes d = search rules in
-    let shut : would_open p old.end i.bytes ≡ false = ap (would_open p old.end) bytes ∙ none in
+    let shut : would_open p old.end i.remote i.bytes ≡ false = ap (would_open p old.end i.remote) bytes ∙ none in
     let limit : ℕ = g.K.PacketKey.refusal_limit old.keys.packet.remote in
     let last : Bool = is_last limit old.heard in
     let r = c.receive in
-    counted g.C.Controller.steps g.C.Controller.window_of p old r.new.self i.now i.ecn d limit r.result r.ensures.answer
+    counted g.C.Controller.steps g.C.Controller.window_of p old r.new.self i.now i.remote i.ecn d limit r.result r.ensures.answer
 
 pub returns-clause-draws : goal.returns-clause-draws
 returns-clause-draws g c =
@@ -87,10 +87,10 @@ returns-clause-draws g c =
     let old = c.args.end.now in
     let i = c.args.injection.now in
     let d : List ℕ = c.deref_mut-2.result.now in
-    let none : would_open p old.end d ≡ false = search rules in
+    let none : would_open p old.end i.remote d ≡ false = search rules in
     let bytes : ◌≡◌ {A = List ℕ} i.bytes d = search rules in
-    let shut : would_open p old.end i.bytes ≡ false = ap (would_open p old.end) bytes ∙ none in
+    let shut : would_open p old.end i.remote i.bytes ≡ false = ap (would_open p old.end i.remote) bytes ∙ none in
     let limit : ℕ = g.K.PacketKey.refusal_limit old.keys.packet.remote in
     let last : Bool = is_last limit old.heard in
     let r = c.receive in
-    delivered_goes g.R.Rng.stream p g.C.Controller.steps old r.new.self (arriving i.now i.ecn last) d r.result r.ensures.end r.ensures.random r.ensures.failed
+    delivered_goes g.R.Rng.stream p g.C.Controller.steps old r.new.self (arriving i.now i.remote i.ecn last) d r.result r.ensures.end r.ensures.random r.ensures.failed

@@ -39,9 +39,9 @@ returns-in-Ok-clause-controlled g c =
     let client = c.in_ok-client.client in
     let server = c.in-Ok.server in
     let client_shows : client.end.path.window ≡ C.window_of client.control =
-    made_window Client c.args.client.config.settings (windows_at C.initial_of C.window_of client.control) (parameters_at c.deref.result.now) c.args.client.id c.args.server.id c.args.now c.args.client.validated (words_of g.R.Rng.stream c.args.client.random) client.end c.in_ok-client.ensures.made in
+    made_window Client c.args.client.config.settings (windows_at C.initial_of C.window_of client.control) (parameters_at c.deref.result.now) c.args.client.id c.args.server.id c.args.client.remote c.args.now c.args.client.validated (words_of g.R.Rng.stream c.args.client.random) client.end c.in_ok-client.ensures.made in
     let server_shows : server.end.path.window ≡ C.window_of server.control =
-    made_window Server c.args.server.config.settings (windows_at C.initial_of C.window_of server.control) (parameters_at c.deref-2.result.now) c.args.server.id c.args.client.id c.args.now c.args.server.validated (words_of g.R.Rng.stream c.args.server.random) server.end c.in-Ok.ensures.made in
+    made_window Server c.args.server.config.settings (windows_at C.initial_of C.window_of server.control) (parameters_at c.deref-2.result.now) c.args.server.id c.args.client.id c.args.server.remote c.args.now c.args.server.validated (words_of g.R.Rng.stream c.args.server.random) server.end c.in-Ok.ensures.made in
     record {
       client = is_controller C.steps C.size_of C.window_of client.control (first_mtu client.end.transport) client.end.path.window c.in_ok-client.ensures.roomy client_shows keeps;
       server = is_controller C.steps C.size_of C.window_of server.control (first_mtu server.end.transport) server.end.path.window c.in-Ok.ensures.roomy server_shows keeps;
@@ -63,12 +63,12 @@ returns-in-Ok-clause-have_room g c =
 -- what the ends are made of
 pub returns-in-Ok-clause-client : goal.returns-in-Ok-clause-client
 returns-in-Ok-clause-client g c =
-    subst (λ (bytes : List ℕ). MadeFrom Client c.args.client.config.settings (windows_at g.C.Controller.initial_of g.C.Controller.window_of c.in_ok-client.client.control) bytes c.args.client.id c.args.server.id c.args.now c.args.client.validated (words_of g.R.Rng.stream c.args.client.random) c.in_ok-client.client.end)
+    subst (λ (bytes : List ℕ). MadeFrom Client c.args.client.config.settings (windows_at g.C.Controller.initial_of g.C.Controller.window_of c.in_ok-client.client.control) bytes c.args.client.id c.args.server.id c.args.client.remote c.args.now c.args.client.validated (words_of g.R.Rng.stream c.args.client.random) c.in_ok-client.client.end)
     (c.deref.ensures.value ∙ c.in_ok-told_by_server.ensures.bytes) c.in_ok-client.ensures.made
 
 pub returns-in-Ok-clause-server : goal.returns-in-Ok-clause-server
 returns-in-Ok-clause-server g c =
-    subst (λ (bytes : List ℕ). MadeFrom Server c.args.server.config.settings (windows_at g.C.Controller.initial_of g.C.Controller.window_of c.in-Ok.server.control) bytes c.args.server.id c.args.client.id c.args.now c.args.server.validated (words_of g.R.Rng.stream c.args.server.random) c.in-Ok.server.end)
+    subst (λ (bytes : List ℕ). MadeFrom Server c.args.server.config.settings (windows_at g.C.Controller.initial_of g.C.Controller.window_of c.in-Ok.server.control) bytes c.args.server.id c.args.client.id c.args.server.remote c.args.now c.args.server.validated (words_of g.R.Rng.stream c.args.server.random) c.in-Ok.server.end)
     (c.deref-2.ensures.value ∙ c.in_ok-told_by_client.ensures.bytes) c.in-Ok.ensures.made
 
 pub returns-in-Ok-clause-started : goal.returns-in-Ok-clause-started
@@ -77,8 +77,8 @@ returns-in-Ok-clause-started g c =
     let server = c.in-Ok.server in
     let server_says : parameters_at c.deref.result.now ≡ Ok (parameters_of c.args.server.config.settings) = ap (λ (bytes : List ℕ). parameters_at bytes) c.deref.ensures.value ∙ c.in_ok-told_by_server.ensures.read_back in
     let client_says : parameters_at c.deref-2.result.now ≡ Ok (parameters_of c.args.client.config.settings) = ap (λ (bytes : List ℕ). parameters_at bytes) c.deref-2.ensures.value ∙ c.in_ok-told_by_client.ensures.read_back in
-    let client_making : Making = record { settings = c.args.client.config.settings; windows = windows_at g.C.Controller.initial_of g.C.Controller.window_of client.control; parameters = c.deref-2.result.now; id = c.args.client.id; moment = c.args.now; validated = c.args.client.validated; words = words_of g.R.Rng.stream c.args.client.random } in
-    let server_making : Making = record { settings = c.args.server.config.settings; windows = windows_at g.C.Controller.initial_of g.C.Controller.window_of server.control; parameters = c.deref.result.now; id = c.args.server.id; moment = c.args.now; validated = c.args.server.validated; words = words_of g.R.Rng.stream c.args.server.random } in
+    let client_making : Making = record { settings = c.args.client.config.settings; windows = windows_at g.C.Controller.initial_of g.C.Controller.window_of client.control; parameters = c.deref-2.result.now; id = c.args.client.id; remote = c.args.client.remote; moment = c.args.now; validated = c.args.client.validated; words = words_of g.R.Rng.stream c.args.client.random } in
+    let server_making : Making = record { settings = c.args.server.config.settings; windows = windows_at g.C.Controller.initial_of g.C.Controller.window_of server.control; parameters = c.deref.result.now; id = c.args.server.id; remote = c.args.server.remote; moment = c.args.now; validated = c.args.server.validated; words = words_of g.R.Rng.stream c.args.server.random } in
     record {
       client_making = client_making;
       server_making = server_making;

@@ -66,7 +66,8 @@ returns-clause-answer g c =
     let more = c.put_close-size.ensures.size in
     let long : length out ≡ length front + c.put_close-size.result = omega (arith, after, before, same, more) in
     let marked = c.mark.ensures ∙ ap (λ x. mark_of x.end.path.marking) c.count_bytes.ensures ∙ ap (λ x. mark_of x.end.path.marking) c.end_close.ensures ∙ ap (λ (e : End). mark_of e.path.marking) c.put_close-size.ensures.end in
-    close_answers g.H.HeaderKey.protection g.K.PacketKey.aead g.K.PacketKey.seal_limit g.K.PacketKey.refusal_limit g.R.Rng.stream w goes front out put c.put_close-size.result c.mark.result long marked
+    let addressed = c.remote_address.ensures ∙ ap (λ x. x.end.path.remote) c.count_bytes.ensures ∙ ap (λ x. x.end.path.remote) c.end_close.ensures ∙ ap (λ (e : End). e.path.remote) c.put_close-size.ensures.end in
+    close_answers g.H.HeaderKey.protection g.K.PacketKey.aead g.K.PacketKey.seal_limit g.K.PacketKey.refusal_limit g.R.Rng.stream w goes front out put c.put_close-size.result c.mark.result c.remote_address.result long marked addressed
 
 pub returns-clause-end : goal.returns-clause-end
 returns-clause-end g c =

@@ -93,7 +93,7 @@ returns-in_default-new-clause-refusal g c = λ other. absurd (other refl)
 
 -- the end that is made, and the words of its random source that it has drawn
 begun : (g : Over) (c : goal.After-validating g)
-    → (c.validating.result.end ≡ new_end c.args.side c.args.config.now.settings (windows_at g.C.Controller.initial_of g.C.Controller.window_of c.validating.result.control) c.in-Ok.theirs c.args.own_id c.args.peer_id c.args.now c.args.validated (words_of g.R.Rng.stream c.args.random))
+    → (c.validating.result.end ≡ new_end c.args.side c.args.config.now.settings (windows_at g.C.Controller.initial_of g.C.Controller.window_of c.validating.result.control) c.in-Ok.theirs c.args.own_id c.args.peer_id c.args.remote c.args.now c.args.validated (words_of g.R.Rng.stream c.args.random))
     × (g.R.Rng.stream c.validating.result.random ≡ after_words (words_drawn c.validating.result.end) (g.R.Rng.stream c.args.random))
 begun g c =
     let stream = g.R.Rng.stream in
@@ -118,16 +118,16 @@ begun g c =
     ∙ ap (λ (f : ℕ → ℕ). record nothing_waits { new_cids = drawn_ids f (later_numbers (most_ids n)) }) words in
     let streams = c.first_streams-streams.ensures.state settings (sym c.transport-transport.ensures) in
     let asked : c.new-4.result ≡ initial_frequency (theirs.max_ack_delay * 1000000) = c.new-4.ensures ∙ ap initial_frequency c.told_ack_delay.ensures in
-    let silent = of_first_parts g.C.Controller.initial_of g.C.Controller.window_of controller c.args.side settings theirs c.args.own_id c.args.peer_id c.args.now c.args.validated (words_of stream first)
+    let silent = of_first_parts g.C.Controller.initial_of g.C.Controller.window_of controller c.args.side settings theirs c.args.own_id c.args.peer_id c.args.remote c.args.now c.args.validated (words_of stream first)
     c.new-2.result c.in-Ok-new.ids c.new-3.result c.first_filter-filter.result c.new-4.result c.default.result _ c.window-window.result c.transport-transport.result c.first_streams-streams.result.state c.new.new.pending c.new-5.result c.new-6.result
     c.new-2.ensures ids c.new-3.ensures c.first_filter-filter.ensures.value asked c.default.ensures c.window-window.ensures made c.transport-transport.ensures streams frames c.new-5.ensures c.new-6.ensures in
     let windows = windows_at g.C.Controller.initial_of g.C.Controller.window_of controller in
     let control : c.validating.result.control ≡ controller = ap (λ w. w.control) c.validating.ensures.end ∙ ap (λ p. p.congestion) made in
     let asks = c.validating.ensures.end in
     let one = c.first_filter-filter.ensures.random in (
-      is_new stream first c.args.side settings windows theirs c.args.own_id c.args.peer_id c.args.now c.args.validated _ c.validating.result asks silent r one left
-          ∙ sym (ap (λ k. new_end c.args.side settings (windows_at g.C.Controller.initial_of g.C.Controller.window_of k) theirs c.args.own_id c.args.peer_id c.args.now c.args.validated (words_of stream first)) control),
-      draws_all stream first c.args.side settings windows theirs c.args.own_id c.args.peer_id c.args.now c.args.validated _ c.validating.result asks silent r one left c.validating.ensures.random,
+      is_new stream first c.args.side settings windows theirs c.args.own_id c.args.peer_id c.args.remote c.args.now c.args.validated _ c.validating.result asks silent r one left
+          ∙ sym (ap (λ k. new_end c.args.side settings (windows_at g.C.Controller.initial_of g.C.Controller.window_of k) theirs c.args.own_id c.args.peer_id c.args.remote c.args.now c.args.validated (words_of stream first)) control),
+      draws_all stream first c.args.side settings windows theirs c.args.own_id c.args.peer_id c.args.remote c.args.now c.args.validated _ c.validating.result asks silent r one left c.validating.ensures.random,
     )
 
 pub returns-clause-random : goal.returns-clause-random

@@ -330,7 +330,8 @@ returns-clause-answer g c =
     let more = c.in_ok-size.ensures.size in
     let size : c.in_ok-size.size ≡ length datagram = omega arith in
     let mark = c.mark.ensures ∙ ap (λ x. mark_of x.end.path.marking) c.count_bytes.ensures ∙ ap (λ (e : End). mark_of e.path.marking) c.in_ok-size.ensures.end in
-    rw (size, mark) (sym (ap (λ (x : Polled). x.answer) gives))
+    let remote = c.remote_address.ensures ∙ ap (λ x. x.end.path.remote) c.count_bytes.ensures ∙ ap (λ (e : End). e.path.remote) c.in_ok-size.ensures.end in
+    rw (size, mark, remote) (sym (ap (λ (x : Polled). x.answer) gives))
 
 pub returns-clause-size : goal.returns-clause-size
 returns-clause-size g c =

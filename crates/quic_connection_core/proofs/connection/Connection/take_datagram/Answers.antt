@@ -24,28 +24,28 @@ returns-in-Failed-clause-answer g c served =
     let w = c.args.self.now in
     let last = is_last (g.K.PacketKey.refusal_limit w.keys.packet.remote) w.heard in
     let in_state = sym c.state.ensures.state ∙ c.in-Failed.is in
-    drops_answer g.H.HeaderKey.protection g.K.PacketKey.aead g.K.PacketKey.seal_limit g.K.PacketKey.refusal_limit g.R.Rng.stream g.C.Controller.steps w c.args.now c.args.ecn last c.args.datagram.now states.Failed drops.Failed (λ q e arrival. refl) (λ q e. refl) in_state
+    drops_answer g.H.HeaderKey.protection g.K.PacketKey.aead g.K.PacketKey.seal_limit g.K.PacketKey.refusal_limit g.R.Rng.stream g.C.Controller.steps w c.args.now c.args.remote c.args.ecn last c.args.datagram.now states.Failed drops.Failed (λ q e arrival. refl) (λ q e. refl) in_state
 
 pub returns-in-Failed-clause-end : goal.returns-in-Failed-clause-end
 returns-in-Failed-clause-end g c served =
     let w = c.args.self.now in
     let last = is_last (g.K.PacketKey.refusal_limit w.keys.packet.remote) w.heard in
     let in_state = sym c.state.ensures.state ∙ c.in-Failed.is in
-    drops_end g.H.HeaderKey.protection g.K.PacketKey.aead g.K.PacketKey.seal_limit g.K.PacketKey.refusal_limit g.R.Rng.stream g.C.Controller.steps w c.args.now c.args.ecn last c.args.datagram.now states.Failed drops.Failed (λ q e arrival. refl) (λ q e. refl) in_state refl
+    drops_end g.H.HeaderKey.protection g.K.PacketKey.aead g.K.PacketKey.seal_limit g.K.PacketKey.refusal_limit g.R.Rng.stream g.C.Controller.steps w c.args.now c.args.remote c.args.ecn last c.args.datagram.now states.Failed drops.Failed (λ q e arrival. refl) (λ q e. refl) in_state refl
 
 pub returns-in-Drained-clause-answer : goal.returns-in-Drained-clause-answer
 returns-in-Drained-clause-answer g c served =
     let w = c.args.self.now in
     let last = is_last (g.K.PacketKey.refusal_limit w.keys.packet.remote) w.heard in
     let in_state = sym c.state.ensures.state ∙ c.in-Drained.is in
-    drops_answer g.H.HeaderKey.protection g.K.PacketKey.aead g.K.PacketKey.seal_limit g.K.PacketKey.refusal_limit g.R.Rng.stream g.C.Controller.steps w c.args.now c.args.ecn last c.args.datagram.now states.Drained drops.Drained (λ q e arrival. refl) (λ q e. refl) in_state
+    drops_answer g.H.HeaderKey.protection g.K.PacketKey.aead g.K.PacketKey.seal_limit g.K.PacketKey.refusal_limit g.R.Rng.stream g.C.Controller.steps w c.args.now c.args.remote c.args.ecn last c.args.datagram.now states.Drained drops.Drained (λ q e arrival. refl) (λ q e. refl) in_state
 
 pub returns-in-Drained-clause-end : goal.returns-in-Drained-clause-end
 returns-in-Drained-clause-end g c served =
     let w = c.args.self.now in
     let last = is_last (g.K.PacketKey.refusal_limit w.keys.packet.remote) w.heard in
     let in_state = sym c.state.ensures.state ∙ c.in-Drained.is in
-    drops_end g.H.HeaderKey.protection g.K.PacketKey.aead g.K.PacketKey.seal_limit g.K.PacketKey.refusal_limit g.R.Rng.stream g.C.Controller.steps w c.args.now c.args.ecn last c.args.datagram.now states.Drained drops.Drained (λ q e arrival. refl) (λ q e. refl) in_state refl
+    drops_end g.H.HeaderKey.protection g.K.PacketKey.aead g.K.PacketKey.seal_limit g.K.PacketKey.refusal_limit g.R.Rng.stream g.C.Controller.steps w c.args.now c.args.remote c.args.ecn last c.args.datagram.now states.Drained drops.Drained (λ q e arrival. refl) (λ q e. refl) in_state refl
 
 -- ---- a header that can't be read, or names no own id
 
@@ -55,7 +55,7 @@ returns-in-Err-clause-answer g c served =
     let last = is_last (g.K.PacketKey.refusal_limit w.keys.packet.remote) w.heard in
     let takes = takes_as c.state.result w.end.closing.state c.state.ensures.state c.in-Open.is in
     let headed = sym c.destination_of.ensures.decoded ∙ c.in-Err.is in
-    heads_answer g.H.HeaderKey.protection g.K.PacketKey.aead g.K.PacketKey.seal_limit g.K.PacketKey.refusal_limit g.R.Rng.stream g.C.Controller.steps w c.args.now c.args.ecn last c.args.datagram.now takes c.in-Err.error headed c.drop_reason.result c.drop_reason.ensures
+    heads_answer g.H.HeaderKey.protection g.K.PacketKey.aead g.K.PacketKey.seal_limit g.K.PacketKey.refusal_limit g.R.Rng.stream g.C.Controller.steps w c.args.now c.args.remote c.args.ecn last c.args.datagram.now takes c.in-Err.error headed c.drop_reason.result c.drop_reason.ensures
 
 pub returns-in-Err-clause-end : goal.returns-in-Err-clause-end
 returns-in-Err-clause-end g c served =
@@ -63,7 +63,7 @@ returns-in-Err-clause-end g c served =
     let last = is_last (g.K.PacketKey.refusal_limit w.keys.packet.remote) w.heard in
     let takes = takes_as c.state.result w.end.closing.state c.state.ensures.state c.in-Open.is in
     let headed = sym c.destination_of.ensures.decoded ∙ c.in-Err.is in
-    heads_end g.H.HeaderKey.protection g.K.PacketKey.aead g.K.PacketKey.seal_limit g.K.PacketKey.refusal_limit g.R.Rng.stream g.C.Controller.steps w c.args.now c.args.ecn last c.args.datagram.now takes c.in-Err.error headed c.drop_reason.result c.drop_reason.ensures
+    heads_end g.H.HeaderKey.protection g.K.PacketKey.aead g.K.PacketKey.seal_limit g.K.PacketKey.refusal_limit g.R.Rng.stream g.C.Controller.steps w c.args.now c.args.remote c.args.ecn last c.args.datagram.now takes c.in-Err.error headed c.drop_reason.result c.drop_reason.ensures
 
 -- ---- a packet that doesn't open
 
@@ -75,7 +75,7 @@ returns-in_default-unprotect-clause-answer g c served =
     let id = c.in_default.field-0 in
     let headed = sym c.destination_of.ensures.decoded ∙ c.in_default.is in
     let none = c.in_default-unprotect.ensures.opened in
-    c.refuse_packet.ensures.answer ∙ refuses_answer g.H.HeaderKey.protection g.K.PacketKey.aead g.K.PacketKey.seal_limit g.K.PacketKey.refusal_limit g.R.Rng.stream g.C.Controller.steps w c.args.now c.args.ecn last c.args.datagram.now takes id headed none None
+    c.refuse_packet.ensures.answer ∙ refuses_answer g.H.HeaderKey.protection g.K.PacketKey.aead g.K.PacketKey.seal_limit g.K.PacketKey.refusal_limit g.R.Rng.stream g.C.Controller.steps w c.args.now c.args.remote c.args.ecn last c.args.datagram.now takes id headed none 0 None
 
 pub returns-in_default-unprotect-clause-end : goal.returns-in_default-unprotect-clause-end
 returns-in_default-unprotect-clause-end g c served =
@@ -85,7 +85,7 @@ returns-in_default-unprotect-clause-end g c served =
     let id = c.in_default.field-0 in
     let headed = sym c.destination_of.ensures.decoded ∙ c.in_default.is in
     let none = c.in_default-unprotect.ensures.opened in
-    refuses_end g.H.HeaderKey.protection g.K.PacketKey.aead g.K.PacketKey.seal_limit g.K.PacketKey.refusal_limit g.R.Rng.stream g.C.Controller.steps w c.args.now c.args.ecn last c.args.datagram.now takes id headed none None c.refuse_packet.result c.refuse_packet.new.self c.refuse_packet.ensures.end
+    refuses_end g.H.HeaderKey.protection g.K.PacketKey.aead g.K.PacketKey.seal_limit g.K.PacketKey.refusal_limit g.R.Rng.stream g.C.Controller.steps w c.args.now c.args.remote c.args.ecn last c.args.datagram.now takes id headed none 0 None c.refuse_packet.result c.refuse_packet.new.self c.refuse_packet.ensures.end
 
 pub returns-in_default-unprotect-clause-random : goal.returns-in_default-unprotect-clause-random
 returns-in_default-unprotect-clause-random g c served =
@@ -95,31 +95,31 @@ returns-in_default-unprotect-clause-random g c served =
     let id = c.in_default.field-0 in
     let headed = sym c.destination_of.ensures.decoded ∙ c.in_default.is in
     let none = c.in_default-unprotect.ensures.opened in
-    refuses_random g.H.HeaderKey.protection g.K.PacketKey.aead g.K.PacketKey.seal_limit g.K.PacketKey.refusal_limit g.R.Rng.stream g.C.Controller.steps w c.args.now c.args.ecn last c.args.datagram.now takes id headed none None c.refuse_packet.result c.refuse_packet.new.self c.refuse_packet.ensures.end
+    refuses_random g.H.HeaderKey.protection g.K.PacketKey.aead g.K.PacketKey.seal_limit g.K.PacketKey.refusal_limit g.R.Rng.stream g.C.Controller.steps w c.args.now c.args.remote c.args.ecn last c.args.datagram.now takes id headed none 0 None c.refuse_packet.result c.refuse_packet.new.self c.refuse_packet.ensures.end
 
 pub returns-in_default-unprotect-clause-failed : goal.returns-in_default-unprotect-clause-failed
 returns-in_default-unprotect-clause-failed g c failed =
     let w = c.args.self.now in
     let last = is_last (g.K.PacketKey.refusal_limit w.keys.packet.remote) w.heard in
-    absurd (unopened_serves w.end.closing.state last (arriving c.args.now None last) w.end (sym c.refuse_packet.ensures.answer ∙ failed))
+    absurd (unopened_serves w.end.closing.state last (arriving c.args.now 0 None last) w.end (sym c.refuse_packet.ensures.answer ∙ failed))
 
 pub returns-in_default-unprotect-clause-before : goal.returns-in_default-unprotect-clause-before
 returns-in_default-unprotect-clause-before g c failed state =
     let w = c.args.self.now in
     let last = is_last (g.K.PacketKey.refusal_limit w.keys.packet.remote) w.heard in
-    absurd (unopened_serves w.end.closing.state last (arriving c.args.now None last) w.end (sym c.refuse_packet.ensures.answer ∙ failed))
+    absurd (unopened_serves w.end.closing.state last (arriving c.args.now 0 None last) w.end (sym c.refuse_packet.ensures.answer ∙ failed))
 
 pub returns-in_default-unprotect-clause-stopped : goal.returns-in_default-unprotect-clause-stopped
 returns-in_default-unprotect-clause-stopped g c failed =
     let w = c.args.self.now in
     let last = is_last (g.K.PacketKey.refusal_limit w.keys.packet.remote) w.heard in
-    absurd (unopened_serves w.end.closing.state last (arriving c.args.now None last) w.end (sym c.refuse_packet.ensures.answer ∙ failed))
+    absurd (unopened_serves w.end.closing.state last (arriving c.args.now 0 None last) w.end (sym c.refuse_packet.ensures.answer ∙ failed))
 
 pub returns-in_default-unprotect-clause-lacking : goal.returns-in_default-unprotect-clause-lacking
 returns-in_default-unprotect-clause-lacking g c failed =
     let w = c.args.self.now in
     let last = is_last (g.K.PacketKey.refusal_limit w.keys.packet.remote) w.heard in
-    absurd (unopened_serves w.end.closing.state last (arriving c.args.now None last) w.end (sym c.refuse_packet.ensures.answer ∙ failed))
+    absurd (unopened_serves w.end.closing.state last (arriving c.args.now 0 None last) w.end (sym c.refuse_packet.ensures.answer ∙ failed))
 
 -- ---- a packet that opens, of which no frames were taken
 
@@ -133,7 +133,7 @@ returns-then-not-is_read-clause-answer g c served =
     let opens = c.in-Ok.ensures.opened in
     let x = c.take_opened-received.new.self in
     let a = c.take_opened-received.result in
-    c.take_opened-received.ensures.answer served ∙ opened_answer g.H.HeaderKey.protection g.K.PacketKey.aead g.K.PacketKey.seal_limit g.K.PacketKey.refusal_limit g.R.Rng.stream g.C.Controller.steps w c.args.now c.args.ecn last c.args.datagram.now takes id headed _ opens
+    c.take_opened-received.ensures.answer served ∙ opened_answer g.H.HeaderKey.protection g.K.PacketKey.aead g.K.PacketKey.seal_limit g.K.PacketKey.refusal_limit g.R.Rng.stream g.C.Controller.steps w c.args.now c.args.remote c.args.ecn last c.args.datagram.now takes id headed _ opens
 
 pub returns-then-not-is_read-clause-end : goal.returns-then-not-is_read-clause-end
 returns-then-not-is_read-clause-end g c served =
@@ -146,7 +146,7 @@ returns-then-not-is_read-clause-end g c served =
     let x = c.take_opened-received.new.self in
     let a = c.take_opened-received.result in
     let unread = sym c.is_read.ensures ∙ c.if-not-is_read.true in
-    unread_end g.H.HeaderKey.protection g.K.PacketKey.aead g.K.PacketKey.seal_limit g.K.PacketKey.refusal_limit g.R.Rng.stream g.C.Controller.steps w c.args.now c.args.ecn last c.args.datagram.now takes id headed _ opens a (c.take_opened-received.ensures.answer served) x (c.take_opened-received.ensures.end served) unread
+    unread_end g.H.HeaderKey.protection g.K.PacketKey.aead g.K.PacketKey.seal_limit g.K.PacketKey.refusal_limit g.R.Rng.stream g.C.Controller.steps w c.args.now c.args.remote c.args.ecn last c.args.datagram.now takes id headed _ opens a (c.take_opened-received.ensures.answer served) x (c.take_opened-received.ensures.end served) unread
 
 pub returns-then-not-is_read-clause-random : goal.returns-then-not-is_read-clause-random
 returns-then-not-is_read-clause-random g c served =
@@ -159,7 +159,7 @@ returns-then-not-is_read-clause-random g c served =
     let x = c.take_opened-received.new.self in
     let a = c.take_opened-received.result in
     let unread = sym c.is_read.ensures ∙ c.if-not-is_read.true in
-    unread_random g.H.HeaderKey.protection g.K.PacketKey.aead g.K.PacketKey.seal_limit g.K.PacketKey.refusal_limit g.R.Rng.stream g.C.Controller.steps w c.args.now c.args.ecn last c.args.datagram.now takes id headed _ opens a (c.take_opened-received.ensures.answer served) x (c.take_opened-received.ensures.end served) unread
+    unread_random g.H.HeaderKey.protection g.K.PacketKey.aead g.K.PacketKey.seal_limit g.K.PacketKey.refusal_limit g.R.Rng.stream g.C.Controller.steps w c.args.now c.args.remote c.args.ecn last c.args.datagram.now takes id headed _ opens a (c.take_opened-received.ensures.answer served) x (c.take_opened-received.ensures.end served) unread
 
 pub returns-then-not-is_read-clause-before : goal.returns-then-not-is_read-clause-before
 returns-then-not-is_read-clause-before g c failed =
@@ -176,7 +176,7 @@ returns-then-not-is_read-clause-lacking g c failed =
     let id = c.in_default.field-0 in
     let headed = sym c.destination_of.ensures.decoded ∙ c.in_default.is in
     let opens = c.in-Ok.ensures.opened in
-    opened_lacks (policy_of g.H.HeaderKey.protection g.K.PacketKey.aead g.K.PacketKey.seal_limit g.K.PacketKey.refusal_limit (words_of g.R.Rng.stream) w) w.end c.args.now c.args.ecn c.args.datagram.now takes id headed _ opens (c.take_opened-received.ensures.lacking failed)
+    opened_lacks (policy_of g.H.HeaderKey.protection g.K.PacketKey.aead g.K.PacketKey.seal_limit g.K.PacketKey.refusal_limit (words_of g.R.Rng.stream) w) w.end c.args.now c.args.remote c.args.ecn c.args.datagram.now takes id headed _ opens (c.take_opened-received.ensures.lacking failed)
 
 -- ---- one whose frames were taken: ids are drawn behind them
 
@@ -192,7 +192,7 @@ returns-clause-answer g c served =
     let a = c.take_opened-received.result in
     let reads = sym c.is_read.ensures ∙ c.if-not-is_read.false in
     let kept = read_serves a reads in
-    c.take_opened-received.ensures.answer kept ∙ opened_answer g.H.HeaderKey.protection g.K.PacketKey.aead g.K.PacketKey.seal_limit g.K.PacketKey.refusal_limit g.R.Rng.stream g.C.Controller.steps w c.args.now c.args.ecn last c.args.datagram.now takes id headed _ opens
+    c.take_opened-received.ensures.answer kept ∙ opened_answer g.H.HeaderKey.protection g.K.PacketKey.aead g.K.PacketKey.seal_limit g.K.PacketKey.refusal_limit g.R.Rng.stream g.C.Controller.steps w c.args.now c.args.remote c.args.ecn last c.args.datagram.now takes id headed _ opens
 
 pub returns-clause-end : goal.returns-clause-end
 returns-clause-end g c served =
@@ -206,7 +206,7 @@ returns-clause-end g c served =
     let a = c.take_opened-received.result in
     let reads = sym c.is_read.ensures ∙ c.if-not-is_read.false in
     let kept = read_serves a reads in
-    read_end g.H.HeaderKey.protection g.K.PacketKey.aead g.K.PacketKey.seal_limit g.K.PacketKey.refusal_limit g.R.Rng.stream g.C.Controller.steps w c.args.now c.args.ecn last c.args.datagram.now takes id headed _ opens a (c.take_opened-received.ensures.answer kept) x (c.take_opened-received.ensures.end kept) reads c.draw_ids.new.self c.draw_ids.ensures.end
+    read_end g.H.HeaderKey.protection g.K.PacketKey.aead g.K.PacketKey.seal_limit g.K.PacketKey.refusal_limit g.R.Rng.stream g.C.Controller.steps w c.args.now c.args.remote c.args.ecn last c.args.datagram.now takes id headed _ opens a (c.take_opened-received.ensures.answer kept) x (c.take_opened-received.ensures.end kept) reads c.draw_ids.new.self c.draw_ids.ensures.end
 
 pub returns-clause-random : goal.returns-clause-random
 returns-clause-random g c served =
@@ -220,7 +220,7 @@ returns-clause-random g c served =
     let a = c.take_opened-received.result in
     let reads = sym c.is_read.ensures ∙ c.if-not-is_read.false in
     let kept = read_serves a reads in
-    read_random g.H.HeaderKey.protection g.K.PacketKey.aead g.K.PacketKey.seal_limit g.K.PacketKey.refusal_limit g.R.Rng.stream g.C.Controller.steps w c.args.now c.args.ecn last c.args.datagram.now takes id headed _ opens a (c.take_opened-received.ensures.answer kept) x (c.take_opened-received.ensures.end kept) reads c.draw_ids.new.self c.draw_ids.ensures.random
+    read_random g.H.HeaderKey.protection g.K.PacketKey.aead g.K.PacketKey.seal_limit g.K.PacketKey.refusal_limit g.R.Rng.stream g.C.Controller.steps w c.args.now c.args.remote c.args.ecn last c.args.datagram.now takes id headed _ opens a (c.take_opened-received.ensures.answer kept) x (c.take_opened-received.ensures.end kept) reads c.draw_ids.new.self c.draw_ids.ensures.random
 
 pub returns-clause-failed : goal.returns-clause-failed
 returns-clause-failed g c failed =
