@@ -9,7 +9,8 @@ use Rattle.std.proofs.lemmas.Bool.{ltb-true, lt-ltb}
 use Rattle.std.proofs.lemmas.Str.{IsUtf8-from_is_utf8}
 use Rattle.std.proofs.lemmas.Str.Parse.{IsNumeralModel, numerals_by_value, tells_all_ascii_digits}
 use Rattle.quic_wire_core.specs.declared.stream_id.Side.{Side}
-use Rattle.quic_lines.specs.Language.{words, ends, first, one, number_named, command_said, end_said, words_said, is_skipped, said}
+use Rattle.quic_lines.specs.declared.script.LineError.TheVariants.{BadCommand}
+use Rattle.quic_lines.specs.Language.{words, ends, first, one, within, number_named, command_said, end_said, words_said, is_skipped, said, Reads}
 
 -- a blank
 abbrev is_blank : ℕ → Bool
@@ -80,6 +81,13 @@ one-read {A} make f e (w ∷ []) a h = go (f w) h
     go None h = absurd cc
     go (Some b) h = let same : b ≡ a = cc in rw same refl
 one-read make f e (w ∷ v ∷ vs) a h = refl
+
+-- what is made of it is there where that is, and no words are left
+pub read-within : {A : Type 0} (o : Option A) (left : List (List ℕ)) (whole : Option A) → whole ≡ within (ends left (Some o)) → Reads (ok_or o BadCommand) (λ a. a) whole left
+read-within None [] whole h = h
+read-within None (w ∷ ws) whole h = h
+read-within (Some a) [] whole h = h
+read-within (Some a) (w ∷ ws) whole h = h
 
 -- a line of text that is neither too long nor skipped asks for what its words do
 pub said-words : (line : List ℕ) → nat_lt 1048576 (length line) ≡ false → is_skipped line ≡ false → is_utf8 line ≡ true → said line ≡ words_said (words line)

@@ -16,6 +16,8 @@ use Rattle.quic_lines.specs.declared.script.Line.{Line}
 use Rattle.quic_lines.specs.declared.script.Line.TheVariants as lines
 use Rattle.quic_lines.specs.declared.script.LineError.{LineError}
 use Rattle.quic_lines.specs.declared.script.LineError.TheVariants.{BadCommand, OutOfMemory}
+use Rattle.quic_lines.specs.declared.script.CallName.{CallName}
+use Rattle.quic_lines.specs.declared.script.CallName.TheVariants as names
 use Rattle.quic_lines.specs.declared.script.Setting.{Setting}
 use Rattle.quic_lines.specs.declared.script.Setting.TheVariants.{ReceiveWindow, StreamWindow, SendWindow, Bidi, Uni, Idle, Messages, Search, SealLimit, OpenLimit, Validated, Word, Pcg}
 use Rattle.quic_lines.specs.Named.{side_named, dir_named, mark_named, timer_named, bytes_named}
@@ -103,10 +105,6 @@ abbrev pub switch_in : Option ℕ → Option Bool
 switch_in None = None
 switch_in (Some n) = if n == 0 then Some false else (if n == 1 then Some true else None)
 
--- what a word switches
-abbrev pub switch_named : List ℕ → Option Bool
-switch_named word = switch_in (number_named word)
-
 -- a priority, below 2^31
 abbrev pub priority_in : Option ℕ → Option ℤ
 priority_in None = None
@@ -150,25 +148,34 @@ three make f g h (v ∷ w ∷ []) = None
 three make f g h (v ∷ w ∷ x ∷ []) = both (λ m c. m c) (both make (f v) (g w)) (h x)
 three make f g h (v ∷ w ∷ x ∷ y ∷ ws) = None
 
+-- what there is within another, if it is there
+abbrev pub within : {A : Type 0} → Option (Option A) → Option A
+within None = None
+within (Some whole) = whole
+
 -- ---- lines
 
--- the option that these words set
-abbrev pub setting_said : List ℕ → List (List ℕ) → Option Setting
-setting_said name args =
-    if is_word name (codes "receive_window") then one ReceiveWindow varint_named args
-    else (if is_word name (codes "stream_window") then one StreamWindow varint_named args
-    else (if is_word name (codes "send_window") then one SendWindow number_named args
-    else (if is_word name (codes "bidi") then one Bidi varint_named args
-    else (if is_word name (codes "uni") then one Uni varint_named args
-    else (if is_word name (codes "idle") then one Idle varint_named args
-    else (if is_word name (codes "messages") then one Messages number_named args
-    else (if is_word name (codes "search") then one Search switch_named args
-    else (if is_word name (codes "seal_limit") then one SealLimit number_named args
-    else (if is_word name (codes "open_limit") then one OpenLimit number_named args
-    else (if is_word name (codes "validated") then one Validated switch_named args
-    else (if is_word name (codes "word") then one Word number_named args
-    else (if is_word name (codes "pcg") then one Pcg number_named args
+-- the option of this name, set to this number
+abbrev pub setting_with : List ℕ → ℕ → Option Setting
+setting_with name n =
+    if is_word name (codes "receive_window") then option_map ReceiveWindow (varint_of n)
+    else (if is_word name (codes "stream_window") then option_map StreamWindow (varint_of n)
+    else (if is_word name (codes "send_window") then Some (SendWindow n)
+    else (if is_word name (codes "bidi") then option_map Bidi (varint_of n)
+    else (if is_word name (codes "uni") then option_map Uni (varint_of n)
+    else (if is_word name (codes "idle") then option_map Idle (varint_of n)
+    else (if is_word name (codes "messages") then Some (Messages n)
+    else (if is_word name (codes "search") then option_map Search (switch_in (Some n))
+    else (if is_word name (codes "seal_limit") then Some (SealLimit n)
+    else (if is_word name (codes "open_limit") then Some (OpenLimit n)
+    else (if is_word name (codes "validated") then option_map Validated (switch_in (Some n))
+    else (if is_word name (codes "word") then Some (Word n)
+    else (if is_word name (codes "pcg") then Some (Pcg n)
     else None))))))))))))
+
+-- the option that these words set: one word behind its name, a number
+abbrev pub setting_said : List ℕ → List (List ℕ) → Option Setting
+setting_said name args = within (one (setting_with name) number_named args)
 
 -- the same, where there is a name
 abbrev pub settings_said : List (List ℕ) → Option Setting
@@ -180,32 +187,66 @@ abbrev pub reading : Bool → ℕ → ℕ → Asked
 reading true = reads
 reading false = picks
 
+-- which call has this name
+abbrev pub call_named : List ℕ → Option CallName
+call_named name =
+    if is_word name (codes "open") then Some names.Open
+    else (if is_word name (codes "accept") then Some names.Accept
+    else (if is_word name (codes "write") then Some names.Write
+    else (if is_word name (codes "finish") then Some names.Finish
+    else (if is_word name (codes "reset") then Some names.Reset
+    else (if is_word name (codes "priority") then Some names.Priority
+    else (if is_word name (codes "read") then Some names.Read
+    else (if is_word name (codes "pick") then Some names.Pick
+    else (if is_word name (codes "stop") then Some names.Stop
+    else (if is_word name (codes "send") then Some names.Send
+    else (if is_word name (codes "recv") then Some names.Recv
+    else (if is_word name (codes "ping") then Some names.Ping
+    else (if is_word name (codes "close") then Some names.Close
+    else (if is_word name (codes "use_next_id") then Some names.UseNextId
+    else (if is_word name (codes "poll") then Some names.Poll
+    else (if is_word name (codes "timeout") then Some names.Timeout
+    else (if is_word name (codes "deliver") then Some names.Deliver
+    else (if is_word name (codes "inject") then Some names.Inject
+    else (if is_word name (codes "event") then Some names.Event
+    else (if is_word name (codes "timer") then Some names.Timer
+    else (if is_word name (codes "next") then Some names.Next
+    else (if is_word name (codes "state") then Some names.State
+    else None)))))))))))))))))))))
+
+-- what the words behind this name ask for
+abbrev pub asked_by : CallName → List (List ℕ) → Option Asked
+asked_by names.Open args = one opens dir_named args
+asked_by names.Accept args = one accepts dir_named args
+asked_by names.Write args = two writes varint_named bytes_named args
+asked_by names.Finish args = one finishes varint_named args
+asked_by names.Reset args = two resets varint_named varint_named args
+asked_by names.Priority args = two sets_priority varint_named priority_named args
+asked_by names.Read args = two (reading true) varint_named number_named args
+asked_by names.Pick args = two (reading false) varint_named number_named args
+asked_by names.Stop args = two stops varint_named varint_named args
+asked_by names.Send args = one sends bytes_named args
+asked_by names.Recv args = ends args (Some reads_message)
+asked_by names.Ping args = ends args (Some pings)
+asked_by names.Close args = three closes number_named varint_named bytes_named args
+asked_by names.UseNextId args = ends args (Some uses_next_id)
+asked_by names.Poll args = one polls number_named args
+asked_by names.Timeout args = one times_out number_named args
+asked_by names.Deliver args = three delivers number_named mark_named number_named args
+asked_by names.Inject args = three injects number_named mark_named bytes_named args
+asked_by names.Event args = ends args (Some asks_event)
+asked_by names.Timer args = one asks_timer timer_named args
+asked_by names.Next args = ends args (Some asks_next)
+asked_by names.State args = ends args (Some asks_state)
+
+-- the same, where there is such a name
+abbrev pub asked_as : Option CallName → List (List ℕ) → Option Asked
+asked_as None args = None
+asked_as (Some name) args = asked_by name args
+
 -- the call that these words ask for
 abbrev pub call_said : List ℕ → List (List ℕ) → Option Asked
-call_said name args =
-    if is_word name (codes "open") then one opens dir_named args
-    else (if is_word name (codes "accept") then one accepts dir_named args
-    else (if is_word name (codes "write") then two writes varint_named bytes_named args
-    else (if is_word name (codes "finish") then one finishes varint_named args
-    else (if is_word name (codes "reset") then two resets varint_named varint_named args
-    else (if is_word name (codes "priority") then two sets_priority varint_named priority_named args
-    else (if is_word name (codes "read") then two (reading true) varint_named number_named args
-    else (if is_word name (codes "pick") then two (reading false) varint_named number_named args
-    else (if is_word name (codes "stop") then two stops varint_named varint_named args
-    else (if is_word name (codes "send") then one sends bytes_named args
-    else (if is_word name (codes "recv") then ends args (Some reads_message)
-    else (if is_word name (codes "ping") then ends args (Some pings)
-    else (if is_word name (codes "close") then three closes number_named varint_named bytes_named args
-    else (if is_word name (codes "use_next_id") then ends args (Some uses_next_id)
-    else (if is_word name (codes "poll") then one polls number_named args
-    else (if is_word name (codes "timeout") then one times_out number_named args
-    else (if is_word name (codes "deliver") then three delivers number_named mark_named number_named args
-    else (if is_word name (codes "inject") then three injects number_named mark_named bytes_named args
-    else (if is_word name (codes "event") then ends args (Some asks_event)
-    else (if is_word name (codes "timer") then one asks_timer timer_named args
-    else (if is_word name (codes "next") then ends args (Some asks_next)
-    else (if is_word name (codes "state") then ends args (Some asks_state)
-    else None)))))))))))))))))))))
+call_said name args = asked_as (call_named name) args
 
 -- what the words behind an end's ask for
 abbrev pub command_said : Side → List ℕ → List (List ℕ) → Option Command

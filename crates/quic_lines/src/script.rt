@@ -6,7 +6,7 @@ ghost use Rattle.std.specs.Option.{SomeIff};
 ghost use Rattle.std.specs.Str.Parse.{IsNumeral, digits_value};
 ghost use Rattle.quic_lines.specs.Refusals.{line_error, script_error};
 ghost use Rattle.quic_lines.specs.Named.{side_named, dir_named, mark_named, timer_named, bytes_named};
-ghost use Rattle.quic_lines.specs.Language.{number_named, varint_named, switch_in, switch_named, priority_named, first, two, three, reading, resets, stops, closes, delivers, injects, words_left, setting_said, settings_said, call_said, command_said, end_said, words_said, is_skipped, said, command_of, asked_of, asked_read, Reads, words as words_of};
+ghost use Rattle.quic_lines.specs.Language.{number_named, varint_named, switch_in, priority_named, first, two, three, reading, resets, stops, closes, delivers, injects, words_left, setting_with, setting_said, settings_said, call_named, asked_by, call_said, command_said, end_said, words_said, is_skipped, said, command_of, asked_of, asked_read, Reads, words as words_of};
 
 use crate::error::ScriptError;
 use bytes::Bytes;
@@ -66,6 +66,33 @@ pub enum Setting {
     Word(u64),
     /// The seed of the generator whose words the end is given.
     Pcg(u64),
+}
+
+/// Which call a line is of, by its name.
+#[derive(Clone, Copy)]
+enum CallName {
+    Open,
+    Accept,
+    Write,
+    Finish,
+    Reset,
+    Priority,
+    Read,
+    Pick,
+    Stop,
+    Send,
+    Recv,
+    Ping,
+    Close,
+    UseNextId,
+    Poll,
+    Timeout,
+    Deliver,
+    Inject,
+    Event,
+    Timer,
+    Next,
+    State,
 }
 
 /// Why a line can't be run.
@@ -159,13 +186,6 @@ impl<'a> LineWords<'a> {
         ensures rest { words_left self.new.rest ≡ drop 1 (words_left self.old.rest) }
     {
         VarInt::from_u64(self.number()?).map_err(|_| LineError::BadCommand)
-    }
-
-    fn switch(&mut self) -> Result<bool, LineError>
-        ensures answer { result ≡ ok_or (first switch_named (words_left self.old.rest)) LineError.BadCommand }
-        ensures rest { words_left self.new.rest ≡ drop 1 (words_left self.old.rest) }
-    {
-        switch_of(self.number()?).ok_or(LineError::BadCommand)
     }
 
     fn priority(&mut self) -> Result<i32, LineError>
@@ -407,21 +427,90 @@ fn bytes_of(alloc: Global, word: &str) -> Result<Vec<u8>, LineError>
 fn setting_of(name: &str, words: &mut LineWords) -> Result<Setting, LineError>
     ensures { Reads result (λ setting. setting) (setting_said name.now (words_left words.old.rest)) (words_left words.new.rest) }
 {
+    let value = words.number()?;
+    setting_with(name, value).ok_or(LineError::BadCommand)
+}
+
+/// The option of this name, set to this number.
+fn setting_with(name: &str, value: u64) -> Option<Setting>
+    ensures { result ≡ setting_with name.now value }
+{
     match name {
-        "receive_window" => Ok(Setting::ReceiveWindow(words.varint()?)),
-        "stream_window" => Ok(Setting::StreamWindow(words.varint()?)),
-        "send_window" => Ok(Setting::SendWindow(words.number()?)),
-        "bidi" => Ok(Setting::Bidi(words.varint()?)),
-        "uni" => Ok(Setting::Uni(words.varint()?)),
-        "idle" => Ok(Setting::Idle(words.varint()?)),
-        "messages" => Ok(Setting::Messages(words.index()?)),
-        "search" => Ok(Setting::Search(words.switch()?)),
-        "seal_limit" => Ok(Setting::SealLimit(words.number()?)),
-        "open_limit" => Ok(Setting::OpenLimit(words.number()?)),
-        "validated" => Ok(Setting::Validated(words.switch()?)),
-        "word" => Ok(Setting::Word(words.number()?)),
-        "pcg" => Ok(Setting::Pcg(words.number()?)),
-        _ => Err(LineError::BadCommand),
+        "receive_window" => VarInt::from_u64(value).ok().map(Setting::ReceiveWindow),
+        "stream_window" => VarInt::from_u64(value).ok().map(Setting::StreamWindow),
+        "send_window" => Some(Setting::SendWindow(value)),
+        "bidi" => VarInt::from_u64(value).ok().map(Setting::Bidi),
+        "uni" => VarInt::from_u64(value).ok().map(Setting::Uni),
+        "idle" => VarInt::from_u64(value).ok().map(Setting::Idle),
+        "messages" => Some(Setting::Messages(value as usize)),
+        "search" => switch_of(value).map(Setting::Search),
+        "seal_limit" => Some(Setting::SealLimit(value)),
+        "open_limit" => Some(Setting::OpenLimit(value)),
+        "validated" => switch_of(value).map(Setting::Validated),
+        "word" => Some(Setting::Word(value)),
+        "pcg" => Some(Setting::Pcg(value)),
+        _ => None,
+    }
+}
+
+/// Which call has this name.
+fn call_named(name: &str) -> Option<CallName>
+    ensures { result ≡ call_named name.now }
+{
+    match name {
+        "open" => Some(CallName::Open),
+        "accept" => Some(CallName::Accept),
+        "write" => Some(CallName::Write),
+        "finish" => Some(CallName::Finish),
+        "reset" => Some(CallName::Reset),
+        "priority" => Some(CallName::Priority),
+        "read" => Some(CallName::Read),
+        "pick" => Some(CallName::Pick),
+        "stop" => Some(CallName::Stop),
+        "send" => Some(CallName::Send),
+        "recv" => Some(CallName::Recv),
+        "ping" => Some(CallName::Ping),
+        "close" => Some(CallName::Close),
+        "use_next_id" => Some(CallName::UseNextId),
+        "poll" => Some(CallName::Poll),
+        "timeout" => Some(CallName::Timeout),
+        "deliver" => Some(CallName::Deliver),
+        "inject" => Some(CallName::Inject),
+        "event" => Some(CallName::Event),
+        "timer" => Some(CallName::Timer),
+        "next" => Some(CallName::Next),
+        "state" => Some(CallName::State),
+        _ => None,
+    }
+}
+
+/// The call of this name, with what the words behind it name.
+fn call_by(alloc: Global, name: CallName, words: &mut LineWords) -> Result<Call, LineError>
+    ensures { Reads result asked_of (asked_by name (words_left words.old.rest)) (words_left words.new.rest) }
+{
+    match name {
+        CallName::Open => words.dir().map(Call::Open),
+        CallName::Accept => words.dir().map(Call::Accept),
+        CallName::Write => Ok(Call::Write(words.stream_id()?, words.bytes(alloc)?)),
+        CallName::Finish => words.stream_id().map(Call::Finish),
+        CallName::Reset => Ok(Call::Reset(words.stream_id()?, words.varint()?)),
+        CallName::Priority => Ok(Call::SetPriority(words.stream_id()?, words.priority()?)),
+        CallName::Read => words.read_call(alloc, true).map(Call::Read),
+        CallName::Pick => words.read_call(alloc, false).map(Call::Read),
+        CallName::Stop => Ok(Call::Stop(words.stream_id()?, words.varint()?)),
+        CallName::Send => Ok(Call::Send(words.bytes(alloc)?, false)),
+        CallName::Recv => Ok(Call::Recv),
+        CallName::Ping => Ok(Call::Ping),
+        CallName::Close => words.close_call(alloc).map(Call::Close),
+        CallName::UseNextId => Ok(Call::UseNextId),
+        CallName::Poll => words.moment().map(Call::Poll),
+        CallName::Timeout => words.moment().map(Call::Timeout),
+        CallName::Deliver => words.delivery().map(Call::Deliver),
+        CallName::Inject => words.injection(alloc).map(Call::Inject),
+        CallName::Event => Ok(Call::Event),
+        CallName::Timer => Ok(Call::Timer(words.timer()?)),
+        CallName::Next => Ok(Call::NextTimeout),
+        CallName::State => Ok(Call::State),
     }
 }
 
@@ -434,42 +523,9 @@ fn setting_of(name: &str, words: &mut LineWords) -> Result<Setting, LineError>
 pub fn call_of(alloc: Global, name: &str, words: &mut LineWords) -> Result<Call, LineError>
     ensures { Reads result asked_of (call_said name.now (words_left words.old.rest)) (words_left words.new.rest) }
 {
-    match name {
-        "open" => Ok(Call::Open(words.dir()?)),
-        "accept" => Ok(Call::Accept(words.dir()?)),
-        "write" => {
-            let id = words.stream_id()?;
-            Ok(Call::Write(id, words.bytes(alloc)?))
-        }
-        "finish" => Ok(Call::Finish(words.stream_id()?)),
-        "reset" => {
-            let id = words.stream_id()?;
-            Ok(Call::Reset(id, words.varint()?))
-        }
-        "priority" => {
-            let id = words.stream_id()?;
-            Ok(Call::SetPriority(id, words.priority()?))
-        }
-        "read" => Ok(Call::Read(words.read_call(alloc, true)?)),
-        "pick" => Ok(Call::Read(words.read_call(alloc, false)?)),
-        "stop" => {
-            let id = words.stream_id()?;
-            Ok(Call::Stop(id, words.varint()?))
-        }
-        "send" => Ok(Call::Send(words.bytes(alloc)?, false)),
-        "recv" => Ok(Call::Recv),
-        "ping" => Ok(Call::Ping),
-        "close" => Ok(Call::Close(words.close_call(alloc)?)),
-        "use_next_id" => Ok(Call::UseNextId),
-        "poll" => Ok(Call::Poll(words.moment()?)),
-        "timeout" => Ok(Call::Timeout(words.moment()?)),
-        "deliver" => Ok(Call::Deliver(words.delivery()?)),
-        "inject" => Ok(Call::Inject(words.injection(alloc)?)),
-        "event" => Ok(Call::Event),
-        "timer" => Ok(Call::Timer(words.timer()?)),
-        "next" => Ok(Call::NextTimeout),
-        "state" => Ok(Call::State),
-        _ => Err(LineError::BadCommand),
+    match call_named(name) {
+        Some(name) => call_by(alloc, name, words),
+        None => Err(LineError::BadCommand),
     }
 }
 
