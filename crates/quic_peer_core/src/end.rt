@@ -17,13 +17,17 @@ use std::alloc::{AllocError, Global};
 /// An end with stand-in keys.
 pub(crate) type End = Connection<PlainHeaderKey, PlainKey, Words, NewReno>;
 
-/// An end with these options. An error is a refusal, or want of memory.
-pub(crate) fn make_end(alloc: Global, options: &Options, new: &NewEnd) -> Result<End, ConfigError>
-    ensures made { IfOk result (λ made. IsNew options.now new.entry.now made) }
+/// An end with these options, on the heap. An error is a refusal, or want of memory.
+pub(crate) fn make_end(
+    alloc: Global,
+    options: &Options,
+    new: &NewEnd,
+) -> Result<Box<End>, ConfigError>
+    ensures made { IfOk result (λ made. IsNew options.now new.entry.now made.value) }
     ensures lawful { OnOk result (refusal options.now new.entry.now ≡ None) }
     ensures refusal { IfErr result (λ e. e ≢ ConfigError.Memory → refusal options.now new.entry.now ≡ Some e) }
 {
-    Connection::new(
+    let end = Connection::new(
         alloc,
         new.side,
         &options.config(),
@@ -35,7 +39,19 @@ pub(crate) fn make_end(alloc: Global, options: &Options, new: &NewEnd) -> Result
         new.now,
         Words::of(options.source),
         options.validated,
-    )
+    )?;
+    boxed(alloc, end)
+}
+
+/// An end on the heap.
+fn boxed(alloc: Global, end: End) -> Result<Box<End>, ConfigError>
+    ensures boxed { IfOk result (λ b. b.value ≡ end) }
+    ensures memory { IfErr result (λ e. e ≡ ConfigError.Memory) }
+{
+    match Box::new(alloc, end) {
+        Ok(end) => Ok(end),
+        Err(_) => Err(ConfigError::Memory),
+    }
 }
 
 /// How it is printed why an end isn't made. Want of memory isn't printed.

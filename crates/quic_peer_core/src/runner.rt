@@ -24,8 +24,8 @@ pub const NOTICE: &str = "# The keys are stand-ins that hide nothing.\n";
 struct Peer {
     alloc: Global,
     options: Options,
-    // None until a line has made it.
-    end: Option<End>,
+    // None until a line has made it. It lies on the heap, so that a peer is small.
+    end: Option<Box<End>>,
 }
 
 impl Peer {
@@ -79,7 +79,7 @@ impl Peer {
             (λ e. (e ≡ LineError.OutOfMemory) ⊎ ((e ≡ LineError.BadCommand) × IsRefused (Some (receives datagram.entry.now.now datagram.entry.now.ecn datagram.entry.now.bytes)) (stage_of self.old))) }
     {
         match &mut self.end {
-            Some(end) => Ok(take(self.alloc, end, datagram)?),
+            Some(end) => Ok(take(self.alloc, end.as_mut(), datagram)?),
             None => Err(LineError::BadCommand),
         }
     }
@@ -91,7 +91,7 @@ impl Peer {
             (λ e. (e ≡ LineError.OutOfMemory) ⊎ ((e ≡ LineError.BadCommand) × IsRefused (Some tells_window) (stage_of self.now))) }
     {
         match &self.end {
-            Some(end) => Ok(tell_window(self.alloc, end)?),
+            Some(end) => Ok(tell_window(self.alloc, end.as_ref())?),
             None => Err(LineError::BadCommand),
         }
     }
@@ -103,7 +103,7 @@ impl Peer {
             (λ e. (e ≡ LineError.OutOfMemory) ⊎ ((e ≡ LineError.BadCommand) × IsRefused (Some tells_stats) (stage_of self.now))) }
     {
         match &self.end {
-            Some(end) => Ok(tell_stats(self.alloc, end)?),
+            Some(end) => Ok(tell_stats(self.alloc, end.as_ref())?),
             None => Err(LineError::BadCommand),
         }
     }
@@ -115,7 +115,7 @@ impl Peer {
             (λ e. (e ≡ LineError.OutOfMemory) ⊎ ((e ≡ LineError.BadCommand) × IsRefused (Some (asks (asked_of call.now))) (stage_of self.old))) }
     {
         match &mut self.end {
-            Some(end) => Ok(ask(self.alloc, end, call)?),
+            Some(end) => Ok(ask(self.alloc, end.as_mut(), call)?),
             None => Err(LineError::BadCommand),
         }
     }
