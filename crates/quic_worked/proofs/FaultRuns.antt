@@ -50,7 +50,7 @@ use Rattle.quic_worked.proofs.BrokenRuns.{IsRefused, stops, behind, behind_sent}
 use Rattle.quic_worked.proofs.LimitedRun.{limited_started, opens as opens_limited}
 use Rattle.quic_worked.proofs.ReorderedRun as reordered
 use Rattle.quic_worked.proofs.ReorderedRun.{writes_abc, gives_abc, writes_def, gives_def, takes_def}
-use Rattle.quic_worked.proofs.Steps.{counts_so}
+use Rattle.quic_worked.proofs.Steps.{counts_so, steps_so, StepsSo}
 
 -- ---- limits that are the end's own
 
@@ -196,7 +196,9 @@ instead_is_honest = record { start = one_back_started; keys = are_keys; ids = ow
 
 accepts_none : IsStep worked_policies once_read accepts_stream (answers.Accept None) nothing_to_accept
 unfolding once_taken
-accepts_none = record { answer = refl; end = refl; control = refl; heard = counts_so worked_policies once_read accepts_stream (answers.Accept None); openings = tt; others = refl; lacking = tt }
+accepts_none =
+    let s : StepsSo worked_policies once_read accepts_stream (answers.Accept None) nothing_to_accept = steps_so worked_policies once_read accepts_stream (answers.Accept None) refl in
+    record { answer = refl; end = s.end; control = s.control; heard = s.heard; openings = tt; others = s.others; lacking = tt }
 
 none_seen : record { client = sent_view; server = server_waiting } ≡ view_of nothing_to_accept
 unfolding once_taken

@@ -182,7 +182,7 @@ stays_is_honest = acknowledged_is_honest sent_view
 
 -- the one datagram that the client gave, and the packet that it took
 abbrev hello_sent : Sent
-hello_sent = record { id = server_id; number = 0; reference = 0; frames = behind_ids (stream hello_frame ∷ []); moment = 0; size = 230 }
+hello_sent = record { id = server_id; number = 0; reference = 0; frames = behind_ids (stream hello_frame ∷ []); moment = 0; size = 230; generation = 0 }
 
 abbrev ack_packet : Packet
 ack_packet = record { number = 0; frames = ack ack_of_hello ∷ [] }
@@ -225,7 +225,7 @@ hello_is_told read = refl
 
 -- what the observer reads of the client's datagrams: the second alone
 abbrev ping_sent : Sent
-ping_sent = record { id = server_id; number = 1; reference = 0; frames = frames_of (items ping_payload); moment = 0; size = 29 }
+ping_sent = record { id = server_id; number = 1; reference = 0; frames = frames_of (items ping_payload); moment = 0; size = 29; generation = 0 }
 
 never_opens : opened_there cut_short Client 6 (client_datagram 300 250 hello_whole) ≡ None
 never_opens = refl

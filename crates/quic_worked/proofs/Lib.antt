@@ -1,5 +1,7 @@
 pub mod Codes
 mod Steps
+mod Unmoved
+mod AllValidated
 mod Waited
 pub mod Unread
 pub mod WorkedRun
@@ -70,6 +72,15 @@ mod UntakenRuns
 mod KnownRuns
 mod UnvalidatedRun
 mod AnsweredRun
+pub mod MigratedRun
+mod MigratedMachines
+mod KeptId
+mod StrayedRuns
+mod MovedRuns
+mod LateRun
+mod EarlyRun
+mod PassedRun
+mod CrossedRun
 pub mod Validated
 pub mod AskingRuns
 mod AskingMachines

@@ -394,7 +394,7 @@ loss_moment (Some v) = moment_in (loss_timer v Client)
 
 -- the client's datagram, as it was sent
 abbrev hello_sent : SentAs
-hello_sent = record { id = server_id; number = 0; reference = 0; frames = behind_ids (stream hello_frame ∷ []); moment = 0; size = 230 }
+hello_sent = record { id = server_id; number = 0; reference = 0; frames = behind_ids (stream hello_frame ∷ []); moment = 0; size = 230; generation = 0 }
 
 sent_one : sents_until timed_on Client 8 ≡ hello_sent ∷ []
 unfolding client_acked
