@@ -17,41 +17,106 @@ mod settling;
 mod stepping;
 mod views;
 
-pub use alone::{Alone, run_alone};
+pub use alone::Alone;
+pub use alone::run_alone;
 pub use bytes::Bytes;
 pub use pair::Making;
 pub use quic_assembler::Chunk;
-pub use quic_config::{AckFrequencyConfig, MtuDiscoveryConfig};
-pub use quic_congestion::{
-    Controller, ControllerFactory, ControllerMetrics, NewReno, NewRenoConfig,
-};
-pub use quic_connection_core::{Config, Connection};
+pub use quic_config::AckFrequencyConfig;
+pub use quic_config::FirstSample;
+pub use quic_config::MtuDiscoveryConfig;
+pub use quic_congestion::Controller;
+pub use quic_congestion::ControllerFactory;
+pub use quic_congestion::ControllerMetrics;
+pub use quic_congestion::NewReno;
+pub use quic_congestion::NewRenoConfig;
+pub use quic_connection_core::Config;
+pub use quic_connection_core::Connection;
+pub use quic_connection_core::OwnId;
 pub use quic_copies::Copies;
-pub use quic_machine::{
-    Address, Answer, Call, CloseCall, ConfigError, Datagram, Delivery, DropReason, EndView, Event,
-    Failed, IdleTimeout, Injection, Instant, LostReason, NextIdError, Nexts, PeerClose, ReadCall,
-    Received, RunEvent, State, Timer, Transmit, TransportConfig, View,
-};
-pub use quic_messages::{DatagramLimits, DatagramState, Datagrams, SendDatagramError};
-pub use quic_packet::crypto::{
-    HeaderKey, KeyPair, Keys, NotOpened, PacketKey, SAMPLE_SIZE, TAG_LEN,
-};
+pub use quic_machine::Address;
+pub use quic_machine::Answer;
+pub use quic_machine::Call;
+pub use quic_machine::CloseCall;
+pub use quic_machine::ConfigError;
+pub use quic_machine::Datagram;
+pub use quic_machine::Delivery;
+pub use quic_machine::DropReason;
+pub use quic_machine::EndView;
+pub use quic_machine::EndpointEvent;
+pub use quic_machine::Event;
+pub use quic_machine::Failed;
+pub use quic_machine::HandshakeDoneError;
+pub use quic_machine::IdleTimeout;
+pub use quic_machine::Injection;
+pub use quic_machine::Instant;
+pub use quic_machine::LostReason;
+pub use quic_machine::NextIdError;
+pub use quic_machine::Nexts;
+pub use quic_machine::PeerClose;
+pub use quic_machine::ReadCall;
+pub use quic_machine::Received;
+pub use quic_machine::RunEvent;
+pub use quic_machine::State;
+pub use quic_machine::Timer;
+pub use quic_machine::Transmit;
+pub use quic_machine::TransportConfig;
+pub use quic_machine::View;
+pub use quic_messages::DatagramLimits;
+pub use quic_messages::DatagramState;
+pub use quic_messages::Datagrams;
+pub use quic_messages::SendDatagramError;
+pub use quic_packet::crypto::HeaderKey;
+pub use quic_packet::crypto::KeyPair;
+pub use quic_packet::crypto::Keys;
+pub use quic_packet::crypto::NotOpened;
+pub use quic_packet::crypto::PacketKey;
+pub use quic_packet::crypto::SAMPLE_SIZE;
+pub use quic_packet::crypto::TAG_LEN;
 pub use quic_packet::width_in;
-pub use quic_parameters::{TransportParameters, TransportParametersError};
-pub use quic_send_buffer::{BytesSource, ShouldTransmit};
-pub use quic_stats::{ConnectionStats, DropStats, FrameStats, PathStats, UdpStats};
-pub use quic_streams_handles::{Chunks, EndStreams, RecvStream, SendStream, Streams};
-pub use quic_streams_parts::{
-    ClosedStream, FinishError, ReadError, ReadableError, StreamEvent, UpdateError, WriteError,
-    Written,
-};
+pub use quic_parameters::TransportParameters;
+pub use quic_parameters::TransportParametersError;
+pub use quic_send_buffer::BytesSource;
+pub use quic_send_buffer::ShouldTransmit;
+pub use quic_stats::ConnectionStats;
+pub use quic_stats::DropStats;
+pub use quic_stats::FrameStats;
+pub use quic_stats::PathStats;
+pub use quic_stats::UdpStats;
+pub use quic_streams_handles::Chunks;
+pub use quic_streams_handles::EndStreams;
+pub use quic_streams_handles::RecvStream;
+pub use quic_streams_handles::SendStream;
+pub use quic_streams_handles::Streams;
+pub use quic_streams_parts::ClosedStream;
+pub use quic_streams_parts::FinishError;
+pub use quic_streams_parts::ReadError;
+pub use quic_streams_parts::ReadableError;
+pub use quic_streams_parts::StreamEvent;
+pub use quic_streams_parts::UpdateError;
+pub use quic_streams_parts::WriteError;
+pub use quic_streams_parts::Written;
 pub use quic_streams_state::BlockedBy;
-pub use quic_time::{Duration, RttEstimator};
-pub use quic_wire::frame::{ApplicationClose, Close, ConnectionClose};
-pub use quic_wire_core::{
-    Code, ConnectionId, Dir, EcnCodepoint, FrameType, Reason, Side, StreamId, TransportError,
-    VarInt, VarIntBoundsExceeded,
-};
-pub use running::{Ends, Given, Outcome, run};
+pub use quic_time::Duration;
+pub use quic_time::RttEstimator;
+pub use quic_wire::frame::ApplicationClose;
+pub use quic_wire::frame::Close;
+pub use quic_wire::frame::ConnectionClose;
+pub use quic_wire_core::Code;
+pub use quic_wire_core::ConnectionId;
+pub use quic_wire_core::Dir;
+pub use quic_wire_core::EcnCodepoint;
+pub use quic_wire_core::FrameType;
+pub use quic_wire_core::Reason;
+pub use quic_wire_core::Side;
+pub use quic_wire_core::StreamId;
+pub use quic_wire_core::TransportError;
+pub use quic_wire_core::VarInt;
+pub use quic_wire_core::VarIntBoundsExceeded;
+pub use running::Ends;
+pub use running::Given;
+pub use running::Outcome;
+pub use running::run;
 pub use settling::settle;
-pub use stepping::{call_at, step};
+pub use stepping::call_at;
+pub use stepping::step;

@@ -2,7 +2,7 @@
 ghost use Rattle.std.specs.Prelude.{◌≡◌, ◌*◌, true, None};
 ghost use Rattle.quic_parameters.specs.Parameters.{AreInRange};
 ghost use Rattle.quic_config.specs.Transport.{Settings, transport_of, first_mtu};
-ghost use Rattle.quic_machine.specs.End.{limits_of, first_streams, are_sizes_wrong, are_keys_short};
+ghost use Rattle.quic_machine.specs.End.{limits_of, first_streams, are_sizes_wrong, are_keys_short, is_sample_wrong, is_time_wrong};
 ghost use Rattle.quic_spaces.specs.Filter.{first_filter};
 ghost use Rattle.quic_connection_parts.specs.Drawn.{words_of, after_words};
 ghost use Rattle.quic_connection_parts.specs.Telling.{path_limited};
@@ -108,4 +108,26 @@ pub fn are_keys_short<H, K: PacketKey>(keys: &Keys<H, K>) -> bool
 {
     keys.packet.local.confidentiality_limit() < LEAST_KEY_LIMIT
         || keys.packet.remote.integrity_limit() < LEAST_KEY_LIMIT
+}
+
+/// The most nanoseconds that a round trip may have taken, and may vary, that is told as a first
+/// sample: a minute.
+const MOST_SAMPLE: u64 = 60_000_000_000;
+
+/// Whether a time of a first sample can't be: none, or more than a minute.
+fn is_time_wrong(time: Duration) -> bool
+    ensures { result ≡ is_time_wrong time }
+{
+    let nanos = time.as_nanos();
+    nanos == 0 || nanos > MOST_SAMPLE
+}
+
+/// Whether the first sample can't be, where one is told.
+pub fn is_sample_wrong(transport: &TransportConfig) -> bool
+    ensures { result ≡ is_sample_wrong transport.now.first_sample }
+{
+    match transport.get_first_sample() {
+        Some(sample) => is_time_wrong(sample.rtt) || is_time_wrong(sample.variation),
+        None => false,
+    }
 }

@@ -1,13 +1,13 @@
 -- The ledger of duties: where what has to reach the peer is until it arrives (RFC 9000, section
 -- 13.3). A duty waits, is under way, or has arrived.
-use Rattle.std.specs.Prelude.{ℕ, ◌<◌, ◌≤◌, ◌≡◌, ◌⊎◌, Bool, true, false, ◌==◌, ◌||◌, List, [], ◌∷◌, length, Option, Some, None, IsSome}
+use Rattle.std.specs.Prelude.{ℕ, ◌<◌, ◌≤◌, ◌≡◌, ◌⊎◌, Bool, true, false, ◌==◌, ◌||◌, List, [], ◌∷◌, length, Option, Some, None, IsSome, Ok}
 use Rattle.std.specs.List.{list_any}
 use Rattle.std.specs.Option.{is_none}
 use Rattle.quic_wire_core.specs.declared.stream_id.Side.{Side}
 use Rattle.quic_wire_core.specs.declared.stream_id.Dir.{Dir}
 use Rattle.quic_wire_core.specs.StreamId.{other_side}
 use Rattle.quic_wire_core.specs.declared.shared.IssuedCid.{IssuedCid}
-use Rattle.quic_wire.specs.Value.{FrameValue, StopSendingValue, NewConnectionIdValue, max_data, max_stream_data, max_streams, new_connection_id, retire_connection_id, AckFrequencyValue, ack_frequency}
+use Rattle.quic_wire.specs.Value.{FrameValue, StopSendingValue, NewConnectionIdValue, handshake_done, max_data, max_stream_data, max_streams, new_connection_id, retire_connection_id, AckFrequencyValue, ack_frequency}
 use Rattle.quic_wire.specs.FrameView.{is_one_way}
 use Rattle.quic_send_buffer.specs.declared.stream_meta.StreamMeta.{StreamMeta}
 use Rattle.quic_send_buffer.specs.Buffered.{is_lost, is_unsent}
@@ -19,6 +19,10 @@ use Rattle.quic_streams_parts.specs.Dirs.{of}
 use Rattle.quic_retransmits.specs.Retransmits.{Retransmits, has_id}
 use Rattle.quic_ids.specs.CidState.{is_in}
 use Rattle.quic_streams_state.specs.Limits.{can_send_flow_control}
+use Rattle.quic_machine.specs.declared.run.Call.{Call}
+use Rattle.quic_machine.specs.declared.run.Call.TheVariants as calls
+use Rattle.quic_machine.specs.declared.run.Answer.{Answer}
+use Rattle.quic_machine.specs.declared.run.Answer.TheVariants as answers
 use Rattle.quic_machine.specs.End.{End}
 use Rattle.quic_machine.specs.Poll.{waits}
 use Rattle.quic_machine.specs.Machine.{World, end_at}
@@ -37,7 +41,7 @@ pub data Limited : Type 0 where
 
 -- an offset of a stream, the end of one, or its reset; that the peer is to stop sending on one;
 -- that an id of the peer with a number is retired, and an own id of a number; a limit, with its
--- value; and the request of a number of how often to acknowledge
+-- value; the request of a number of how often to acknowledge; and that the handshake is done
 pub data Duty : Type 0 where
   Offset : (id : ℕ) (offset : ℕ) → Duty
   Fin : (id : ℕ) → Duty
@@ -47,8 +51,18 @@ pub data Duty : Type 0 where
   NewId : (number : ℕ) → Duty
   Limit : (what : Limited) (value : ℕ) → Duty
   Frequency : (number : ℕ) → Duty
+  Done : Duty
 
 -- ---- what is owed
+
+-- whether a call said that the handshake is done, and was let (RFC 9000, section 19.20)
+abbrev pub says_done : Call → Answer → Bool
+says_done calls.HandshakeDone (answers.HandshakeDone (Ok done)) = true
+says_done call a = false
+
+-- whether one of those that were told did
+abbrev pub was_said_done : List Told → Bool
+was_said_done told = list_any (λ t. says_done t.call t.answer) told
 
 -- the frame that says a limit (sections 19.9 to 19.11)
 abbrev pub limit_frame : Limited → ℕ → FrameValue
@@ -94,8 +108,8 @@ lacks_size (Some half) = is_none half.final
 -- each reset; STOP_SENDING of each stream that it stopped, while the final size isn't known
 -- (section 3.5); the retirement of each id of the peer below that in use (section 5.1.2), by the
 -- calls at it, and by what it has, which says more of an end that isn't open; each own id but the
--- first, while it lives (section 5.1.1); each limit; and each request, in the place of which a
--- newer one may come
+-- first, while it lives (section 5.1.1); each limit; each request, in the place of which a newer one
+-- may come; and that the handshake is done, where its application said so (section 19.20)
 abbrev pub IsOwed : ℕ → End → List Sent → List Told → Duty → Type 0
 IsOwed used e own told (Offset id offset) = (reset id told ≡ None) × (offset < length (written id told))
 IsOwed used e own told (Fin id) = (reset id told ≡ None) × (ended id told ≡ true)
@@ -105,6 +119,7 @@ IsOwed used e own told (Retire number) = (number < used) ⊎ (number < e.ids.pee
 IsOwed used e own told (NewId number) = (1 ≤ number) × (is_in number e.ids.own.living ≡ true)
 IsOwed used e own told (Limit what value) = IsSaid e own what value
 IsOwed used e own told (Frequency number) = IsAsked own number
+IsOwed used e own told Done = was_said_done told ≡ true
 
 -- ---- it waits
 
@@ -145,6 +160,7 @@ is_due e (Retire number) = has_retirement number e.waiting.frames.retire_cids
 is_due e (NewId number) = has_new_id number e.waiting.frames.new_cids
 is_due e (Limit what value) = limit_waits e.waiting.frames what
 is_due e (Frequency number) = e.waiting.frames.ack_frequency
+is_due e Done = e.waiting.frames.handshake_done
 
 -- It waits to go. What waits is queued: the end has something to send.
 pub record Waits (e : End) (duty : Duty) : Type 0 where
@@ -170,6 +186,7 @@ StandsIn carried (Reset id) = has_reset id carried.retransmits.reset_stream ≡ 
 StandsIn carried (Stop id) = has_stop id carried.retransmits.stop_sending ≡ true
 StandsIn carried (Retire number) = has_retirement number carried.retransmits.retire_cids ≡ true
 StandsIn carried (NewId number) = has_new_id number carried.retransmits.new_cids ≡ true
+StandsIn carried Done = carried.retransmits.handshake_done ≡ true
 StandsIn carried duty = AnyIn (λ frame. Carries frame duty) carried.stream_frames
 
 -- it stands in one of these, which are neither acknowledged nor lost yet
@@ -231,6 +248,12 @@ pub record HasAsked (packets : List Packet) (number : ℕ) : Type 0 where
   pub carried : In (ack_frequency frame) packet.frames
   pub newer : number ≤ frame.sequence
 
+-- HANDSHAKE_DONE stands in a packet that was taken.
+pub record DoneHasCome (packets : List Packet) : Type 0 where
+  pub packet : Packet
+  pub was_taken : In packet packets
+  pub carried : In handshake_done packet.frames
+
 -- it stood in a packet that was taken
 abbrev pub HasCome : List Packet → List Told → Duty → Type 0
 HasCome packets told (Offset id offset) = HasArrived packets id offset
@@ -241,6 +264,7 @@ HasCome packets told (Retire number) = WasRetired packets number
 HasCome packets told (NewId number) = (id : List ℕ) × WasToldId packets number id
 HasCome packets told (Limit what value) = LimitHasArrived packets what value
 HasCome packets told (Frequency number) = HasAsked packets number
+HasCome packets told Done = DoneHasCome packets
 
 -- ---- where it is
 

@@ -12,7 +12,7 @@ use Rattle.quic_headline.specs.Moments.{AckMoments, LossMoments, LossTimerQuiet}
 use Rattle.quic_headline.specs.Grown.{GrownLimitsWait}
 use Rattle.quic_headline.specs.Messages.{MessagesAtMostOnce}
 use Rattle.quic_headline.specs.Polls.{PollsSendWhatWaits, PollsSendMessages, ProbesPass, WindowIsOfHistory, PacerSetsItsTimer, AskingGoesWhereLet}
-use Rattle.quic_headline.specs.Rest.{DeliveredAtRest, NothingOwedAtRest}
+use Rattle.quic_headline.specs.Rest.{DeliveredAtRest, DoneAtRest, NothingOwedAtRest}
 use Rattle.quic_headline.specs.AcksDue.{AcksAreDue}
 use Rattle.quic_headline.specs.Resets.{ResetsAreTold}
 use Rattle.quic_headline.specs.Ids.{IdsAreNew, AcceptedWereOpened}
@@ -324,6 +324,9 @@ pub record Times (r : Run) : Type 0 where
 pub record Rests (r : Run) : Type 0 where
   -- all that was written, and not reset, has arrived (RFC 9000, section 13.3)
   pub delivered_at_rest : DeliveredAtRest r
+  -- HANDSHAKE_DONE has arrived where it was said that the handshake is done (sections 13.3 and
+  -- 19.20)
+  pub done_at_rest : DoneAtRest r
   -- no acknowledgement is owed (RFC 9000, sections 13.2.1 and 13.2.4)
   pub nothing_owed_at_rest : NothingOwedAtRest r
   -- a write is blocked only for bytes that were left unread (RFC 9000, section 4.1)

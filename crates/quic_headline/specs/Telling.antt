@@ -17,7 +17,7 @@ use Rattle.std.specs.List.{list_any}
 use Rattle.quic_wire_core.specs.declared.stream_id.Side.{Side}
 use Rattle.quic_wire.specs.Value.{FrameValue, AckValue, ack, ping, padding}
 use Rattle.quic_time.specs.Rtt.{Rtt}
-use Rattle.quic_config.specs.Transport.{TransportSettings}
+use Rattle.quic_config.specs.Transport.{TransportSettings, first_behind_sample}
 use Rattle.quic_congestion.specs.Congestion as congestion
 use Rattle.quic_congestion.specs.Search.{is_number}
 use Rattle.quic_spaces.specs.Numbers.{greatest_of}
@@ -253,9 +253,10 @@ validated_before side shown (event ∷ events) (v ∷ views) = (if same_side eve
 abbrev pub shows_validated : Run → Side → ℕ → Bool
 shows_validated r side n = unwrap_or (slice_get (validated_before side (end_at side r.start).path.validated r.events r.views) n) true
 
--- the controller of an end may have been told this by the first so many answers
+-- the controller of an end may have been told this by the first so many answers; where a sample was
+-- taken before the connection began, a round trip was measured before the first datagram went
 abbrev pub MayTell : Run → Side → ℕ → Tellings → Type 0
-MayTell r side i told = TellsCalls (lens_of r side) (end_at side r.start).transport (shows_validated r side) (CountsAt r side) 0 None (watch_from (end_at side r.start) (given_of r side)) (until r side i) told
+MayTell r side i told = TellsCalls (lens_of r side) (end_at side r.start).transport (shows_validated r side) (CountsAt r side) 0 (first_behind_sample (end_at side r.start).transport) (watch_from (end_at side r.start) (given_of r side)) (until r side i) told
 
 -- the window that a view shows is that which the controller, as it was when the run began, shows
 -- once it was told of what went, was acknowledged and was lost up to there; and the size of

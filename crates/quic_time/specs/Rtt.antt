@@ -15,6 +15,11 @@ pub record Rtt : Type 0 where
 abbrev pub assumed_rtt : ℕ → Rtt
 assumed_rtt initial = record { latest = initial; smoothed = None; var = initial / 2; least = initial }
 
+-- a first sample that was taken elsewhere, with its variation (RFC 9002, section 5.3): it is the
+-- smoothed time, and the least
+abbrev pub told_rtt : ℕ → ℕ → Rtt
+told_rtt rtt variation = record { latest = rtt; smoothed = Some rtt; var = variation; least = rtt }
+
 -- the best estimate
 abbrev pub best_rtt : Rtt → ℕ
 best_rtt r = unwrap_or r.smoothed r.latest
