@@ -113,6 +113,7 @@ OF_SCRIPTS = {
     "deliver": [("T", natural), ("M", MARK), ("K", natural)],
     "inject": [("T", natural), ("M", MARK), ("H", octets)],
     "show": [("K", natural)],
+    "from": [("N", natural)],
 }
 OF_PEERS = {
     "params": [],
@@ -120,6 +121,7 @@ OF_PEERS = {
         ("SIDE", SIDE), ("ID", connection_id), ("PEER_ID", connection_id), ("T", natural),
         ("H", octets),
     ],
+    "from": [("N", natural)],
     "receive": [("T", natural), ("M", MARK), ("H", octets)],
     "window": [],
     "stats": [],

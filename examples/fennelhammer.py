@@ -339,30 +339,37 @@ class Connection(Handle):
         self.room = bytearray(max(PIECE, self.library.fh_max_datagram_size(self.raw)))
         self.at, self.size = room_of(self.room), len(self.room)
         self.word, self.flag, self.code = c_uint64(), c_uint32(), c_uint64()
+        self.to, self.mark = c_uint64(), c_uint32()
         self.raw_event = RawEvent()
 
-    def receive(self, now, datagram, ecn=0):
-        """Hands in a datagram, a bytearray, which is changed. Gives 0 where it was taken, and else
-        a number of fh_dropped."""
-        call = self.library.fh_receive
-        return taken(call(self.raw, now, self.peer_address, ecn, room_of(datagram), len(datagram)))
+    def receive(self, now, datagram, ecn=0, address=None):
+        """Hands in a datagram, a bytearray, which is changed, and which came from an address, the
+        peer's first one by default. Gives 0 where it was taken, and else a number of fh_dropped."""
+        call, came = self.library.fh_receive, self.peer_address if address is None else address
+        return taken(call(self.raw, now, came, ecn, room_of(datagram), len(datagram)))
 
     def poll(self, now):
-        """The next datagram to be sent, as a bytearray, or None. `ecn` says then with which ECN
-        codepoint to send it."""
+        """The next datagram to be sent, as a bytearray, or None. `address` says then to which
+        address to send it, and `ecn` with which ECN codepoint."""
         call = self.library.fh_poll
-        size = taken(call(self.raw, now, self.at, self.size, byref(self.word), byref(self.flag)))
+        size = taken(call(self.raw, now, self.at, self.size, byref(self.to), byref(self.mark)))
         return self.room[:size] if size else None
+
+    @property
+    def address(self):
+        """The address to which the datagram goes that poll gave last."""
+        return self.to.value
 
     @property
     def ecn(self):
         """The ECN codepoint of the datagram that poll gave last."""
-        return self.flag.value
+        return self.mark.value
 
-    def would_open(self, datagram):
-        """Whether a datagram would open here: a copy of it is tried."""
-        copy = room_of(bytearray(datagram))
-        return bool(self.library.fh_would_open(self.raw, self.peer_address, copy, len(datagram)))
+    def would_open(self, datagram, address=None):
+        """Whether a datagram would open here that comes from an address, the peer's first one by
+        default: a copy of it is tried."""
+        copy, came = room_of(bytearray(datagram)), self.peer_address if address is None else address
+        return bool(self.library.fh_would_open(self.raw, came, copy, len(datagram)))
 
     def next_timeout(self):
         """The earliest deadline, or None."""

@@ -233,8 +233,8 @@ class Run:
         return any(frame["frame_type"] == "connection_close" for frame in found)
 
     def polled(self, side, words, answer):
-        """`E poll T`: which datagram goes, its size and its ECN codepoint."""
-        if len(answer) == 3:
+        """`E poll T`: which datagram goes, its size and its ECN codepoint, and its address."""
+        if len(answer) >= 3:
             index = int(answer[0])
             self.packet(side, index)["size"] = int(answer[1])
             self.add(side, int(words[2]), "transport:packet_sent", (side, index))

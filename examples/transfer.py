@@ -58,12 +58,13 @@ def bound_socket(address=("127.0.0.1", 0)):
 
 
 def received(bound):
-    """The datagrams that came to a socket, as many as are taken in one turn."""
+    """The datagrams that came to a socket, and from where, as many as are taken in one turn."""
     for _ in range(BURST):
         try:
-            yield bytearray(bound.recv(2048))
+            datagram, peer = bound.recvfrom(2048)
         except (BlockingIOError, ConnectionRefusedError):
             return
+        yield bytearray(datagram), peer
 
 
 class Endpoint:
@@ -75,7 +76,8 @@ class Endpoint:
         self.settings = Settings(max_idle_timeout_ms=IDLE, **asks)
         own_id = secrets.token_bytes(hello.ID)
         self.hello = hello.write(secret, side == CLIENT, own_id, self.settings.parameters())
-        self.connection = self.seal = self.unseal = self.peer = None
+        self.connection = self.seal = self.unseal = None
+        self.peers = []  # Where datagrams came from: each has its place's number.
         self.readable, self.writable, self.finished = set(), set(), set()
         self.parting = False  # Whether the connection is to be closed now.
         self.lost = None  # Why it is lost, once it is.
@@ -87,7 +89,7 @@ class Endpoint:
         self.connection.ping()  # The idle timeout begins with what is sent, and not before.
         self.seal = hello.keys(self.secret, self.hello, theirs, True)
         self.unseal = hello.keys(self.secret, theirs, self.hello, False)
-        self.peer = peer
+        self.peers = [peer]
 
     def free(self):
         """Frees what was made."""
@@ -105,18 +107,20 @@ class Endpoint:
 
     def turn(self):
         """Takes what came and is due, and sends: whether there may be more to do at once."""
-        came = [self.take(datagram) for datagram in received(self.socket)]
+        came = [self.take(*each) for each in received(self.socket)]
         timer = self.next()
         if timer is not None and timer <= now():
             self.connection.timeout(now())
         self.hear()
         return self.send() or bool(came)
 
-    def take(self, datagram):
-        """Hands a datagram in, if it opens."""
+    def take(self, datagram, peer):
+        """Hands a datagram in, if it opens. A server follows its peer to where that came from."""
         try:
             self.unseal(datagram)
-            self.connection.receive(now(), datagram)
+            if peer not in self.peers:
+                self.peers.append(peer)
+            self.connection.receive(now(), datagram, address=self.peers.index(peer))
         except Refused as refused:
             if refused.code not in (SealCode.REFUSED, SealCode.SHORT):
                 raise Failed(str(refused))
@@ -157,7 +161,7 @@ class Endpoint:
                 return False
             try:
                 self.seal(datagram)
-                self.socket.sendto(datagram, self.peer)
+                self.socket.sendto(datagram, self.peers[self.connection.address])
             except Refused as refused:
                 raise Failed(str(refused))
             except OSError:

@@ -26,10 +26,10 @@ LONGEST_WAIT, HELLO_WAIT, HELLO_AGAIN = 60 * SECOND, 5 * SECOND, SECOND // 4
 class Host(Endpoint):
     """An endpoint whose peer is in another process."""
 
-    def take(self, datagram):
+    def take(self, datagram, peer):
         """Hands a datagram in; a client that repeats its hello didn't hear the answer."""
         if datagram != self.theirs.data:
-            super().take(datagram)
+            super().take(datagram, peer)
         elif self.side == SERVER:
             self.socket.send(self.hello.data)
 

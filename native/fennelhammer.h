@@ -231,7 +231,7 @@ int64_t fh_parameters(const fh_settings *settings, uint8_t *out, size_t room);
  *                  behind their first byte
  * peer_id          the peer's first connection ID, of 1 to 20 bytes
  * peer_parameters  what fh_parameters of the peer wrote, with what a handshake appended
- * peer_address     a number of the caller's by which it knows the peer's address
+ * peer_address     a number of the caller's by which it knows the peer's first address
  * seed             32 random bytes of the operating system, as getrandom(2) gives them, used once:
  *                  connection IDs, stateless reset tokens and the data of PATH_CHALLENGE come of
  *                  them by ChaCha20, and nobody may guess them
@@ -266,12 +266,14 @@ enum fh_dropped {
     FH_DROPPED_DUPLICATE = 7,  /* its packet number came before, or is too old to tell */
     FH_DROPPED_CLOSING = 8,    /* the endpoint is closing, and repeats its close */
     FH_DROPPED_DRAINED = 9,    /* the endpoint is drained */
-    FH_DROPPED_ADDRESS = 10    /* another address than that of fh_new; it is counted nowhere */
+    FH_DROPPED_ADDRESS = 10    /* a client got it from another address than that of fh_new; it is
+                                  counted as one that came alone */
 };
 
 /* Hands in a datagram that came at the time `now` from this address with this ECN codepoint
  * (RFC 9000, sections 5.2 and 12). Its bytes are opened in place, so they are changed. A time that
- * steps back counts as the greatest that the endpoint knows.
+ * steps back counts as the greatest that the endpoint knows. A server follows its peer to another
+ * address, which it challenges (section 9).
  *
  * Answers 0 where all its frames were taken, and a number of fh_dropped where it was dropped.
  * FH_ERR_INVALID: an ECN codepoint above 3. FH_ERR_CLOSED: the endpoint is closing now.
@@ -280,8 +282,8 @@ int fh_receive(fh_conn *conn, uint64_t now, uint64_t peer_address, uint32_t ecn,
                size_t len);
 
 /* Gives the next datagram that is to be sent at the time `now`, to the address that it gives by
- * `peer_address` (that of fh_new), with the ECN codepoint that it gives by `ecn`. What was given
- * out counts as sent, and is given but once.
+ * `peer_address`, with the ECN codepoint that it gives by `ecn`. What was given out counts as
+ * sent, and is given but once.
  *
  * Answers its length in bytes, and 0 where there is nothing to send now. FH_ERR_ROOM: `room` is
  * below fh_max_datagram_size; no datagram was made then. FH_ERR_FAILED. */

@@ -28,8 +28,6 @@ type Conn = Connection<PlainHeaderKey, PlainKey, ChaCha20Rng, NewReno>;
 pub struct Endpoint {
     alloc: Global,
     conn: Conn,
-    // By which number the host knows the peer's address.
-    address: u64,
     // No datagram is longer, in bytes.
     room: usize,
     // A datagram that was made, on its way to the host.
@@ -45,7 +43,6 @@ impl Drop for Endpoint {
         let Endpoint {
             alloc: _,
             conn,
-            address: _,
             room: _,
             out: _,
             unread: _,
@@ -72,7 +69,7 @@ pub struct Peer<'a> {
     pub ids: FirstIds<'a>,
     /// The peer's transport parameters.
     pub parameters: &'a [u8],
-    /// By which number the host knows the peer's address.
+    /// By which number the host knows the peer's first address.
     pub address: u64,
 }
 
@@ -165,14 +162,12 @@ impl Endpoint {
     fn boxed(
         alloc: Global,
         conn: Conn,
-        address: u64,
         room: usize,
         out: Vec<u8>,
     ) -> Result<Box<Endpoint>, AllocError> {
         let endpoint = Endpoint {
             alloc,
             conn,
-            address,
             room,
             out,
             unread: None,
@@ -206,7 +201,7 @@ impl Calls for Endpoint {
         );
         let now = Instant::from_nanos(now);
         let conn = making.connection(alloc, side, now, peer.parameters, peer_id)?;
-        Ok(Endpoint::boxed(alloc, conn, peer.address, room, out)?)
+        Ok(Endpoint::boxed(alloc, conn, room, out)?)
     }
 
     fn receive(
@@ -217,9 +212,6 @@ impl Calls for Endpoint {
         datagram: &mut [u8],
     ) -> Result<u32, CallError> {
         let ecn = ecn_of(ecn)?;
-        if address != self.address {
-            return Ok(DROPPED_ADDRESS);
-        }
         match self
             .conn
             .receive(Instant::from_nanos(now), Address(address), ecn, datagram)
@@ -251,7 +243,8 @@ impl Calls for Endpoint {
     }
 
     fn address(&self) -> u64 {
-        self.address
+        let Address(number) = self.conn.remote_address();
+        number
     }
 
     fn timeout(&mut self, now: u64) -> Result<(), CallError> {
@@ -264,7 +257,7 @@ impl Calls for Endpoint {
     }
 
     fn would_open(&self, address: u64, scratch: &mut [u8]) -> bool {
-        address == self.address && self.conn.would_open(Address(address), scratch)
+        self.conn.would_open(Address(address), scratch)
     }
 
     fn next_event(&mut self) -> Option<EventRecord> {
@@ -354,9 +347,6 @@ impl Calls for Endpoint {
     }
 }
 
-/// That a datagram came from another address than the endpoint's peer has.
-const DROPPED_ADDRESS: u32 = 10;
-
 /// The number of the reason why a datagram was dropped.
 fn dropped(reason: DropReason) -> Result<u32, CallError> {
     match reason {
@@ -369,6 +359,7 @@ fn dropped(reason: DropReason) -> Result<u32, CallError> {
         DropReason::Duplicate => Ok(7),
         DropReason::Closing => Ok(8),
         DropReason::Drained => Ok(9),
+        DropReason::Address => Ok(10),
         DropReason::Failed => Err(CallError::Failed),
     }
 }

@@ -1,5 +1,6 @@
 -- Which packet is the last that may not open, by what an end has counted and by its answer.
 use Rattle.std.proofs.Common.{◌≡◌, ℕ, Bool, true, false, List, Option, Some, None, Result, Ok, Err, refl, sym, ap, ◌∙◌, subst}
+use Rattle.std.specs.Prelude.{if◌then◌else◌}
 use Rattle.quic_wire_core.specs.declared.shared.EcnCodepoint.{EcnCodepoint}
 use Rattle.quic_packet.specs.Datagram.{Opening}
 use Rattle.quic_packet.specs.Destination.{decoded, fixed_length_id}
@@ -9,15 +10,17 @@ use Rattle.quic_machine.specs.declared.answers.State.{State}
 use Rattle.quic_machine.specs.declared.answers.State.TheVariants as states
 use Rattle.quic_machine.specs.declared.answers.Received.{Received}
 use Rattle.quic_machine.specs.declared.answers.Received.TheVariants as receives
+use Rattle.quic_machine.specs.declared.answers.DropReason.{DropReason}
 use Rattle.quic_machine.specs.declared.answers.DropReason.TheVariants as drops
 use Rattle.quic_machine.specs.declared.run.Answer.TheVariants as answers
 use Rattle.quic_machine.specs.Arrival.{Arrival, arriving}
 use Rattle.quic_machine.specs.Heard.{Heard, is_last}
 use Rattle.quic_machine.specs.Policy.{Policy}
 use Rattle.quic_machine.specs.Ids.{known}
-use Rattle.quic_machine.specs.Opens.{own_id_length}
+use Rattle.quic_machine.specs.Opens.{own_id_length, with_drop, head}
+use Rattle.quic_machine.specs.Migration.{is_foreign}
 use Rattle.quic_machine.specs.End.{End}
-use Rattle.quic_machine.specs.Receive.{Outcome, opened_to, unopened_in, with_ids_drawn, opened_as, opening, headed, received_in, received}
+use Rattle.quic_machine.specs.Receive.{Outcome, opened_to, unopened_in, with_ids_drawn, with_migration, opened_as, opening, headed, received_in, received}
 use Rattle.quic_machine.specs.Machine.{says_last, CountsReceived, CountsIn}
 use Rattle.quic_connection_core.proofs.Counted.{ToOpened, opened_answer}
 use Rattle.quic_connection_core.proofs.Receiving.{last_unread}
@@ -60,15 +63,15 @@ module _ (p : Policy) (e : End) (now remote : ℕ) (mark : Option EcnCodepoint) 
 
       opens : (o : Option Opening) → Same (λ k. opened_as o p (arriving now remote mark k) e) b
       opens None = unopened e.closing.state b
-      opens (Some o) = ap (with_ids_drawn p) (last_unread o now remote mark b (says (opened_to o (arriving now remote mark b) e).answer) e)
+      opens (Some o) = ap (λ (out : Outcome). with_migration p o remote e (with_ids_drawn p out)) (last_unread o now remote mark b (says (opened_to o (arriving now remote mark b) e).answer) e)
 
-      heads : (r : Result (List ℕ) HeaderError) → Same (λ k. headed r p e (arriving now remote mark k) d) b
+      heads : (r : Result (List ℕ) DropReason) → Same (λ k. headed r p e (arriving now remote mark k) d) b
       heads (Err x) = refl
       heads (Ok id) = opens (opening p e d)
 
       go : (s : State) → Same (λ k. received_in s p e (arriving now remote mark k) d) b
-      go states.Open = heads (decoded (fixed_length_id own_id_length) (known e.ids) d)
-      go states.Closing = heads (decoded (fixed_length_id own_id_length) (known e.ids) d)
+      go states.Open = heads (head e remote d)
+      go states.Closing = heads (head e remote d)
       go states.Drained = refl
       go states.Failed = refl
 
@@ -87,15 +90,16 @@ module _ (p : Policy) (e : End) (now remote : ℕ) (mark : Option EcnCodepoint) 
       opens here None = subst (λ (s : State). CountsReceived limit h (unopened_in s (is_last limit h) arrival e).answer) (sym here) (unopened (is_last limit h) refl)
       opens here (Some o) = counts_opened limit h (opened_to o arrival e).answer (opened_answer o arrival e)
 
-      heads : e.closing.state ≡ states.Open → (r : Result (List ℕ) HeaderError) → CountsReceived limit h (headed r p e arrival d).answer
-      heads here (Err (headers.TooShort)) = tt
-      heads here (Err (headers.NotShort)) = tt
-      heads here (Err (headers.FixedBit)) = tt
-      heads here (Err (headers.UnknownId)) = tt
-      heads here (Ok id) = opens here (opening p e d)
+      heads : e.closing.state ≡ states.Open → (foreign : Bool) (r : Result (List ℕ) HeaderError) → CountsReceived limit h (headed (if foreign then Err drops.Address else with_drop r) p e arrival d).answer
+      heads here true r = tt
+      heads here false (Err (headers.TooShort)) = tt
+      heads here false (Err (headers.NotShort)) = tt
+      heads here false (Err (headers.FixedBit)) = tt
+      heads here false (Err (headers.UnknownId)) = tt
+      heads here false (Ok id) = opens here (opening p e d)
 
       go : (s : State) → e.closing.state ≡ s → CountsIn s limit h (received_in s p e arrival d).answer
-      go states.Open here = heads here (decoded (fixed_length_id own_id_length) (known e.ids) d)
+      go states.Open here = heads here (is_foreign remote e) (decoded (fixed_length_id own_id_length) (known e.ids) d)
       go states.Closing here = tt
       go states.Drained here = tt
       go states.Failed here = tt

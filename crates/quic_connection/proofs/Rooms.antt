@@ -1,24 +1,23 @@
 -- Behind a step no end has a text of more bytes than before, or than the datagram that was
 -- delivered to it.
 use Rattle.std.proofs.Common.{◌≡◌, ◌≤◌, ℕ, ◌+◌, Bool, true, false, not, ◌||◌, ◌==◌, List, [], ◌∷◌, length, Option, Some, None, Result, Ok, Err, inl, inr, refl, sym, ap, ◌∙◌, subst, arith}
-use Rattle.std.specs.Prelude.{if◌then◌else◌, slice_get}
+use Rattle.std.specs.Prelude.{if◌then◌else◌, slice_get, map}
 use Rattle.quic_wire_core.specs.declared.shared.EcnCodepoint.{EcnCodepoint}
 use Rattle.quic_wire_core.specs.declared.stream_id.Side.{Side}
 use Rattle.quic_wire_core.specs.declared.stream_id.Side.TheVariants.{Client, Server}
 use Rattle.quic_wire_core.specs.StreamId.{other_side}
 use Rattle.quic_wire.specs.Items.{items}
-use Rattle.quic_wire.specs.Value.{FrameValue, connection_close, application_close}
+use Rattle.quic_wire.specs.Value.{FrameValue, connection_close, application_close, path_challenge, path_response}
 use Rattle.quic_wire.specs.declared.frame.InvalidFrame.{InvalidFrame}
 use Rattle.quic_packet.specs.Header.{key_phase, reserved_bits}
 use Rattle.quic_packet.specs.Keys.{KeepsLength, OpensNoMore}
 use Rattle.quic_packet.specs.Datagram.{Opening}
-use Rattle.quic_packet.specs.Destination.{decoded, fixed_length_id}
-use Rattle.quic_packet.specs.declared.packet.HeaderError.{HeaderError}
 use Rattle.quic_recovery_core.specs.Duplicates.{is_duplicate}
 use Rattle.quic_spaces.specs.Numbers.{expected, number_opened, can_number}
 use Rattle.quic_machine.specs.Arrival.{Arrival, delivered_by}
 use Rattle.quic_machine.specs.declared.answers.State.{State}
 use Rattle.quic_machine.specs.declared.answers.State.TheVariants as states
+use Rattle.quic_machine.specs.declared.answers.DropReason.{DropReason}
 use Rattle.quic_machine.specs.declared.answers.DropReason.TheVariants as drops
 use Rattle.quic_machine.specs.declared.answers.LostReason.{LostReason}
 use Rattle.quic_machine.specs.declared.answers.LostReason.TheVariants as reasons
@@ -28,13 +27,13 @@ use Rattle.quic_machine.specs.declared.run.Answer.{Answer}
 use Rattle.quic_machine.specs.declared.run.RunEvent.{RunEvent}
 use Rattle.quic_machine.specs.Reasons.{text_len}
 use Rattle.quic_machine.specs.Policy.{Policy}
-use Rattle.quic_machine.specs.Ids.{known}
 use Rattle.quic_machine.specs.Closing.{Closing, ticked}
 use Rattle.quic_machine.specs.Heard.{Heard}
 use Rattle.quic_machine.specs.Control.{Control}
 use Rattle.quic_machine.specs.End.{End, with_closing, with_numbers, closed_by}
-use Rattle.quic_machine.specs.Opens.{own_id_length}
-use Rattle.quic_machine.specs.Receive.{Fault, broke, too_many_pieces, closed_by_peer, reason_of, violation, is_empty, asks_in, is_urged, take_frame, take_item, take_items, take_payload, unless_fault, dropped, ends_as, by_state, opened_to, opened_as, opening, headed, received_in, is_read, drawn_if, unopened_in}
+use Rattle.quic_machine.specs.Opens.{own_id_length, head}
+use Rattle.quic_machine.specs.Migration.{is_there, item_elsewhere, items_at}
+use Rattle.quic_machine.specs.Receive.{Fault, broke, too_many_pieces, closed_by_peer, reason_of, violation, is_empty, asks_in, is_urged, take_frame, take_item, take_items, take_payload, unless_fault, dropped, ends_as, by_state, items_taken, opened_to, opened_as, opening, headed, received_in, is_read, drawn_if, with_ids_drawn, has_migrated, migrated_if, unopened_in}
 use Rattle.quic_machine.specs.Poll.{Polled, bounds, may_seal, polled}
 use Rattle.quic_machine.specs.Timeouts.{loss_judged}
 use Rattle.quic_machine.specs.Machine.{World, Policies, IsLeft, IsStep, after_call, after_delivered, says_last, reads_window, fails, end_at, policy_at, given_by}
@@ -49,6 +48,7 @@ use Rattle.quic_machine.specs.DraftLaws.{IsClose}
 use Rattle.quic_headline.proofs.Alone.Weights.{payload_fits}
 use Rattle.quic_headline.proofs.Packets.Apart.{by_next_id, by_waits}
 use Rattle.quic_headline.proofs.Packets.Closes.{by_closes}
+use Rattle.quic_headline.proofs.Packets.Moved.{migrated_closing}
 use Rattle.quic_headline.proofs.Packets.Owing.{closing_among}
 use Rattle.quic_headline.proofs.Packets.Probes.{may_leave}
 use Rattle.quic_connection.specs.Rooms.{told_len, len_of, handed_len}
@@ -78,6 +78,20 @@ frame_fault f e = go (take_frame f e).fault refl
 item_fault : (i : Result FrameValue InvalidFrame) (e : End) → fault_len (take_item i e).fault ≤ item_text i
 item_fault (Ok f) e = frame_fault f e
 item_fault (Err x) e = omega arith
+
+-- what came from elsewhere has no other text
+elsewhere_text : (n : ℕ) (i : Result FrameValue InvalidFrame) → item_text i ≤ n → item_text (item_elsewhere i) ≤ n
+elsewhere_text n (Ok (path_challenge token)) fit = fit
+elsewhere_text n (Ok (path_response token)) fit = fit
+elsewhere_text n i fit = fit
+
+elsewhere_fit : (n : ℕ) (is : List (Result FrameValue InvalidFrame)) → AllFit n is → AllFit n (map item_elsewhere is)
+elsewhere_fit n [] fit = tt
+elsewhere_fit n (i ∷ is) fit = (elsewhere_text n i fit.0, elsewhere_fit n is fit.1)
+
+taken_fit : (n : ℕ) (here : Bool) (is : List (Result FrameValue InvalidFrame)) → AllFit n is → AllFit n (items_at here is)
+taken_fit n true is fit = fit
+taken_fit n false is fit = elsewhere_fit n is fit
 
 -- so it is of all items of a payload
 items_fault : (n : ℕ) (is : List (Result FrameValue InvalidFrame)) (e : End) → AllFit n is → fault_len (take_items is e).fault ≤ n
@@ -130,8 +144,11 @@ module _ (n : ℕ) where
   state_fits : (s : State) (o : Opening) (arrival : Arrival) (x : End) → length o.payload ≤ n → Fits x → Fits (by_state s o arrival x).end
   state_fits states.Open o arrival x few i =
       let begins : End = with_closing x (ticked x.closing arrival.now) in
-      let taken = take_payload o.first (items o.payload) begins in
-      ends_fit taken.fault (asks_in (items o.payload)) (is_urged arrival.mark (items o.payload) begins) o.number arrival.mark taken.end (payload_fault n o.first (items o.payload) begins (items_fit n o.payload few)) (payload_keeps_text o.first (items o.payload) begins i)
+      let is = items_taken o arrival x in
+      let asks = asks_in (items o.payload) in
+      let taken = take_payload o.first is begins in
+      let fit : AllFit n is = taken_fit n (is_there arrival.remote x) (items o.payload) (items_fit n o.payload few) in
+      ends_fit taken.fault asks (is_urged arrival.mark asks is begins) o.number arrival.mark taken.end (payload_fault n o.first is begins fit) (payload_keeps_text o.first is begins i)
   state_fits states.Closing o arrival x few i = i
   state_fits states.Drained o arrival x few i = i
   state_fits states.Failed o arrival x few i = i
@@ -139,6 +156,10 @@ module _ (n : ℕ) where
   drawn_fits : (b : Bool) (p : Policy) (x : End) → Fits x → Fits (drawn_if b p x)
   drawn_fits true p x i = i
   drawn_fits false p x i = i
+
+  moved_fits : (b : Bool) (p : Policy) (o : Opening) (remote : ℕ) (x : End) → Fits x → Fits (migrated_if b p o remote x)
+  moved_fits true p o remote x i = subst (λ (c : Closing). told_len c.reason ≤ n) (sym (migrated_closing p o remote x)) i
+  moved_fits false p o remote x i = i
 
   unopened_fits : (s : State) (b : Bool) (arrival : Arrival) (x : End) → Fits x → Fits (unopened_in s b arrival x).end
   unopened_fits states.Open true arrival x i = omega arith
@@ -161,17 +182,19 @@ module _ (n : ℕ) where
   module _ (p : Policy) (keeps : KeepsLength p.header.reveal) (opens : OpensNoMore p.packet.unseal) (x : End) (i : Fits x) where
     packet_fits : (o : Option Opening) (arrival : Arrival) → ((k : Opening) → o ≡ Some k → length k.payload ≤ n) → Fits (opened_as o p arrival x).end
     packet_fits None arrival few = unopened_fits x.closing.state arrival.last arrival x i
-    packet_fits (Some o) arrival few = drawn_fits (is_read (opened_to o arrival x).answer) p (opened_to o arrival x).end (opened_fits o arrival x (few o refl) i)
+    packet_fits (Some o) arrival few =
+        let out = with_ids_drawn p (opened_to o arrival x) in
+        moved_fits (has_migrated o arrival.remote x out) p o arrival.remote out.end (drawn_fits (is_read (opened_to o arrival x).answer) p (opened_to o arrival x).end (opened_fits o arrival x (few o refl) i))
 
-    headed_fits : (r : Result (List ℕ) HeaderError) (arrival : Arrival) (d : List ℕ) → length d ≤ n → Fits (headed r p x arrival d).end
+    headed_fits : (r : Result (List ℕ) DropReason) (arrival : Arrival) (d : List ℕ) → length d ≤ n → Fits (headed r p x arrival d).end
     headed_fits (Err error) arrival d few = i
     headed_fits (Ok id) arrival d few = packet_fits (opening p x d) arrival (λ o is. (let short = payload_fits p.header p.packet (own_id_length + 1) (expected x.numbers) d o keeps opens is in omega (arith, short, few)))
 
     received_fits : (s : State) (arrival : Arrival) (d : List ℕ) → length d ≤ n → Fits (received_in s p x arrival d).end
     received_fits states.Failed arrival d few = i
     received_fits states.Drained arrival d few = i
-    received_fits states.Open arrival d few = headed_fits (decoded (fixed_length_id own_id_length) (known x.ids) d) arrival d few
-    received_fits states.Closing arrival d few = headed_fits (decoded (fixed_length_id own_id_length) (known x.ids) d) arrival d few
+    received_fits states.Open arrival d few = headed_fits (head x arrival.remote d) arrival d few
+    received_fits states.Closing arrival d few = headed_fits (head x arrival.remote d) arrival d few
 
     delivered_fits : (o : Option (List ℕ)) (arrival : Arrival) → len_of o ≤ n → Fits (after_delivered p x arrival o)
     delivered_fits None arrival few = i

@@ -11,10 +11,9 @@ use Rattle.quic_wire_core.specs.declared.stream_id.Side.{Side}
 use Rattle.quic_wire_core.specs.declared.stream_id.Side.TheVariants.{Client, Server}
 use Rattle.quic_wire_core.specs.StreamId.{other_side}
 use Rattle.quic_wire.specs.Value.{FrameValue}
+use Rattle.quic_wire.specs.Items.{items}
 use Rattle.quic_packet.specs.Datagram.{Opening}
-use Rattle.quic_packet.specs.Destination.{decoded, fixed_length_id}
 use Rattle.quic_packet.specs.Keys.{Protection, Aead}
-use Rattle.quic_packet.specs.declared.packet.HeaderError.{HeaderError}
 use Rattle.quic_spaces.specs.Filter.{Filter, is_skipped, after_skipped}
 use Rattle.quic_spaces.specs.Numbers.{expected}
 use Rattle.quic_machine.specs.Arrival.{Arrival, early, delivered_by, injected_by}
@@ -25,7 +24,8 @@ use Rattle.quic_machine.specs.declared.answers.State.TheVariants as states
 use Rattle.quic_machine.specs.declared.answers.LostReason.{LostReason}
 use Rattle.quic_machine.specs.declared.answers.Received.{Received}
 use Rattle.quic_machine.specs.declared.answers.Received.TheVariants as receives
-use Rattle.quic_congestion.specs.Congestion.{Steps}
+use Rattle.quic_congestion.specs.Congestion.{Steps, Told}
+use Rattle.quic_congestion.specs.Pacer.{Pacing}
 use Rattle.quic_machine.specs.declared.answers.Failed.{Failed}
 use Rattle.quic_machine.specs.declared.answers.Transmit.{Transmit}
 use Rattle.quic_machine.specs.declared.run.Call.{Call}
@@ -35,19 +35,21 @@ use Rattle.quic_machine.specs.declared.run.Answer.TheVariants as answers
 use Rattle.quic_machine.specs.declared.run.RunEvent.{RunEvent}
 use Rattle.quic_machine.specs.Closing.{ticked, close_given}
 use Rattle.quic_machine.specs.Heard.{Heard, heard_datagram}
+use Rattle.quic_machine.specs.Migration.{is_there, path_to, with_path, next_id_if_allowed, path_frames_taken, migrated, has_moved}
+use Rattle.quic_machine.specs.declared.answers.DropReason.{DropReason}
 use Rattle.quic_machine.specs.Idle.{keep_alive_expired, packet_given, packet_given_leaves}
 use Rattle.quic_machine.specs.Policy.{Policy}
 use Rattle.quic_machine.specs.Parts.{Validation}
-use Rattle.quic_machine.specs.Ids.{Ids, Drawing, destination, known, drawn_places, ids_drawn, next_used, retires_for_next}
+use Rattle.quic_machine.specs.Ids.{Ids, Drawing, destination, drawn_places, ids_drawn, next_used, retires_for_next}
 use Rattle.quic_machine.specs.IdFrames.{drawn, retiring, next_id_taken, end_on_next_id}
 use Rattle.quic_machine.specs.MessageCalls.{most_message}
 use Rattle.quic_machine.specs.Sizes.{without_longer_if, shortened}
 use Rattle.quic_machine.specs.Calls.{closed_in}
 use Rattle.quic_machine.specs.Validation.{with_blocked, challenged_anew, path_expired, most_challenges}
-use Rattle.quic_machine.specs.End.{End, ConnectionValue, HasFailed, hearing, drawing, words_drawn, challenged, closed_by, with_window, with_closing, with_frames, with_ids, with_number_given, with_loss_timer}
-use Rattle.quic_machine.specs.Receive.{Outcome, opened_to, opened_as, is_read, drawn_if, with_ids_drawn, opening, headed, received_in, received, told_headed, told_received_in, told_received}
-use Rattle.quic_machine.specs.Opens.{opens_behind, would_open, own_id_length}
-use Rattle.quic_machine.specs.Control.{Control, after_told, with_app_limited}
+use Rattle.quic_machine.specs.End.{End, ConnectionValue, HasFailed, drawing, words_drawn, challenged, closed_by, with_window, with_closing, with_frames, with_ids, with_number_given, with_loss_timer}
+use Rattle.quic_machine.specs.Receive.{Outcome, opened_to, opened_as, is_read, drawn_if, with_ids_drawn, has_migrated, migrated_if, with_migration, opening, headed, received_in, received, told_headed, told_received_in, told_received}
+use Rattle.quic_machine.specs.Opens.{opens_behind, head, would_open}
+use Rattle.quic_machine.specs.Control.{Control, after_told, with_pacing, with_app_limited}
 use Rattle.quic_time.specs.Timers.{has_come}
 use Rattle.quic_machine.specs.Timeouts.{TimedOut, expiry_at, loss_expired, acks_expired, pacing_expired, unless_idle, close_expired, timed_out_in, timed_out, told_timed_out}
 use Rattle.quic_machine.specs.Poll.{Polled, told_polled_in, gives_datagram, datagram_of, datagram_size, asking, paid_if, tracked, goes, bounds, draft_as, closing, close_to_go, closes_if, closes, sends, polled_if, polled_in, polled}
@@ -55,15 +57,15 @@ use Rattle.quic_machine.specs.LeaveCases.{by_event}
 use Rattle.quic_machine.specs.PollCases.{ready_at, draft_at, may_leave_at, Composes, composes, by_poll_to}
 use Rattle.quic_machine.specs.CallCases.{Plain, is_poll, is_delivery, is_timeout, may_draw, by_plain_call}
 use Rattle.quic_machine.specs.CallCases as cases
-use Rattle.quic_machine.specs.Machine.{World, Policies, IsAnswer, IsDelivered, says_last, injected_if, IsLeft, IsTold, CountsOpenings, IsStep, after_call, after_delivered, after_injected_if, tells, told_delivered, gives, fails, changed, policy_at, end_at, end_met, reads_window, control_at, heard_at, given_by}
+use Rattle.quic_machine.specs.Machine.{World, Policies, IsAnswer, IsDelivered, says_last, injected_if, IsLeft, IsTold, CountsOpenings, IsStep, after_call, after_delivered, after_injected_if, tells, told_delivered, pacing_left, gives, fails, changed, policy_at, end_at, end_met, reads_window, control_at, heard_at, given_by}
 use Rattle.quic_machine.specs.Lacking.{GivesOrHasFailed, TakesFrames, MovesRecord, DeliveryTakes, LacksWhere}
 use Rattle.quic_headline.specs.Alone.{Lone, IsLoneStep}
 use Rattle.quic_connection_parts.specs.Drawn.{after_words}
 use Rattle.quic_connection_parts.specs.Given.{given_bytes}
-use Rattle.quic_connection_parts.specs.Telling.{KeepsKeys, telling}
+use Rattle.quic_connection_parts.specs.Telling.{KeepsKeys, telling, taking}
 use Rattle.quic_connection_core.proofs.Polls.{ready_words}
 use Rattle.quic_connection_parts.proofs.Lost.{loss_expired_keeps}
-use Rattle.quic_connection_core.proofs.Drawn.{opened_words, received_words}
+use Rattle.quic_connection_core.proofs.Drawn.{opened_words, drawn_more, received_words}
 use Rattle.quic_connection.specs.declared.running.Ends.{Ends}
 use Rattle.quic_connection.specs.Ends.{kept, may_move, GoesOn, Serves, AreOf, policies_of}
 use Rattle.quic_connection.specs.GoingOn.{goes_same}
@@ -163,11 +165,12 @@ quiet_goes stream p control heard old new theirs call a rests is left = go (fail
     go : (b : Bool) → IsLeft b p control heard old.end theirs call a new.end → GoesOn stream old new
     go true stops = record { keys = ap (λ w. w.keys) is; served = λ o. absurd (o stops.0); drawn = λ o. absurd (o stops.0); random = λ o. absurd (o stops.0) }
     go false same =
-        let left : new.end ≡ after_call p old.end theirs call a = same ∙ ap (λ (e : End). after_call p e theirs call a) (reads_no_window control heard call old.end other) in
-        let words : words_drawn new.end ≡ words_drawn old.end = ap (λ (e : End). words_drawn e) left ∙ quiet_call p old.end theirs call a other in
+        let met = ap (λ (e : End). after_call p e theirs call a) (reads_no_window control heard call old.end other) in
+        let state : new.end.closing.state ≡ (after_call p old.end theirs call a).closing.state = ap (λ (e : End). e.closing.state) same ∙ ap (λ (e : End). e.closing.state) met in
+        let words : words_drawn new.end ≡ words_drawn old.end = ap (λ (e : End). words_drawn e) same ∙ ap (λ (e : End). words_drawn e) met ∙ quiet_call p old.end theirs call a other in
         record {
           keys = ap (λ w. w.keys) is;
-          served = λ o failed. o (ap (λ (e : End). e.closing.state) left ∙ failed_stays p old.end theirs call a failed);
+          served = λ o failed. o (state ∙ failed_stays p old.end theirs call a failed);
           drawn = λ o. omega (arith, words);
           random = λ o. (let none : 0 ≡ words_drawn new.end - words_drawn old.end = omega (arith, words) in ap (λ w. stream w.random) is ∙ ap (λ (k : ℕ). after_words k (stream old.random)) none);
         }
@@ -247,9 +250,9 @@ polled_goes stream p window blocked old new now (Ok x) keys end random failed = 
 polled_goes stream p window blocked old new now (Err x) keys end random failed = failed_goes stream old new failed
 
 -- at a datagram that comes
-pub received_goes : {H K R C : Type 0} (stream : R → Stream) (p : Policy) (old new : ConnectionValue H K R C) (arrival : Arrival) (d : List ℕ) → new.keys ≡ old.keys → new.end ≡ (received p old.end arrival d).end
+pub received_goes : {H K R C : Type 0} (stream : R → Stream) (p : Policy) (old new : ConnectionValue H K R C) (arrival : Arrival) (d : List ℕ) (q : Pacing) → new.keys ≡ old.keys → new.end ≡ with_pacing (received p old.end arrival d).end q
     → stream new.random ≡ after_words (words_drawn new.end - words_drawn old.end) (stream old.random) → GoesOn stream old new
-received_goes stream p old new arrival d keys end random = record {
+received_goes stream p old new arrival d q keys end random = record {
   keys = keys;
   served = λ kept failed. kept (ap (λ (e : End). e.closing.state) end ∙ failed_delivered p old.end arrival (Some d) failed);
   drawn = λ kept. subst (λ (e : End). words_drawn old.end ≤ words_drawn e) (sym end) (received_words p old.end arrival d);
@@ -257,15 +260,18 @@ received_goes stream p old new arrival d keys end random = record {
 }
 
 -- whatever it is answered
-pub delivered_goes : {H K R C : Type 0} (stream : R → Stream) (p : Policy) (steps : Steps C) (old new : ConnectionValue H K R C) (arrival : Arrival) (d : List ℕ) (r : Received) → (r ≢ receives.Failed → new ≡ drawing new.random (telling steps (hearing old (heard_datagram d r old.heard)) (told_received p old.end (early arrival) d) (received p old.end arrival d).end))
+pub delivered_goes : {H K R C : Type 0} (stream : R → Stream) (p : Policy) (steps : Steps C) (window : C → ℕ) (old new : ConnectionValue H K R C) (arrival : Arrival) (d : List ℕ) (r : Received)
+    → (r ≢ receives.Failed → let after = (received p old.end arrival d).end in
+    new ≡ drawing new.random (taking steps window old (heard_datagram (is_there arrival.remote old.end) (has_moved old.end after) d r old.heard) (told_received p old.end (early arrival) d) after))
     → (r ≢ receives.Failed → stream new.random ≡ after_words (words_drawn new.end - words_drawn old.end) (stream old.random)) → (r ≡ receives.Failed → HasFailed old new) → GoesOn stream old new
-delivered_goes stream p steps old new arrival d r left random failed = go r left random failed
+delivered_goes stream p steps window old new arrival d r left random failed = go r left random failed
   where
     Left : Received → Type 0
-    Left r = r ≢ receives.Failed → new ≡ drawing new.random (telling steps (hearing old (heard_datagram d r old.heard)) (told_received p old.end (early arrival) d) (received p old.end arrival d).end)
+    Left r = r ≢ receives.Failed → let after = (received p old.end arrival d).end in
+        new ≡ drawing new.random (taking steps window old (heard_datagram (is_there arrival.remote old.end) (has_moved old.end after) d r old.heard) (told_received p old.end (early arrival) d) after)
 
     kept : (r : Received) → r ≢ receives.Failed → Left r → (r ≢ receives.Failed → stream new.random ≡ after_words (words_drawn new.end - words_drawn old.end) (stream old.random)) → GoesOn stream old new
-    kept r other left random = received_goes stream p old new arrival d (ap (λ w. w.keys) (left other)) (ap (λ w. w.end) (left other)) (random other)
+    kept r other left random = received_goes stream p old new arrival d _ (ap (λ w. w.keys) (left other)) (ap (λ w. w.end) (left other)) (random other)
 
     go : (r : Received) → Left r → (r ≢ receives.Failed → stream new.random ≡ after_words (words_drawn new.end - words_drawn old.end) (stream old.random)) → (r ≡ receives.Failed → HasFailed old new) → GoesOn stream old new
     go receives.Failed left random failed = failed_goes stream old new (failed refl)
@@ -409,40 +415,67 @@ module _ (p : Policy) (words : ℕ → ℕ) (e : End) where
           left y = record { answer = (opened_to o arrival e).answer; end = y }
       go false = refl
 
+  -- a peer that moves is asked the same
+  migrated_with : (o : Opening) (remote : ℕ) (x : End) → words (words_drawn x) ≡ p.words (words_drawn x) → migrated other_words o remote x ≡ migrated p o remote x
+  migrated_with o remote x word = ap (λ (y : End). path_frames_taken (items o.payload) (next_id_if_allowed y)) (asked (nat_lt there.validation.drawn most_challenges))
+    where
+      there : End
+      there = with_path x (path_to remote x)
+
+      asked : (b : Bool) → challenged_anew words b there ≡ challenged_anew p.words b there
+      asked true = ap (λ (w : ℕ). challenged w there) word
+      asked false = refl
+
+  moved_with : (b : Bool) (o : Opening) (remote : ℕ) (x : End) → words (words_drawn x) ≡ p.words (words_drawn x) → migrated_if b other_words o remote x ≡ migrated_if b p o remote x
+  moved_with true o remote x word = migrated_with o remote x word
+  moved_with false o remote x word = refl
+
   received_with : Answers words p.words e → (arrival : Arrival) (d : List ℕ) → received other_words e arrival d ≡ received p e arrival d
   received_with same arrival d = go e.closing.state refl
     where
       opens : e.closing.state ≢ states.Failed → (o : Option Opening) → opened_as o other_words arrival e ≡ opened_as o p arrival e
       opens serves None = refl
-      opens serves (Some o) = opened_with same serves o arrival
+      opens serves (Some o) =
+          ap (λ (y : Outcome). with_migration other_words o arrival.remote e y) (opened_with same serves o arrival)
+          ∙ ap (λ (y : End). left y) (moved_with (has_migrated o arrival.remote e out) o arrival.remote out.end (same serves (words_drawn out.end) (more (is_read (opened_to o arrival e).answer))))
+        where
+          out : Outcome
+          out = with_ids_drawn p (opened_to o arrival e)
 
-      heads : e.closing.state ≢ states.Failed → (r : Result (List ℕ) HeaderError) → headed r other_words e arrival d ≡ headed r p e arrival d
+          left : End → Outcome
+          left y = record { answer = out.answer; end = y }
+
+          more : (b : Bool) → words_drawn e ≤ words_drawn (drawn_if b p (opened_to o arrival e).end)
+          more true = let before = opened_words o arrival e in let all = drawn_more p.words (opened_to o arrival e).end in omega (arith, before, all)
+          more false = let before = opened_words o arrival e in omega (arith, before)
+
+      heads : e.closing.state ≢ states.Failed → (r : Result (List ℕ) DropReason) → headed r other_words e arrival d ≡ headed r p e arrival d
       heads serves (Err x) = refl
       heads serves (Ok id) = opens serves (opening p e d)
 
       go : (s : State) → e.closing.state ≡ s → received_in s other_words e arrival d ≡ received_in s p e arrival d
-      go states.Open is = heads (λ failed. (let no : states.Open ≡ states.Failed = sym is ∙ failed in cc)) (decoded (fixed_length_id own_id_length) (known e.ids) d)
-      go states.Closing is = heads (λ failed. (let no : states.Closing ≡ states.Failed = sym is ∙ failed in cc)) (decoded (fixed_length_id own_id_length) (known e.ids) d)
+      go states.Open is = heads (λ failed. (let no : states.Open ≡ states.Failed = sym is ∙ failed in cc)) (head e arrival.remote d)
+      go states.Closing is = heads (λ failed. (let no : states.Closing ≡ states.Failed = sym is ∙ failed in cc)) (head e arrival.remote d)
       go states.Drained is = refl
       go states.Failed is = refl
 
   told_received_with : (arrival : Arrival) (d : List ℕ) → told_received other_words e arrival d ≡ told_received p e arrival d
   told_received_with arrival d = go e.closing.state
     where
-      heads : (r : Result (List ℕ) HeaderError) → told_headed r other_words e arrival d ≡ told_headed r p e arrival d
+      heads : (r : Result (List ℕ) DropReason) → told_headed r other_words e arrival d ≡ told_headed r p e arrival d
       heads (Err x) = refl
       heads (Ok id) = refl
 
       go : (s : State) → told_received_in s other_words e arrival d ≡ told_received_in s p e arrival d
-      go states.Open = heads (decoded (fixed_length_id own_id_length) (known e.ids) d)
-      go states.Closing = heads (decoded (fixed_length_id own_id_length) (known e.ids) d)
+      go states.Open = heads (head e arrival.remote d)
+      go states.Closing = heads (head e arrival.remote d)
       go states.Drained = refl
       go states.Failed = refl
 
   opens_with : (remote : ℕ) (d : List ℕ) → would_open other_words e remote d ≡ would_open p e remote d
-  opens_with remote d = go (decoded (fixed_length_id own_id_length) (known e.ids) d)
+  opens_with remote d = go (head e remote d)
     where
-      go : (r : Result (List ℕ) HeaderError) → is_some (opens_behind r other_words (expected e.numbers) d) ≡ is_some (opens_behind r p (expected e.numbers) d)
+      go : (r : Result (List ℕ) DropReason) → is_some (opens_behind r other_words (expected e.numbers) d) ≡ is_some (opens_behind r p (expected e.numbers) d)
       go (Err x) = refl
       go (Ok id) = refl
 
@@ -599,7 +632,16 @@ reads_words control heard call e = refl
 module _ (p : Policy) (words : ℕ → ℕ) (control : Control) (heard : Heard) (e : End) (theirs : List (List ℕ)) (call : Call) (same : Answers words p.words (reads_window control heard call e)) where
   left_with : (b : Bool) (a : Answer) (next : End) → IsLeft b p control heard e theirs call a next → IsLeft b (record p { words = words }) control heard e theirs call a next
   left_with true a next h = h
-  left_with false a next h = h ∙ sym (after_with p words (reads_window control heard call e) same theirs call a)
+  left_with false a next h =
+      h
+      ∙ sym (ap (λ (told : List Told). with_pacing left (pacing_left (control told) call met left)) (tells_with p words met same theirs call))
+      ∙ sym (ap (λ (x : End). with_pacing x (pacing_left (control (tells (record p { words = words }) met theirs call)) call met x)) (after_with p words met same theirs call a))
+    where
+      met : End
+      met = reads_window control heard call e
+
+      left : End
+      left = after_call p met theirs call a
 
   control_with : (b : Bool) (next : Control) → IsTold b p control heard e theirs call next → IsTold b (record p { words = words }) control heard e theirs call next
   control_with true next h = h

@@ -1,12 +1,12 @@
 //! Calls at one end, one behind another, whatever datagrams its peer hands to it.
-ghost use Rattle.std.specs.Prelude.{◌≡◌, ◌++◌, ◌+◌, ◌*◌, ◌<◌, ◌≤◌, [], take, drop, length, sum_by, true, false};
+ghost use Rattle.std.specs.Prelude.{◌≡◌, ◌<◌, [], take, drop, length, true, false};
 ghost use Rattle.quic_machine.specs.End.{policy_of};
 ghost use Rattle.std.specs.List.{list_any};
 ghost use Rattle.quic_machine.specs.Machine.{fails};
 ghost use Rattle.quic_headline.specs.Alone.{IsNew, BeginsFit, FollowsAlone, BytesCame, MessagesCame};
 ghost use Rattle.quic_headline.specs.Keeping.{KeepsWithin};
 ghost use Rattle.quic_headline.specs.FewEvents.{EventsAreFew};
-ghost use Rattle.quic_headline.specs.Amplification.{BeginsAlone, bytes_in};
+ghost use Rattle.quic_headline.specs.Amplification.{BeginsAlone, IsThreefold};
 ghost use Rattle.quic_headline.specs.LoneCloses.{ClosedForCause, DrainedForCause};
 ghost use Rattle.quic_headline.specs.FewCloses.{IsClosing, CloseFew};
 ghost use Rattle.quic_headline.specs.Nonces.{SealedOnce};
@@ -58,8 +58,9 @@ pub struct Alone {
 /// were blocked, beside one for each stream that is finished, and one for the loss of the
 /// connection.
 ///
-/// While it shows its peer's address as not validated, it gave at most three times the bytes that
-/// were handed in (RFC 9000, section 8.1): this and the bounds hold as long as it hasn't failed.
+/// While it shows its peer's address as not validated, it gave there at most three times the bytes
+/// that were handed in from there, since it takes its peer to be there (RFC 9000, section 8.1):
+/// this and the bounds hold as long as it hasn't failed.
 ///
 /// Where it isn't open any more, one of the calls closed it, for the reason that it has: a close of
 /// the application's, a close of the peer's that came, a packet that was refused, the idle timer,
@@ -97,8 +98,10 @@ pub fn run_alone<H: HeaderKey + Drop, K: PacketKey + Drop, R: Rng + Drop, C: Con
         (take (length result.answers.items) calls.now) result.answers.items }
     ensures bounded { (new : IsNew end.old.end) → list_any fails result.answers.items ≡ false → KeepsWithin new.settings end.new.end }
     ensures few_events { IsNew end.old.end → EventsAreFew theirs.now (take (length result.answers.items) calls.now) result.answers.items }
-    ensures threefold { BeginsAlone (lone_of (windows_of C.steps C.window_of) end.old) → list_any fails result.answers.items ≡ false → end.new.end.path.validated ≡ false
-        → sum_by length given.new.items ≤ sum_by length given.old.items + 3 * bytes_in theirs.now (take (length result.answers.items) calls.now) result.answers.items }
+    ensures threefold { (begins : BeginsAlone (lone_of (windows_of C.steps C.window_of) end.old))
+        → IsThreefold (policy_of H.protection K.aead K.seal_limit K.refusal_limit (words_of R.stream) end.old) theirs.now begins.new.side begins.new.remote
+        (take (length result.answers.items) calls.now) result.answers.items
+        (drop (length given.old.items) given.new.items) end.new.end }
     ensures closed_for_cause { IsNew end.old.end
         → ClosedForCause (policy_of H.protection K.aead K.seal_limit K.refusal_limit (words_of R.stream) end.old) theirs.now
         (lone_of (windows_of C.steps C.window_of) end.old) (take (length result.answers.items) calls.now) result.answers.items

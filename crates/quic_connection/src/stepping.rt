@@ -119,7 +119,7 @@ pub fn call_at<H: HeaderKey + Drop, K: PacketKey + Drop, R: Rng + Drop, C: Contr
         (windows_of C.steps C.window_of end.old.control) end.old.heard end.old.end [] call.now
         (windows_of C.steps C.window_of end.new.control)) }
     ensures heard { IfOk result (λ a.
-        IsHeard (fails a) [] call.now a end.old.heard end.new.heard) }
+        IsHeard (fails a) end.old.end end.new.end [] call.now a end.old.heard end.new.heard) }
     ensures openings { IfOk result (λ a.
         CountsOpenings (K.refusal_limit end.old.keys.packet.remote) end.old.end.closing.state end.old.heard a) }
     ensures appended { IfOk result (λ a.
@@ -157,7 +157,7 @@ pub(crate) fn at_end<H: HeaderKey + Drop, K: PacketKey + Drop, R: Rng + Drop, C:
         (windows_of C.steps C.window_of end.old.control) end.old.heard end.old.end theirs.now call.now
         (windows_of C.steps C.window_of end.new.control)) }
     ensures heard { IfOk result (λ a.
-        IsHeard (fails a) theirs.now call.now a end.old.heard end.new.heard) }
+        IsHeard (fails a) end.old.end end.new.end theirs.now call.now a end.old.heard end.new.heard) }
     ensures openings { IfOk result (λ a.
         CountsOpenings (K.refusal_limit end.old.keys.packet.remote) end.old.end.closing.state end.old.heard a) }
     ensures given { IfOk result (λ a.
@@ -228,7 +228,7 @@ fn send_at<H: HeaderKey + Drop, K: PacketKey + Drop, R: Rng + Drop, C: Controlle
         (windows_of C.steps C.window_of end.old.control) end.old.heard end.old.end [] (Call.Send message.now makes_room)
         (windows_of C.steps C.window_of end.new.control)) }
     ensures heard { IfOk result (λ a.
-        IsHeard (fails a) [] (Call.Send message.now makes_room) a end.old.heard end.new.heard) }
+        IsHeard (fails a) end.old.end end.new.end [] (Call.Send message.now makes_room) a end.old.heard end.new.heard) }
     ensures given { IfOk result (λ a.
         gives (policy_of H.protection K.aead K.seal_limit K.refusal_limit (words_of R.stream) end.old)
         (reads_window (windows_of C.steps C.window_of end.old.control) end.old.heard (Call.Send message.now makes_room) end.old.end) (Call.Send message.now makes_room) a ≡ []) }
@@ -255,7 +255,7 @@ fn recv_at<H: HeaderKey + Drop, K: PacketKey + Drop, R: Rng + Drop, C: Controlle
     ensures control { IsTold (fails result) (policy_of H.protection K.aead K.seal_limit K.refusal_limit (words_of R.stream) end.old)
         (windows_of C.steps C.window_of end.old.control) end.old.heard end.old.end [] Call.Recv
         (windows_of C.steps C.window_of end.new.control) }
-    ensures heard { IsHeard (fails result) [] Call.Recv result end.old.heard end.new.heard }
+    ensures heard { IsHeard (fails result) end.old.end end.new.end [] Call.Recv result end.old.heard end.new.heard }
     ensures given { gives (policy_of H.protection K.aead K.seal_limit K.refusal_limit (words_of R.stream) end.old)
         (reads_window (windows_of C.steps C.window_of end.old.control) end.old.heard Call.Recv end.old.end) Call.Recv result
         ≡ [] }
@@ -280,7 +280,7 @@ fn ping_at<H: HeaderKey + Drop, K: PacketKey + Drop, R: Rng + Drop, C: Controlle
     ensures control { IsTold (fails result) (policy_of H.protection K.aead K.seal_limit K.refusal_limit (words_of R.stream) end.old)
         (windows_of C.steps C.window_of end.old.control) end.old.heard end.old.end [] Call.Ping
         (windows_of C.steps C.window_of end.new.control) }
-    ensures heard { IsHeard (fails result) [] Call.Ping result end.old.heard end.new.heard }
+    ensures heard { IsHeard (fails result) end.old.end end.new.end [] Call.Ping result end.old.heard end.new.heard }
     ensures given { gives (policy_of H.protection K.aead K.seal_limit K.refusal_limit (words_of R.stream) end.old)
         (reads_window (windows_of C.steps C.window_of end.old.control) end.old.heard Call.Ping end.old.end) Call.Ping result
         ≡ [] }
@@ -310,7 +310,7 @@ fn close_at<H: HeaderKey + Drop, K: PacketKey + Drop, R: Rng + Drop, C: Controll
         (windows_of C.steps C.window_of end.old.control) end.old.heard end.old.end [] (Call.Close close.entry.now)
         (windows_of C.steps C.window_of end.new.control)) }
     ensures heard { IfOk result (λ a.
-        IsHeard (fails a) [] (Call.Close close.entry.now) a end.old.heard end.new.heard) }
+        IsHeard (fails a) end.old.end end.new.end [] (Call.Close close.entry.now) a end.old.heard end.new.heard) }
     ensures given { IfOk result (λ a.
         gives (policy_of H.protection K.aead K.seal_limit K.refusal_limit (words_of R.stream) end.old)
         (reads_window (windows_of C.steps C.window_of end.old.control) end.old.heard (Call.Close close.entry.now) end.old.end) (Call.Close close.entry.now) a ≡ []) }
@@ -337,7 +337,7 @@ fn use_next_id_at<H: HeaderKey + Drop, K: PacketKey + Drop, R: Rng + Drop, C: Co
     ensures control { IsTold (fails result) (policy_of H.protection K.aead K.seal_limit K.refusal_limit (words_of R.stream) end.old)
         (windows_of C.steps C.window_of end.old.control) end.old.heard end.old.end [] Call.UseNextId
         (windows_of C.steps C.window_of end.new.control) }
-    ensures heard { IsHeard (fails result) [] Call.UseNextId result end.old.heard end.new.heard }
+    ensures heard { IsHeard (fails result) end.old.end end.new.end [] Call.UseNextId result end.old.heard end.new.heard }
     ensures given { gives (policy_of H.protection K.aead K.seal_limit K.refusal_limit (words_of R.stream) end.old)
         (reads_window (windows_of C.steps C.window_of end.old.control) end.old.heard Call.UseNextId end.old.end) Call.UseNextId result
         ≡ [] }
@@ -367,7 +367,7 @@ fn poll_at<H: HeaderKey + Drop, K: PacketKey + Drop, R: Rng + Drop, C: Controlle
         (windows_of C.steps C.window_of end.old.control) end.old.heard end.old.end [] (Call.Poll now)
         (windows_of C.steps C.window_of end.new.control)) }
     ensures heard { IfOk result (λ a.
-        IsHeard (fails a) [] (Call.Poll now) a end.old.heard end.new.heard) }
+        IsHeard (fails a) end.old.end end.new.end [] (Call.Poll now) a end.old.heard end.new.heard) }
     ensures given { IfOk result (λ a.
         mine.new.items
         ≡ mine.old.items ++ gives (policy_of H.protection K.aead K.seal_limit K.refusal_limit (words_of R.stream) end.old)
@@ -408,7 +408,7 @@ fn timeout_at<H: HeaderKey + Drop, K: PacketKey + Drop, R: Rng + Drop, C: Contro
     ensures control { IsTold (fails result) (policy_of H.protection K.aead K.seal_limit K.refusal_limit (words_of R.stream) end.old)
         (windows_of C.steps C.window_of end.old.control) end.old.heard end.old.end [] (Call.Timeout now)
         (windows_of C.steps C.window_of end.new.control) }
-    ensures heard { IsHeard (fails result) [] (Call.Timeout now) result end.old.heard end.new.heard }
+    ensures heard { IsHeard (fails result) end.old.end end.new.end [] (Call.Timeout now) result end.old.heard end.new.heard }
     ensures given { gives (policy_of H.protection K.aead K.seal_limit K.refusal_limit (words_of R.stream) end.old)
         (reads_window (windows_of C.steps C.window_of end.old.control) end.old.heard (Call.Timeout now) end.old.end) (Call.Timeout now) result
         ≡ [] }
@@ -438,7 +438,7 @@ fn deliver_at<H: HeaderKey + Drop, K: PacketKey + Drop, R: Rng + Drop, C: Contro
         (windows_of C.steps C.window_of end.old.control) end.old.heard end.old.end theirs.now (Call.Deliver delivery.entry.now)
         (windows_of C.steps C.window_of end.new.control)) }
     ensures heard { IfOk result (λ a.
-        IsHeard (fails a) theirs.now (Call.Deliver delivery.entry.now) a end.old.heard end.new.heard) }
+        IsHeard (fails a) end.old.end end.new.end theirs.now (Call.Deliver delivery.entry.now) a end.old.heard end.new.heard) }
     ensures openings { IfOk result (λ a.
         CountsOpenings (K.refusal_limit end.old.keys.packet.remote) end.old.end.closing.state end.old.heard a) }
     ensures draws { GoesOn R.stream end.old end.new }
@@ -471,7 +471,7 @@ fn inject_at<H: HeaderKey + Drop, K: PacketKey + Drop, R: Rng + Drop, C: Control
         (windows_of C.steps C.window_of end.old.control) end.old.heard end.old.end [] (Call.Inject injection.entry.now)
         (windows_of C.steps C.window_of end.new.control)) }
     ensures heard { IfOk result (λ a.
-        IsHeard (fails a) [] (Call.Inject injection.entry.now) a end.old.heard end.new.heard) }
+        IsHeard (fails a) end.old.end end.new.end [] (Call.Inject injection.entry.now) a end.old.heard end.new.heard) }
     ensures openings { IfOk result (λ a.
         CountsOpenings (K.refusal_limit end.old.keys.packet.remote) end.old.end.closing.state end.old.heard a) }
     ensures draws { GoesOn R.stream end.old end.new }

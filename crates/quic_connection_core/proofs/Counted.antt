@@ -1,6 +1,6 @@
 -- Only a packet that doesn't open counts as a failure: no error of the frames of a packet that
 -- opened says AEAD_LIMIT_REACHED.
-use Rattle.std.proofs.Common.{◌≡◌, ℕ, Bool, true, false, cond, List, [], ◌∷◌, length, Option, Some, None, Result, Ok, Err, refl, ap}
+use Rattle.std.proofs.Common.{◌≡◌, ℕ, Bool, true, false, cond, List, [], ◌∷◌, length, Option, Some, None, Result, Ok, Err, refl, ap, ◌∙◌}
 use Rattle.std.specs.Prelude.{if◌then◌else◌, nat_lt, not, ◌||◌, ◌==◌}
 use Rattle.std.specs.declared.ops.Range.{Range}
 use Rattle.quic_wire_core.specs.declared.shared.EcnCodepoint.{EcnCodepoint}
@@ -30,22 +30,30 @@ use Rattle.quic_machine.specs.declared.answers.State.{State}
 use Rattle.quic_machine.specs.declared.answers.State.TheVariants as states
 use Rattle.quic_machine.specs.declared.answers.Received.{Received}
 use Rattle.quic_machine.specs.declared.answers.Received.TheVariants as receives
+use Rattle.quic_machine.specs.declared.answers.DropReason.{DropReason}
 use Rattle.quic_machine.specs.declared.answers.DropReason.TheVariants as drops
 use Rattle.quic_machine.specs.Arrival.{Arrival}
 use Rattle.quic_machine.specs.Heard.{Heard, is_key_limit, heard_failure, heard_answer}
 use Rattle.quic_machine.specs.Closing.{ticked}
+use Rattle.quic_machine.specs.Opens.{drop_of, with_drop}
 use Rattle.quic_machine.specs.Ids.{frame_of, retires_for}
 use Rattle.quic_machine.specs.End.{End, side_of, with_closing, with_numbers}
 use Rattle.quic_recovery_core.specs.AckFrequency.{is_stale}
 use Rattle.quic_machine.specs.FrameCases.{ack_taken}
-use Rattle.quic_machine.specs.Receive.{Fault, broke, too_many_pieces, closed_by_peer, violation, error_of, fault_of, fault_at, names_ungiven, message_judged, retired_for, id_judged, retirement_judged, asks_too_soon, frequency_judged, take_frame, take_item, take_items, take_payload, unless_fault, is_empty, asks_in, is_urged, ends_as, dropped, drop_of, by_state, opened_to}
+use Rattle.quic_machine.specs.Receive.{Fault, broke, too_many_pieces, closed_by_peer, violation, error_of, fault_of, fault_at, names_ungiven, message_judged, retired_for, id_judged, retirement_judged, asks_too_soon, frequency_judged, take_frame, take_item, take_items, take_payload, unless_fault, is_empty, asks_in, is_urged, ends_as, dropped, items_taken, by_state, opened_to}
 
 -- a header that can't be read is none
-pub header_kept : (error : HeaderError) (h : Heard) → heard_answer (receives.Dropped (drop_of error)) h ≡ h
+header_kept : (error : HeaderError) (h : Heard) → heard_answer (receives.Dropped (drop_of error)) h ≡ h
 header_kept headers.TooShort h = refl
 header_kept headers.NotShort h = refl
 header_kept headers.FixedBit h = refl
 header_kept headers.UnknownId h = refl
+
+-- nor is a datagram that is dropped for that, or for where it came from
+pub head_kept : (foreign : Bool) (r : Result (List ℕ) HeaderError) (reason : DropReason) (h : Heard) → (if foreign then Err drops.Address else with_drop r) ≡ Err reason → heard_answer (receives.Dropped reason) h ≡ h
+head_kept true r reason h is = ap (λ (x : DropReason). heard_answer (receives.Dropped x) h) (let same : reason ≡ drops.Address = cc in same)
+head_kept false (Err error) reason h is = ap (λ (x : DropReason). heard_answer (receives.Dropped x) h) (let same : reason ≡ drop_of error = cc in same) ∙ header_kept error h
+head_kept false (Ok id) reason h is = absurd cc
 
 -- ---- faults
 
@@ -159,7 +167,9 @@ opened_answer o arrival e = by (key_phase o.first) (is_duplicate e.numbers.opene
     in_state : (s : State) → ToOpened (by_state s o arrival x).answer
     in_state states.Open =
         let y : End = with_closing x (ticked x.closing arrival.now) in
-        ends_apart (take_payload o.first (items o.payload) y).fault (asks_in (items o.payload)) (is_urged arrival.mark (items o.payload) y) o.number arrival.mark (take_payload o.first (items o.payload) y).end (payload_apart o.first (items o.payload) y)
+        let asks = asks_in (items o.payload) in
+        let taken = items_taken o arrival x in
+        ends_apart (take_payload o.first taken y).fault asks (is_urged arrival.mark asks taken y) o.number arrival.mark (take_payload o.first taken y).end (payload_apart o.first taken y)
     in_state states.Closing = tt
     in_state states.Drained = tt
     in_state states.Failed = tt

@@ -7,12 +7,9 @@ use Rattle.std.proofs.lemmas.List.{length-append}
 use Rattle.quic_wire_core.specs.declared.shared.EcnCodepoint.{EcnCodepoint}
 use Rattle.quic_wire_core.specs.TransportError.{ErrorValue}
 use Rattle.quic_wire.specs.Value.{FrameValue, NewConnectionIdValue, ack, datagram, new_connection_id, retire_connection_id, path_response, ack_frequency}
-use Rattle.quic_wire.specs.Items.{items}
 use Rattle.quic_wire.specs.declared.frame.InvalidFrame.{InvalidFrame}
 use Rattle.quic_packet.specs.Header.{key_phase, reserved_bits}
 use Rattle.quic_packet.specs.Datagram.{Opening}
-use Rattle.quic_packet.specs.Destination.{decoded, fixed_length_id}
-use Rattle.quic_packet.specs.declared.packet.HeaderError.{HeaderError}
 use Rattle.quic_recovery_core.specs.Duplicates.{is_duplicate}
 use Rattle.quic_spaces.specs.Numbers.{number_opened}
 use Rattle.quic_ids.specs.CidState.{is_wrong, without, retirement_answer}
@@ -23,19 +20,21 @@ use Rattle.quic_retransmits.specs.Retransmits.{can_retire}
 use Rattle.quic_paths.specs.Paths.{is_asked}
 use Rattle.quic_machine.specs.declared.answers.State.{State}
 use Rattle.quic_machine.specs.declared.answers.State.TheVariants as states
+use Rattle.quic_machine.specs.declared.answers.DropReason.{DropReason}
 use Rattle.quic_machine.specs.declared.answers.DropReason.TheVariants as drops
 use Rattle.quic_machine.specs.Arrival.{Arrival}
 use Rattle.quic_machine.specs.Policy.{Policy}
-use Rattle.quic_machine.specs.Ids.{known, destination, frame_of, retires_for, retired, is_more}
+use Rattle.quic_machine.specs.Ids.{destination, frame_of, retires_for, retired, is_more}
 use Rattle.quic_machine.specs.IdFrames.{retiring, with_taken_up, issued_if, issues_for, drawn}
-use Rattle.quic_machine.specs.Opens.{own_id_length}
+use Rattle.quic_machine.specs.Opens.{head}
 use Rattle.quic_machine.specs.End.{End, with_numbers, with_ids, words_drawn}
 use Rattle.quic_machine.specs.MessageCalls.{most_message}
 use Rattle.quic_machine.specs.Sizes.{without_longer_if, shortened}
 use Rattle.quic_machine.specs.Validation.{word_of, validated_if}
 use Rattle.quic_machine.specs.Steps as steps
-use Rattle.quic_machine.specs.Receive.{Fault, closed_by_peer, violation, is_empty, dropped, retired_for, id_judged, retirement_judged, asks_too_soon, frequency_judged, take_frame, is_read, take_payload, take_items, ends_as, by_state, opened_to, unopened_in, drawn_if, opened_as, opening, headed, received_in, received}
+use Rattle.quic_machine.specs.Receive.{Fault, closed_by_peer, violation, is_empty, dropped, retired_for, id_judged, retirement_judged, asks_too_soon, frequency_judged, take_frame, is_read, take_payload, take_items, ends_as, items_taken, by_state, opened_to, unopened_in, drawn_if, with_ids_drawn, has_migrated, migrated_if, opened_as, opening, headed, received_in, received}
 use Rattle.quic_recovery_core.specs.AckFrequency.{is_stale}
+use Rattle.quic_connection_core.proofs.Migrated.{migrated_more}
 use Rattle.quic_machine.specs.FrameCases.{Settling, IsApart, acked_keeps, frame_keeps, frame_leaves, items_keep, issues_may}
 
 -- messages that are too long draw none
@@ -141,7 +140,7 @@ opened_words o arrival e = by (key_phase o.first) (is_duplicate e.numbers.opened
     x = with_numbers e (number_opened e.numbers o.number)
 
     in_state : (s : State) → words_drawn (by_state s o arrival x).end ≡ words_drawn e
-    in_state states.Open = ends e _ _ _ o.number arrival.mark _ (payload e o.first (items o.payload) _ refl)
+    in_state states.Open = ends e _ _ _ o.number arrival.mark _ (payload e o.first (items_taken o arrival x) _ refl)
     in_state states.Closing = refl
     in_state states.Drained = refl
     in_state states.Failed = refl
@@ -169,16 +168,22 @@ received_words p e arrival d = in_state e.closing.state
     unopened states.Drained b = omega arith
     unopened states.Failed b = omega arith
 
+    moved : (b : Bool) (o : Opening) (x : End) → words_drawn e ≤ words_drawn x → words_drawn e ≤ words_drawn (migrated_if b p o arrival.remote x)
+    moved true o x more = let again = migrated_more p o arrival.remote x in omega (arith, more, again)
+    moved false o x more = more
+
     opens : (o : Option Opening) → words_drawn e ≤ words_drawn (opened_as o p arrival e).end
     opens None = unopened e.closing.state arrival.last
-    opens (Some o) = drawn_behind (is_read (opened_to o arrival e).answer) (opened_to o arrival e).end (opened_words o arrival e)
+    opens (Some o) =
+        let out = with_ids_drawn p (opened_to o arrival e) in
+        moved (has_migrated o arrival.remote e out) o out.end (drawn_behind (is_read (opened_to o arrival e).answer) (opened_to o arrival e).end (opened_words o arrival e))
 
-    heads : (r : Result (List ℕ) HeaderError) → words_drawn e ≤ words_drawn (headed r p e arrival d).end
+    heads : (r : Result (List ℕ) DropReason) → words_drawn e ≤ words_drawn (headed r p e arrival d).end
     heads (Ok id) = opens (opening p e d)
     heads (Err error) = omega arith
 
     in_state : (s : State) → words_drawn e ≤ words_drawn (received_in s p e arrival d).end
-    in_state states.Open = heads (decoded (fixed_length_id own_id_length) (known e.ids) d)
-    in_state states.Closing = heads (decoded (fixed_length_id own_id_length) (known e.ids) d)
+    in_state states.Open = heads (head e arrival.remote d)
+    in_state states.Closing = heads (head e arrival.remote d)
     in_state states.Drained = omega arith
     in_state states.Failed = omega arith

@@ -1,6 +1,6 @@
 -- The items of a payload, one after another.
 use Rattle.std.proofs.Common.{◌≡◌, ℕ, Bool, true, false, not, cond, ◌&&◌, ◌||◌, List, [], ◌∷◌, ◌++◌, length, Option, Some, None, IfSome, Result, Ok, Err, refl, sym, ap, subst, ◌∙◌, append-nil, arith}
-use Rattle.quic_wire.specs.Value.{FrameValue, padding, ack}
+use Rattle.quic_wire.specs.Value.{FrameValue, ack, path_challenge, path_response}
 use Rattle.quic_wire.specs.Items.{items, pads, without_padding}
 use Rattle.quic_wire.specs.declared.frame.InvalidFrame.{InvalidFrame}
 use Rattle.quic_wire_core.specs.declared.shared.EcnCodepoint.{EcnCodepoint}
@@ -8,14 +8,37 @@ use Rattle.quic_packet.specs.Header.{reserved_bits}
 use Rattle.quic_spaces.specs.Marks.{is_congested}
 use Rattle.quic_congestion.specs.Congestion.{Told, Steps, after_calls}
 use Rattle.quic_machine.specs.End.{End, ConnectionValue}
+use Rattle.quic_machine.specs.Migration.{item_elsewhere, item_at, items_at}
 use Rattle.quic_machine.specs.Receive.{Fault, Progress, take_item, take_items, behind, told_item, told_items, told_behind, item_asks, item_answers, items_answer, asks_in, is_urged, told_payload}
 use Rattle.quic_connection_parts.specs.declared.receiving.Trouble.{Trouble}
 use Rattle.quic_connection_parts.specs.Faults.{fault_view, ItemHasForm, AllHaveForm, IsOther, TellsAs}
 use Rattle.quic_connection_parts.proofs.Told.{told_parts}
-use Rattle.quic_connection_core.proofs.Payloads.{no_items}
+use Rattle.quic_connection_parts.proofs.Unpadded.{pads_is}
+use Rattle.quic_connection_core.proofs.Payloads.{no_items, empty_at}
 
 abbrev Item : Type 0
 Item = Result FrameValue InvalidFrame
+
+-- ---- what came from elsewhere
+
+-- one item and the others
+pub first_at : (here : Bool) (i : Item) (is all : List Item) → all ≡ i ∷ is → items_at here all ≡ item_at here i ∷ items_at here is
+first_at true i is all first = first
+first_at false i is all first = ap (items_at false) first
+
+pub nothing_at : (here : Bool) → items_at here [] ≡ []
+nothing_at true = refl
+nothing_at false = refl
+
+-- what acknowledges does so from everywhere
+pub answers_at : (here : Bool) (i : Item) (e : End) → item_answers (item_at here i) e ≡ item_answers i e
+answers_at true i e = refl
+answers_at false (Ok (path_challenge token)) e = refl
+answers_at false (Ok (path_response token)) e = refl
+answers_at false (Ok f) e = refl
+answers_at false (Err x) e = refl
+
+-- ---- one after another
 
 -- one that is taken, and the others behind it
 pub taken_step : (i : Item) (is all : List Item) (e f : End) → all ≡ i ∷ is → take_item i e ≡ record { end = f; fault = None } → take_items is f ≡ take_items all e
@@ -73,13 +96,15 @@ urges_so false true false true true qs = refl
 urges_so false true false false true qs = refl
 urges_so false true false ps false qs = refl
 
-pub urged_step : (a b whole : Bool) (mark : Option EcnCodepoint) (i : Item) (is all : List Item) (e f : End) → all ≡ i ∷ is → take_item i e ≡ record { end = f; fault = None }
-    → b ≡ (a || (is_congested mark && (item_asks i || item_answers i e))) → (a || is_urged mark all e) ≡ whole → (b || is_urged mark is f) ≡ whole
-urged_step a b whole mark i is all e f first takes more before =
-    ap (λ (x : Bool). x || is_urged mark is f) more
-    ∙ ap (λ (p : Progress). (a || (is_congested mark && (item_asks i || item_answers i e))) || is_urged mark is p.end) (sym takes)
-    ∙ urges_so a (is_congested mark) (item_asks i) (asks_in is) (item_answers i e) (items_answer is (take_item i e).end)
-    ∙ ap (λ (xs : List Item). a || is_urged mark xs e) (sym first)
+-- of what is taken of a packet, where the packet asks or doesn't
+pub urged_step : (a b whole : Bool) (mark : Option EcnCodepoint) (asks others_ask all_ask : Bool) (i : Item) (is all : List Item) (e f : End) → all ≡ i ∷ is → all_ask ≡ (asks || others_ask) → take_item i e ≡ record { end = f; fault = None }
+    → b ≡ (a || (is_congested mark && (asks || item_answers i e))) → (a || is_urged mark all_ask all e) ≡ whole → (b || is_urged mark others_ask is f) ≡ whole
+urged_step a b whole mark asks others_ask all_ask i is all e f first all_so takes more before =
+    ap (λ (x : Bool). x || is_urged mark others_ask is f) more
+    ∙ ap (λ (p : Progress). (a || (is_congested mark && (asks || item_answers i e))) || is_urged mark others_ask is p.end) (sym takes)
+    ∙ urges_so a (is_congested mark) asks others_ask (item_answers i e) (items_answer is (take_item i e).end)
+    ∙ ap (λ (x : Bool). a || (is_congested mark && (x || (item_answers i e || items_answer is (take_item i e).end)))) (sym all_so)
+    ∙ ap (λ (xs : List Item). a || is_urged mark all_ask xs e) (sym first)
     ∙ before
 
 none_urge : (a c : Bool) → (a || (c && false)) ≡ a
@@ -87,8 +112,12 @@ none_urge true c = refl
 none_urge false true = refl
 none_urge false false = refl
 
-pub urged_last : (a whole : Bool) (mark : Option EcnCodepoint) (all : List Item) (e : End) → all ≡ [] → (a || is_urged mark all e) ≡ whole → a ≡ whole
-urged_last a whole mark all e none before = sym (none_urge a (is_congested mark)) ∙ ap (λ (xs : List Item). a || is_urged mark xs e) (sym none) ∙ before
+pub urged_last : (a whole : Bool) (mark : Option EcnCodepoint) (here : Bool) (all : List Item) (e : End) → all ≡ [] → (a || is_urged mark (asks_in all) (items_at here all) e) ≡ whole → a ≡ whole
+urged_last a whole mark here all e none before =
+    sym (none_urge a (is_congested mark))
+    ∙ ap (λ (xs : List Item). a || is_urged mark false xs e) (sym (nothing_at here))
+    ∙ ap (λ (xs : List Item). a || is_urged mark (asks_in xs) (items_at here xs) e) (sym none)
+    ∙ before
 
 pub form_behind : (i : Item) (is all : List Item) → all ≡ i ∷ is → AllHaveForm all → AllHaveForm is
 form_behind i is all first form = (subst (λ (xs : List Item). AllHaveForm xs) first form).1
@@ -107,33 +136,34 @@ tells_nothing {A} {H} {K} {R} {C} (Ok x) steps old new told none same = same ∙
 tells_nothing {A} {H} {K} {R} {C} (Err trouble) steps old new told none same = in_any (fault_view trouble) (same ∙ ap (λ (t : List Told). after_calls steps old.control t) (sym none))
 
 -- a payload that has no byte tells nothing
-pub empty_tells : (first : ℕ) (bytes : List ℕ) (e : End) → length bytes ≡ 0 → reserved_bits first ≡ 0 → told_payload first (items bytes) e ≡ []
-empty_tells first [] e none clear = rw (clear, no_items) refl
-empty_tells first (b ∷ bytes) e none clear = absurd (omega arith)
+pub empty_tells : (here : Bool) (first : ℕ) (bytes : List ℕ) (e : End) → length bytes ≡ 0 → reserved_bits first ≡ 0 → told_payload first (items_at here (items bytes)) e ≡ []
+empty_tells here first [] e none clear = rw (clear, empty_at here (items []), no_items) refl
+empty_tells here first (b ∷ bytes) e none clear = absurd (omega arith)
 
--- ---- PADDING does nothing: what is taken, told and asked is that of the other items
+-- ---- PADDING does nothing, wherever it came from: what is taken, told and asked is that of the
+-- other items
 
-pads_is : (i : Item) → pads i ≡ true → i ≡ Ok padding
-pads_is (Ok padding) is = refl
-pads_is i is = absurd cc
+takes_but : (here : Bool) (i : Item) (is others : List Item) (b : Bool) → pads i ≡ b → ((e : End) → take_items (items_at here others) e ≡ take_items (items_at here is) e) → (e : End) → take_items (items_at here (cond (not b) (i ∷ others) others)) e ≡ take_items (items_at here (i ∷ is)) e
+takes_but true i is others true so same e = same e ∙ ap (λ (j : Item). take_items (j ∷ is) e) (sym (pads_is i so))
+takes_but false i is others true so same e = same e ∙ ap (λ (j : Item). take_items (items_at false (j ∷ is)) e) (sym (pads_is i so))
+takes_but true i is others false so same e = ap (λ (next : End → Progress). behind (take_item i e) next) (λ k x. same x k)
+takes_but false i is others false so same e = ap (λ (next : End → Progress). behind (take_item (item_elsewhere i) e) next) (λ k x. same x k)
 
-takes_but : (i : Item) (is others : List Item) (b : Bool) → pads i ≡ b → ((e : End) → take_items others e ≡ take_items is e) → (e : End) → take_items (cond (not b) (i ∷ others) others) e ≡ take_items (i ∷ is) e
-takes_but i is others true so same e = same e ∙ ap (λ (j : Item). take_items (j ∷ is) e) (sym (pads_is i so))
-takes_but i is others false so same e = ap (λ (next : End → Progress). behind (take_item i e) next) (λ k x. same x k)
-
-pub takes_unpadded : (is : List Item) (e : End) → take_items (without_padding is) e ≡ take_items is e
+pub takes_unpadded : (here : Bool) (is : List Item) (e : End) → take_items (items_at here (without_padding is)) e ≡ take_items (items_at here is) e
 unfolding without_padding
-takes_unpadded [] e = refl
-takes_unpadded (i ∷ is) e = takes_but i is (without_padding is) (pads i) refl (λ x. takes_unpadded is x) e
+takes_unpadded here [] e = refl
+takes_unpadded here (i ∷ is) e = takes_but here i is (without_padding is) (pads i) refl (λ x. takes_unpadded here is x) e
 
-told_but : (i : Item) (is others : List Item) (b : Bool) → pads i ≡ b → ((e : End) → told_items others e ≡ told_items is e) → (e : End) → told_items (cond (not b) (i ∷ others) others) e ≡ told_items (i ∷ is) e
-told_but i is others true so same e = same e ∙ ap (λ (j : Item). told_items (j ∷ is) e) (sym (pads_is i so))
-told_but i is others false so same e = ap (λ (next : End → List Told). told_item i e ++ told_behind (take_item i e) next) (λ k x. same x k)
+told_but : (here : Bool) (i : Item) (is others : List Item) (b : Bool) → pads i ≡ b → ((e : End) → told_items (items_at here others) e ≡ told_items (items_at here is) e) → (e : End) → told_items (items_at here (cond (not b) (i ∷ others) others)) e ≡ told_items (items_at here (i ∷ is)) e
+told_but true i is others true so same e = same e ∙ ap (λ (j : Item). told_items (j ∷ is) e) (sym (pads_is i so))
+told_but false i is others true so same e = same e ∙ ap (λ (j : Item). told_items (items_at false (j ∷ is)) e) (sym (pads_is i so))
+told_but true i is others false so same e = ap (λ (next : End → List Told). told_item i e ++ told_behind (take_item i e) next) (λ k x. same x k)
+told_but false i is others false so same e = ap (λ (next : End → List Told). told_item (item_elsewhere i) e ++ told_behind (take_item (item_elsewhere i) e) next) (λ k x. same x k)
 
-pub told_unpadded : (is : List Item) (e : End) → told_items (without_padding is) e ≡ told_items is e
+pub told_unpadded : (here : Bool) (is : List Item) (e : End) → told_items (items_at here (without_padding is)) e ≡ told_items (items_at here is) e
 unfolding without_padding
-told_unpadded [] e = refl
-told_unpadded (i ∷ is) e = told_but i is (without_padding is) (pads i) refl (λ x. told_unpadded is x) e
+told_unpadded here [] e = refl
+told_unpadded here (i ∷ is) e = told_but here i is (without_padding is) (pads i) refl (λ x. told_unpadded here is x) e
 
 asks_but : (i : Item) (is others : List Item) (b : Bool) → pads i ≡ b → asks_in others ≡ asks_in is → asks_in (cond (not b) (i ∷ others) others) ≡ asks_in (i ∷ is)
 asks_but i is others true so same = same ∙ ap (λ (j : Item). asks_in (j ∷ is)) (sym (pads_is i so))
@@ -144,19 +174,21 @@ unfolding without_padding
 asks_unpadded [] = refl
 asks_unpadded (i ∷ is) = asks_but i is (without_padding is) (pads i) refl (asks_unpadded is)
 
-answers_but : (i : Item) (is others : List Item) (b : Bool) → pads i ≡ b → ((e : End) → items_answer others e ≡ items_answer is e) → (e : End) → items_answer (cond (not b) (i ∷ others) others) e ≡ items_answer (i ∷ is) e
-answers_but i is others true so same e = same e ∙ ap (λ (j : Item). items_answer (j ∷ is) e) (sym (pads_is i so))
-answers_but i is others false so same e = ap (λ (b : Bool). item_answers i e || b) (same (take_item i e).end)
+answers_but : (here : Bool) (i : Item) (is others : List Item) (b : Bool) → pads i ≡ b → ((e : End) → items_answer (items_at here others) e ≡ items_answer (items_at here is) e) → (e : End) → items_answer (items_at here (cond (not b) (i ∷ others) others)) e ≡ items_answer (items_at here (i ∷ is)) e
+answers_but true i is others true so same e = same e ∙ ap (λ (j : Item). items_answer (j ∷ is) e) (sym (pads_is i so))
+answers_but false i is others true so same e = same e ∙ ap (λ (j : Item). items_answer (items_at false (j ∷ is)) e) (sym (pads_is i so))
+answers_but true i is others false so same e = ap (λ (b : Bool). item_answers i e || b) (same (take_item i e).end)
+answers_but false i is others false so same e = ap (λ (b : Bool). item_answers (item_elsewhere i) e || b) (same (take_item (item_elsewhere i) e).end)
 
-answers_unpadded : (is : List Item) (e : End) → items_answer (without_padding is) e ≡ items_answer is e
+answers_unpadded : (here : Bool) (is : List Item) (e : End) → items_answer (items_at here (without_padding is)) e ≡ items_answer (items_at here is) e
 unfolding without_padding
-answers_unpadded [] e = refl
-answers_unpadded (i ∷ is) e = answers_but i is (without_padding is) (pads i) refl (λ x. answers_unpadded is x) e
+answers_unpadded here [] e = refl
+answers_unpadded here (i ∷ is) e = answers_but here i is (without_padding is) (pads i) refl (λ x. answers_unpadded here is x) e
 
-pub urged_unpadded : (mark : Option EcnCodepoint) (is : List Item) (e : End) → is_urged mark (without_padding is) e ≡ is_urged mark is e
-urged_unpadded mark is e =
-    ap (λ (b : Bool). is_congested mark && (b || items_answer (without_padding is) e)) (asks_unpadded is)
-    ∙ ap (λ (b : Bool). is_congested mark && (asks_in is || b)) (answers_unpadded is e)
+pub urged_unpadded : (mark : Option EcnCodepoint) (here : Bool) (is : List Item) (e : End) → is_urged mark (asks_in (without_padding is)) (items_at here (without_padding is)) e ≡ is_urged mark (asks_in is) (items_at here is) e
+urged_unpadded mark here is e =
+    ap (λ (b : Bool). is_congested mark && (b || items_answer (items_at here (without_padding is)) e)) (asks_unpadded is)
+    ∙ ap (λ (b : Bool). is_congested mark && (asks_in is || b)) (answers_unpadded here is e)
 
 form_but : (i : Item) (others : List Item) (b : Bool) → ItemHasForm i → AllHaveForm others → AllHaveForm (cond b (i ∷ others) others)
 form_but i others true first all = (first, all)

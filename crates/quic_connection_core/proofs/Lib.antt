@@ -17,5 +17,7 @@ pub mod Counted
 mod Expiries
 pub mod Receiving
 pub mod Taken
+mod Migrated
 pub mod Drawn
+mod Migrating
 mod Made

@@ -133,3 +133,22 @@ probe_flies g f immediate s p t up i = go (nat_lt 0 s.tracking.probes)
     go : (b : Bool) → IsInFlight g (probe_queued b immediate s p t).space.numbers.next (probe_queued b immediate s p t).space.tracking.packets f
     go true = empty_case (is_empty p t)
     go false = i
+
+-- and no number is given or taken
+pub probe_numbers : (immediate : Bool) (s : PacketSpace) (p : Retransmits) (t : StreamsState) → (after_probe_queued immediate s p t).space.numbers ≡ s.numbers
+probe_numbers immediate s p t = go (nat_lt 0 s.tracking.probes)
+  where
+    marked : PacketSpace
+    marked = record s { immediate_ack_pending = s.immediate_ack_pending || immediate }
+
+    record_case : (o : Option (ℕ × TrackedPacket)) → (space.record_moved o marked p).space.numbers ≡ s.numbers
+    record_case None = refl
+    record_case (Some r) = refl
+
+    empty_case : (b : Bool) → (space.probe_filled b marked p t).space.numbers ≡ s.numbers
+    empty_case true = record_case (first_record t s.tracking.packets)
+    empty_case false = refl
+
+    go : (b : Bool) → (probe_queued b immediate s p t).space.numbers ≡ s.numbers
+    go true = empty_case (is_empty p t)
+    go false = refl

@@ -27,6 +27,7 @@ mod id_frames;
 mod idle;
 mod limits;
 mod messages;
+mod migration;
 mod packet;
 mod polling;
 mod receiving;
@@ -121,6 +122,7 @@ impl<H, K, R, C: Controller> Model for Connection<H, K, R, C> {
     ghost use Rattle.quic_paths.specs.Paths.{challenge_to_send};
     ghost use Rattle.quic_connection_parts.specs.Telling.{AreSizes};
     ghost use Rattle.quic_connection_parts.specs.Flying.{IsInFlight};
+    ghost use Rattle.quic_spaces.specs.Numbers.{expected};
 
     ghost Value = { ConnectionValue H K R C };
 
@@ -167,12 +169,14 @@ impl<H, K, R, C: Controller> Model for Connection<H, K, R, C> {
 
     // The idle timeout is that of both ends' settings. The size of datagrams lies between 1200
     // bytes and what the peer takes, the controller was told no less, and two datagrams fit the
-    // window. In flight is what is tracked, asks, and went on the path. ACK_FREQUENCY frames are
+    // window. In flight is what is tracked, asks, and went on the path. Each path after the first
+    // came by a packet whose number is above all that were taken before. ACK_FREQUENCY frames are
     // numbered one after another.
     ghost invariant = { λ c. (c.idle_timeout ≡ agreed_timeout c.transport c.peer_params)
         × AreInRange c.peer_params
         × AreSizes C.size_of C.window_of c.peer_params.max_udp_payload_size c.path.discovery c.path.congestion c.window
         × IsInFlight c.path.generation c.space.numbers.next c.space.tracking.packets c.path.in_flight
+        × (c.path.generation ≤ expected c.space.numbers)
         × (c.ack_frequency.next ≡ c.requests)
         × (c.requests ≤ 2 ^ 62) };
 }
@@ -347,7 +351,8 @@ impl<H: HeaderKey + Drop, K: PacketKey + Drop, R: Rng + Drop, C: Controller> Con
     }
 
     /// Whether the peer's address is validated (RFC 9000, section 8): it was as the endpoint was
-    /// made, or the peer answered a PATH_CHALLENGE. It stays so.
+    /// made, or the peer answered a PATH_CHALLENGE. It stays so until the peer moves to another
+    /// address, as it may at a server (section 9).
     pub fn is_validated(&self) -> bool
         ensures { result ≡ self.now.end.path.validated }
     {

@@ -70,24 +70,28 @@ draws_ids {H} {K} {R} {C} protection aead seals openings stream v w r left frame
 
 -- ---- the timer of path validation
 
-module _ {H K R C : Type 0} (stream : R → Stream) (w : ConnectionValue H K R C) (came : Bool) where
+module _ {H K R C : Type 0} (stream : R → Stream) (w : ConnectionValue H K R C) where
   -- it hasn't come
-  pub path_waits_on : came ≡ false → w ≡ drawing w.random (with_end w (path_expired (words_at stream w) came w.end))
-  path_waits_on not_yet = sym (ap (λ (b : Bool). with_end w (path_expired (words_at stream w) b w.end)) not_yet)
+  pub path_waits_on : (came : Bool) → came ≡ false → w ≡ drawing w.random (with_end w (path_expired (words_at stream w) came w.end))
+  path_waits_on came not_yet = sym (ap (λ (b : Bool). with_end w (path_expired (words_at stream w) b w.end)) not_yet)
 
-  module _ (come : came ≡ true) where
-    expires : (b : Bool) → nat_lt w.end.validation.drawn most_challenges ≡ b → (x : ConnectionValue H K R C) → x ≡ drawing x.random (with_end w (challenged_anew (words_at stream w) b w.end)) → x ≡ drawing x.random (with_end w (path_expired (words_at stream w) came w.end))
-    expires b few x is =
-        is
-        ∙ ap (λ (c : Bool). drawing x.random (with_end w (challenged_anew (words_at stream w) c w.end))) (sym few)
-        ∙ ap (λ (c : Bool). drawing x.random (with_end w (path_expired (words_at stream w) c w.end))) (sym come)
+  abbrev Anew : ConnectionValue H K R C → Bool → Type 0
+  Anew x few = x ≡ drawing x.random (with_end w (challenged_anew (words_at stream w) few w.end))
 
-    -- the peer is asked anew
-    pub path_asks : nat_lt w.end.validation.drawn most_challenges ≡ true → (x : ConnectionValue H K R C) → x ≡ drawing x.random (with_end w (challenged (words_of stream w.random 0) w.end)) → x ≡ drawing x.random (with_end w (path_expired (words_at stream w) came w.end))
-    path_asks few x is = expires true few x (is ∙ ap (λ (k : ℕ). drawing x.random (with_end w (challenged k w.end))) (sym (first_word stream w)))
+  -- it has
+  pub path_expires : (came : Bool) → came ≡ true → (x : ConnectionValue H K R C) → Anew x (nat_lt w.end.validation.drawn most_challenges) → x ≡ drawing x.random (with_end w (path_expired (words_at stream w) came w.end))
+  path_expires came come x is = is ∙ ap (λ (c : Bool). drawing x.random (with_end w (path_expired (words_at stream w) c w.end))) (sym come)
 
-    -- or it was often enough
-    pub path_gives_up : nat_lt w.end.validation.drawn most_challenges ≡ false → (v : ConnectionValue H K R C) → v ≡ w → (t : Timers) → t ≡ with_path_timer v.end.timers None → with_end v (record v.end { timers = t }) ≡ drawing v.random (with_end w (path_expired (words_at stream w) came w.end))
-    path_gives_up many v same t is =
-        expires false many (with_end v (record v.end { timers = t }))
-        (ap (λ (x : Timers). with_end v (record v.end { timers = x })) is ∙ ap (λ (y : ConnectionValue H K R C). drawing v.random (with_end y (challenged_anew (words_at stream y) false y.end))) same)
+  -- the peer is asked anew
+  pub path_asks : (few : Bool) → few ≡ true → (x : ConnectionValue H K R C) → x ≡ drawing x.random (with_end w (challenged (words_of stream w.random 0) w.end)) → Anew x few
+  path_asks few so x is =
+      is
+      ∙ ap (λ (k : ℕ). drawing x.random (with_end w (challenged k w.end))) (sym (first_word stream w))
+      ∙ ap (λ (c : Bool). drawing x.random (with_end w (challenged_anew (words_at stream w) c w.end))) (sym so)
+
+  -- or it was often enough
+  pub path_gives_up : (few : Bool) → few ≡ false → (v : ConnectionValue H K R C) → v ≡ w → (t : Timers) → t ≡ with_path_timer v.end.timers None → with_end v (record v.end { timers = t }) ≡ drawing v.random (with_end w (challenged_anew (words_at stream w) few w.end))
+  path_gives_up few so v same t is =
+      ap (λ (x : Timers). with_end v (record v.end { timers = x })) is
+      ∙ ap (λ (y : ConnectionValue H K R C). drawing v.random (with_end y (challenged_anew (words_at stream y) false y.end))) same
+      ∙ ap (λ (c : Bool). drawing v.random (with_end w (challenged_anew (words_at stream w) c w.end))) (sym so)

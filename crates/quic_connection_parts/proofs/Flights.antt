@@ -70,8 +70,8 @@ totals_are : (g : ℕ) (ps : Packets) → flight_of (flying_packets g ps) ≡ to
 totals_are g ps = same_flight _ _ _ _ (bytes_are g ps) (count_is g ps)
 
 -- a flight by its totals
-of_totals : (g next : ℕ) (ps : Packets) (f : Flight) → f.bytes ≡ total (bytes_of g) ps → f.asking ≡ total (one_of g) ps → All (λ p. p.0 < next) ps → All (λ p. p.1.size < 2 ^ 16) ps → IsInFlight g next ps f
-of_totals g next ps f bytes asking below sized = record { sums = same_flight _ _ _ _ bytes asking ∙ sym (totals_are g ps); below = below; sized = sized }
+of_totals : (g next : ℕ) (ps : Packets) (f : Flight) → f.bytes ≡ total (bytes_of g) ps → f.asking ≡ total (one_of g) ps → All (λ p. p.0 < next) ps → All (λ p. p.1.size < 2 ^ 16) ps → All (λ p. p.1.generation ≤ g) ps → IsInFlight g next ps f
+of_totals g next ps f bytes asking below sized aged = record { sums = same_flight _ _ _ _ bytes asking ∙ sym (totals_are g ps); below = below; sized = sized; aged = aged }
 
 bytes_in : (g next : ℕ) (ps : Packets) (f : Flight) → IsInFlight g next ps f → f.bytes ≡ total (bytes_of g) ps
 bytes_in g next ps f i = ap (λ (x : Flight). x.bytes) (i.sums ∙ totals_are g ps)
@@ -81,7 +81,7 @@ asking_in g next ps f i = ap (λ (x : Flight). x.asking) (i.sums ∙ totals_are 
 
 -- no packet is tracked
 pub none_in_flight : (g next : ℕ) → IsInFlight g next [] (record { bytes = 0; asking = 0 })
-none_in_flight g next = record { sums = refl; below = All-nil (λ (p : ℕ × TrackedPacket). p.0 < next); sized = All-nil (λ (p : ℕ × TrackedPacket). p.1.size < 2 ^ 16) }
+none_in_flight g next = record { sums = refl; below = All-nil (λ (p : ℕ × TrackedPacket). p.0 < next); sized = All-nil (λ (p : ℕ × TrackedPacket). p.1.size < 2 ^ 16); aged = All-nil (λ (p : ℕ × TrackedPacket). p.1.generation ≤ g) }
 
 -- ---- the packets that an ACK frame names
 
@@ -109,7 +109,7 @@ named_leave g next a ps acked f i is =
     let b = bytes_in g next ps f i in
     let k = asking_in g next ps f i in
     let left = of_totals g next (not_acked_by a ps) (less f (totals g acked)) (omega (arith, bytes, b)) (omega (arith, asking, k))
-    (All-filter (λ p. not (names a p.0)) (λ p. p.0 < next) ps i.below) (All-filter (λ p. not (names a p.0)) (λ p. p.1.size < 2 ^ 16) ps i.sized) in
+    (All-filter (λ p. not (names a p.0)) (λ p. p.0 < next) ps i.below) (All-filter (λ p. not (names a p.0)) (λ p. p.1.size < 2 ^ 16) ps i.sized) (All-filter (λ p. not (names a p.0)) (λ p. p.1.generation ≤ g) ps i.aged) in
     subst (λ (x : Flight). IsInFlight g next (not_acked_by a ps) (less f x)) (sym (totals_are g acked)) left
 
 -- ---- a packet that is lost
@@ -171,12 +171,12 @@ lost_leaves g next v p old new f i takes = go (is_flying g p.1) refl
         let size : bytes_of g p.1 ≡ p.1.size = ap (λ (x : Bool). cond x p.1.size 0) flew in
         let one : one_of g p.1 ≡ 1 = ap (λ (x : Bool). cond x 1 0) flew in
         of_totals g next new.packets (flight_without f p.1.size true) (omega (arith, bytes, b, size)) (omega (arith, asking, k, one))
-        (lost_all (λ q. q.0 < next) v p old new takes i.below) (lost_all (λ q. q.1.size < 2 ^ 16) v p old new takes i.sized)
+        (lost_all (λ q. q.0 < next) v p old new takes i.below) (lost_all (λ q. q.1.size < 2 ^ 16) v p old new takes i.sized) (lost_all (λ q. q.1.generation ≤ g) v p old new takes i.aged)
     go false flew =
         let size : bytes_of g p.1 ≡ 0 = ap (λ (x : Bool). cond x p.1.size 0) flew in
         let one : one_of g p.1 ≡ 0 = ap (λ (x : Bool). cond x 1 0) flew in
         of_totals g next new.packets f (omega (arith, bytes, b, size)) (omega (arith, asking, k, one))
-        (lost_all (λ q. q.0 < next) v p old new takes i.below) (lost_all (λ q. q.1.size < 2 ^ 16) v p old new takes i.sized)
+        (lost_all (λ q. q.0 < next) v p old new takes i.below) (lost_all (λ q. q.1.size < 2 ^ 16) v p old new takes i.sized) (lost_all (λ q. q.1.generation ≤ g) v p old new takes i.aged)
 
 -- ---- packets that leave one after another
 
@@ -382,12 +382,13 @@ sent_flies g next n t f p i above same fits = go (forgotten t p) refl
     below = All-weaker (λ (q : ℕ × TrackedPacket). q.0 < next) (λ q. q.0 < n) low t.packets i.below
 
     -- with those that stay, and what was in flight of them
-    joins : (left : Packets) (h : Flight) → All (λ q. q.0 < n) left → All (λ q. q.1.size < 2 ^ 16) left → h.bytes ≡ total (bytes_of g) left + bytes_of g p → h.asking ≡ total (one_of g) left + one_of g p → IsInFlight g (n + 1) (added left n p) h
-    joins left h few sized bytes asking =
+    joins : (left : Packets) (h : Flight) → All (λ q. q.0 < n) left → All (λ q. q.1.size < 2 ^ 16) left → All (λ q. q.1.generation ≤ g) left → h.bytes ≡ total (bytes_of g) left + bytes_of g p → h.asking ≡ total (one_of g) left + one_of g p → IsInFlight g (n + 1) (added left n p) h
+    joins left h few sized aged bytes asking =
         subst (λ (ps : Packets). IsInFlight g (n + 1) ps h) (sym (added_last n p left few))
         (of_totals g (n + 1) (left ++ (n, p) ∷ []) h (bytes ∙ sym (sum_by_push (λ (q : ℕ × TrackedPacket). bytes_of g q.1) left (n, p))) (asking ∙ sym (sum_by_push (λ (q : ℕ × TrackedPacket). one_of g q.1) left (n, p)))
         (All-push (λ (q : ℕ × TrackedPacket). q.0 < n + 1) left (n, p) (All-weaker (λ (q : ℕ × TrackedPacket). q.0 < n) (λ q. q.0 < n + 1) (below_more n) left few) (omega arith))
-        (All-push (λ (q : ℕ × TrackedPacket). q.1.size < 2 ^ 16) left (n, p) sized fits))
+        (All-push (λ (q : ℕ × TrackedPacket). q.1.size < 2 ^ 16) left (n, p) sized fits)
+        (All-push (λ (q : ℕ × TrackedPacket). q.1.generation ≤ g) left (n, p) aged (omega (arith, same))))
 
     b : f.bytes ≡ total (bytes_of g) t.packets
     b = bytes_in g next t.packets f i
@@ -408,14 +409,14 @@ sent_flies g next n t f p i above same fits = go (forgotten t p) refl
     one_more = joined_asking f p.size p.asks
 
     go : (o : Option (ℕ × TrackedPacket)) → forgotten t p ≡ o → IsInFlight g (n + 1) (added (without_packet o t.packets) n p) (flight_left_any g (flight_joined f p.size p.asks) (option_map (λ q. q.1) o))
-    go None is = joins t.packets (flight_joined f p.size p.asks) below i.sized (omega (arith, b, size, more)) (omega (arith, k, one, one_more))
+    go None is = joins t.packets (flight_joined f p.size p.asks) below i.sized i.aged (omega (arith, b, size, more)) (omega (arith, k, one, one_more))
     go (Some q) is =
         let there = forgotten_there t p q is in
         let bytes = without_total (bytes_of g) t.packets q there in
         let asking = without_total (one_of g) t.packets q there in
         let less_bytes = left_bytes g (flight_joined f p.size p.asks) q.1 in
         let less_asking = left_asking g (flight_joined f p.size p.asks) q.1 in
-        joins (without t.packets q.0) (flight_left g (flight_joined f p.size p.asks) q.1) (all_without (λ x. x.0 < n) (is_at (nat_cmp q.0)) t.packets below) (all_without (λ x. x.1.size < 2 ^ 16) (is_at (nat_cmp q.0)) t.packets i.sized)
+        joins (without t.packets q.0) (flight_left g (flight_joined f p.size p.asks) q.1) (all_without (λ x. x.0 < n) (is_at (nat_cmp q.0)) t.packets below) (all_without (λ x. x.1.size < 2 ^ 16) (is_at (nat_cmp q.0)) t.packets i.sized) (all_without (λ x. x.1.generation ≤ g) (is_at (nat_cmp q.0)) t.packets i.aged)
         (omega (arith, b, size, more, bytes, less_bytes)) (omega (arith, k, one, one_more, asking, less_asking))
 
 -- ---- there is room for one more in flight: numbers ascend, so that there are no more packets than numbers
@@ -467,14 +468,42 @@ moved_flies g next ps f q i there =
     of_totals g next (put ps q.0 r) f (bytes_in g next ps f i ∙ sym (set_total (bytes_of g) ps q r there refl)) (asking_in g next ps f i ∙ sym (set_total (one_of g) ps q r there refl))
     (all_set (λ x. x.0 < next) (is_at (nat_cmp q.0)) ps r (λ n s found h. h) i.below)
     (all_set (λ x. x.1.size < 2 ^ 16) (is_at (nat_cmp q.0)) ps r (λ n s found h. (let same : s ≡ q.1 = some_same s q.1 (sym found ∙ there) in subst (λ (x : TrackedPacket). x.size < 2 ^ 16) same h)) i.sized)
+    (all_set (λ x. x.1.generation ≤ g) (is_at (nat_cmp q.0)) ps r (λ n s found h. (let same : s ≡ q.1 = some_same s q.1 (sym found ∙ there) in subst (λ (x : TrackedPacket). x.generation ≤ g) same h)) i.aged)
   where
     some_same : (s t : TrackedPacket) → Some s ≡ Some t → s ≡ t
     some_same s t e = cc
 
 -- where a number is given that no packet has, all lie below the next one still
 pub later_flies : (g next : ℕ) (filter : Filter) (ps : Packets) (f : Flight) → IsInFlight g next ps f → IsInFlight g (allocated filter next + 1) ps f
-later_flies g next filter ps f i = record { sums = i.sums; below = λ k d few. (let lt = i.below k d few in let above = higher (is_skipped filter next) in omega (arith, lt, above)); sized = i.sized }
+later_flies g next filter ps f i = record { sums = i.sums; below = λ k d few. (let lt = i.below k d few in let above = higher (is_skipped filter next) in omega (arith, lt, above)); sized = i.sized; aged = i.aged }
   where
     higher : (b : Bool) → next ≤ (if b then next + 1 else next)
     higher true = omega arith
     higher false = omega arith
+
+-- ---- another path, on which nothing went
+
+older : (g : ℕ) (p : TrackedPacket) → p.generation ≤ g → is_flying (g + 1) p ≡ false
+older g p few = go (p.generation == g + 1) refl
+  where
+    never : (b : Bool) → b && false ≡ false
+    never true = refl
+    never false = refl
+
+    go : (b : Bool) → (p.generation == g + 1) ≡ b → p.asks && b ≡ false
+    go true is = absurd (let same : p.generation ≡ g + 1 = eqb-true p.generation (g + 1) is in omega (arith, same, few))
+    go false is = never p.asks
+
+none_fly : (g : ℕ) (ps : Packets) → All (λ p. p.1.generation ≤ g) ps → flying (g + 1) ps ≡ []
+none_fly g [] aged = refl
+none_fly g (p ∷ ps) aged =
+    ap (λ (b : Bool). cond b (p ∷ flying (g + 1) ps) (flying (g + 1) ps)) (older g p.1 (All-head (λ (q : ℕ × TrackedPacket). q.1.generation ≤ g) p ps aged))
+    ∙ none_fly g ps (All-tail (λ (q : ℕ × TrackedPacket). q.1.generation ≤ g) p ps aged)
+
+pub path_made : (g next : ℕ) (ps : Packets) (f : Flight) → IsInFlight g next ps f → IsInFlight (g + 1) next ps (record { bytes = 0; asking = 0 })
+path_made g next ps f i = record {
+  sums = sym (ap (λ (xs : Packets). flight_of (map packet_in_flight xs)) (none_fly g ps i.aged));
+  below = i.below;
+  sized = i.sized;
+  aged = All-weaker (λ (q : ℕ × TrackedPacket). q.1.generation ≤ g) (λ q. q.1.generation ≤ g + 1) (λ q h. omega (arith, h)) ps i.aged;
+}

@@ -3,6 +3,7 @@ pub mod Headers
 pub mod Shifted
 pub mod Fitting
 pub mod Content
+pub mod Unpadded
 pub mod Words
 pub mod Delays
 pub mod OnStreams

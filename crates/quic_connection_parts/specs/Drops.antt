@@ -16,3 +16,4 @@ after_drop drops.Duplicate s = record s { duplicate = counted s.duplicate }
 after_drop drops.Closing s = record s { closing = counted s.closing }
 after_drop drops.Drained s = record s { drained = counted s.drained }
 after_drop drops.Failed s = record s { failed = counted s.failed }
+after_drop drops.Address s = s

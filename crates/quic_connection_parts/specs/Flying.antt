@@ -40,8 +40,9 @@ pub record HasAll (f g : Flight) : Type 0 where
   pub asking : g.asking ≤ f.asking
 
 -- what is in flight on the path of a generation is what is tracked, asks, and went there; it lies
--- below the number that is next, and sizes have 16 bits
+-- below the number that is next, sizes have 16 bits, and none went on a later path
 pub record IsInFlight (generation next : ℕ) (packets : Table TrackedPacket) (flight : Flight) : Type 0 where
   pub sums : flight ≡ flight_of (flying_packets generation packets)
   pub below : All (λ p. p.0 < next) packets
   pub sized : All (λ p. p.1.size < 2 ^ 16) packets
+  pub aged : All (λ p. p.1.generation ≤ generation) packets

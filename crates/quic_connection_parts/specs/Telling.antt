@@ -6,7 +6,9 @@ use Rattle.quic_congestion.specs.Search.{Discovery, after_limit}
 use Rattle.quic_congestion.specs.SearchBounds.{IsSized}
 use Rattle.quic_paths.specs.Paths.{PathValue}
 use Rattle.quic_machine.specs.Parts.{Windows}
-use Rattle.quic_machine.specs.End.{End, ConnectionValue, with_window}
+use Rattle.quic_machine.specs.Heard.{Heard}
+use Rattle.quic_machine.specs.End.{End, ConnectionValue, hearing, with_window}
+use Rattle.quic_machine.specs.Migration.{repaced}
 use Rattle.quic_machine.specs.Validation.{is_blocked, with_blocked}
 
 -- the window with which a controller begins, and the one that it shows
@@ -20,6 +22,11 @@ windows_of steps window c told = window (after_calls steps c told)
 -- a connection whose controller is told these, and whose end is left so
 abbrev pub telling : {H K R C : Type 0} → Steps C → ConnectionValue H K R C → List Told → End → ConnectionValue H K R C
 telling steps w told e = record w { control = after_calls steps w.control told; end = e }
+
+-- a connection that has counted this, whose controller is told these, and whose end is left so by a
+-- datagram: where it has another path its pacer is made for that
+abbrev pub taking : {H K R C : Type 0} → Steps C → (C → ℕ) → ConnectionValue H K R C → Heard → List Told → End → ConnectionValue H K R C
+taking steps window w h told e = telling steps (hearing w h) told (repaced (windows_of steps window w.control told) w.end e)
 
 -- the end of a connection that has read which window its controller shows, and whether three times
 -- what came went to an address that isn't validated

@@ -1,7 +1,11 @@
 //! Why a datagram isn't taken (RFC 9000, sections 5.2, 11 and 12).
-ghost use Rattle.std.specs.Prelude.{◌≡◌, Some};
-ghost use Rattle.quic_wire.specs.FrameView.{item_view};
-ghost use Rattle.quic_machine.specs.Receive.{is_above, fault_of_breach, plain_error, item_asks, drop_of, violation, is_read};
+ghost use Rattle.std.specs.Prelude.{◌≡◌, true, false, Some};
+ghost use Rattle.std.specs.List.{list_any};
+ghost use Rattle.quic_wire.specs.FrameView.{frame_view, item_view};
+ghost use Rattle.quic_wire.specs.Items.{items};
+ghost use Rattle.quic_wire.specs.Value.{padding};
+ghost use Rattle.quic_machine.specs.Migration.{as_elsewhere, is_probing, is_telling};
+ghost use Rattle.quic_machine.specs.Receive.{is_above, fault_of_breach, plain_error, item_asks, drop_of, violation, is_read, is_taken};
 ghost use Rattle.quic_connection_parts.specs.Faults.{fault_view};
 ghost use Rattle.quic_spaces.specs.Marks.{is_congested};
 
@@ -9,7 +13,7 @@ use crate::closing::CloseTold;
 use quic_machine::{DropReason, Received};
 use quic_packet::HeaderError;
 use quic_streams_parts::{Breach, ReceivedError};
-use quic_wire::frame::{Frame, InvalidFrame};
+use quic_wire::frame::{Frame, InvalidFrame, Unpadded};
 use quic_wire_core::{Code, EcnCodepoint, Reason, TransportError};
 use std::alloc::AllocError;
 
@@ -101,6 +105,60 @@ pub fn is_read(received: &Received) -> bool
         Received::Taken | Received::Closed(_) => true,
         Received::Dropped(_) | Received::Failed => false,
     }
+}
+
+/// Whether all frames of a datagram were taken, or those before a close.
+pub fn is_taken(received: &Received) -> bool
+    ensures { result ≡ is_taken received.now }
+{
+    match received {
+        Received::Taken => true,
+        Received::Closed(_) | Received::Dropped(_) | Received::Failed => false,
+    }
+}
+
+/// Whether a frame is of path validation (RFC 9000, sections 8.2.1 and 8.2.2).
+pub fn is_of_path(frame: &Frame<'_>) -> bool
+    ensures path { result ≡ true → as_elsewhere (frame_view frame.now) ≡ padding }
+    ensures other { result ≡ false → as_elsewhere (frame_view frame.now) ≡ frame_view frame.now }
+{
+    matches!(frame, Frame::PathChallenge(_) | Frame::PathResponse(_))
+}
+
+/// Whether a frame may go to find out whether a path carries packets, and so doesn't say that the
+/// peer has moved there (RFC 9000, section 9.1).
+fn is_probing(frame: &Frame<'_>) -> bool
+    ensures { result ≡ is_probing (frame_view frame.now) }
+{
+    matches!(
+        frame,
+        Frame::Padding
+            | Frame::PathChallenge(_)
+            | Frame::PathResponse(_)
+            | Frame::NewConnectionId(_)
+    )
+}
+
+/// Whether an item of a payload is a frame that says that the peer has moved.
+fn is_telling(item: &Result<Frame<'_>, InvalidFrame>) -> bool
+    ensures { result ≡ is_telling (item_view item.now) }
+{
+    match item {
+        Ok(frame) => !is_probing(frame),
+        Err(_) => false,
+    }
+}
+
+/// Whether a frame that says that the peer has moved stands in a payload.
+pub fn tells_address(payload: &[u8]) -> bool
+    ensures { result ≡ list_any is_telling (items payload.now) }
+{
+    for item in Unpadded::new(payload) {
+        if is_telling(&item) {
+            return true;
+        }
+    }
+    false
 }
 
 /// Whether a number lies above the greatest that was named before, if one was.

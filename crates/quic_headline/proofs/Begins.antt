@@ -4,6 +4,7 @@ pub mod Halves
 pub mod OnStreams
 pub mod Walk
 pub mod Apart
+pub mod Moved
 pub mod Flights
 pub mod Gone
 pub mod Acks

@@ -14,3 +14,4 @@ pub mod Halts
 pub mod Stopped
 pub mod Group
 pub mod Ledger
+pub mod Clause

@@ -1,5 +1,6 @@
 -- What was written on streams, said in frames, brought to the other end, and read.
 pub mod Wrote
+pub mod Moved
 pub mod Words
 pub mod WordsCalls
 pub mod DataLimit

@@ -30,3 +30,4 @@ pub mod NextIds
 pub mod Validated
 pub mod Alone
 pub mod Requests
+pub mod Moves

@@ -3,4 +3,6 @@ pub mod Peer
 pub mod Asking
 pub mod Coming
 pub mod Group
+pub mod Used
 pub mod Clause
+pub mod Stays

@@ -8,6 +8,7 @@ pub mod Window
 pub mod Intakes
 pub mod ByKey
 pub mod Delivered
+pub mod Strays
 pub mod Stays
 pub mod Knowing
 pub mod Acking
@@ -23,6 +24,9 @@ pub mod Probes
 pub mod TrackedSteps
 pub mod Ascending
 pub mod Apart
+pub mod Moved
+pub mod Moving
+pub mod Elsewhere
 pub mod Heard
 pub mod Losses
 pub mod Searches
@@ -37,6 +41,7 @@ pub mod Sends
 pub mod Owing
 pub mod CloseForms
 pub mod Watching
+pub mod Routed
 pub mod Entries
 pub mod Naming
 pub mod OfPeer

@@ -1,6 +1,7 @@
 -- What single calls do: the timer of the pacer, the window that a controller shows, and what polls
 -- give that asks.
 pub mod Made
+pub mod Along
 pub mod Pacing
 pub mod Windows
 pub mod Moved

@@ -4,6 +4,8 @@ pub mod Losses
 pub mod Asked
 pub mod Acks
 pub mod Frames
+pub mod Strays
+pub mod Shown
 pub mod Hearing
 pub mod First
 pub mod Calls

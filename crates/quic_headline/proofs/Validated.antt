@@ -2,4 +2,5 @@
 pub mod Standing
 pub mod Went
 pub mod Group
+pub mod Asking
 pub mod Clause

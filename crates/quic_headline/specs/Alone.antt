@@ -35,7 +35,7 @@ pub record IsLoneStep (p : Policy) (theirs : List (List ℕ)) (x : Lone) (call :
   pub answer : IsAnswer p (reads_window x.control x.heard call x.end) theirs call a
   pub end : IsLeft (fails a) p x.control x.heard x.end theirs call a next.end
   pub control : IsTold (fails a) p x.control x.heard x.end theirs call next.control
-  pub heard : IsHeard (fails a) theirs call a x.heard next.heard
+  pub heard : IsHeard (fails a) x.end next.end theirs call a x.heard next.heard
   pub openings : CountsOpenings p.openings x.end.closing.state x.heard a
   pub lacking : LacksWhere p (reads_window x.control x.heard call x.end) theirs call a
 

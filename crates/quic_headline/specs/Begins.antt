@@ -23,10 +23,10 @@ use Rattle.quic_machine.specs.CallCases.{is_poll, is_timeout}
 use Rattle.quic_machine.specs.End.{End}
 use Rattle.quic_machine.specs.Machine.{World, end_at}
 use Rattle.quic_headline.specs.Runs.{Run, Told, Packet, In, until, state_at, AreServed, LeadsTo, written, ended_by, reset_by}
-use Rattle.quic_headline.specs.Observer.{Sent, HoldsOffset, HoldsEnd, Watch, watch, news, loss_due, is_past, is_timely, sents_until}
+use Rattle.quic_headline.specs.Observer.{Sent, HoldsOffset, HoldsEnd, Watch, watch, news, loss_due, is_past, is_timely, has_changed, generation_at, sents_until}
 use Rattle.quic_headline.specs.Headline.{IsAt}
 use Rattle.quic_headline.specs.Amounts.{data_limit, stream_limit}
-use Rattle.quic_headline.specs.InUse.{brought, next_of, in_use}
+use Rattle.quic_headline.specs.InUse.{brought, next_of, in_use, TellsStays}
 use Rattle.quic_headline.specs.InFlight.{is_max_data, is_max_streams, is_data_blocked, is_ack_frequency}
 use Rattle.quic_headline.specs.Duties.{Limited, AllData, StreamData, StreamCount, has_reset, has_stop, limit_waits, on_half}
 use Rattle.quic_headline.specs.Moments.{acknowledges, went}
@@ -143,8 +143,9 @@ HasGone ss q = ⊥
 -- and behind it, the packets that came before it since the end gave an ACK frame, whether one is
 -- due behind it for packets that ask, and whether one was urged by its mark since one went,
 -- when the time without a packet is over, if it is kept, how the end asks its peer to acknowledge,
--- the number of the peer's id that it uses before the call; and its side, the peer's parameters, and
--- the datagrams that it gave before the call.
+-- the number of the peer's id that it uses before the call, and whether that stays where its path
+-- changes by the call; and its side, the peer's parameters, and the datagrams that it gave before
+-- the call.
 pub record Seen : Type 0 where
   pub told : List Told
   pub now : Told
@@ -156,6 +157,7 @@ pub record Seen : Type 0 where
   pub alive : Option ℕ
   pub asking : Asking
   pub using : ℕ
+  pub stays : Bool
   pub side : Side
   pub params : ParameterValues
   pub gave : List Sent
@@ -254,8 +256,16 @@ abbrev pub is_passed : ℕ → ℕ → Option ℕ → Bool
 is_passed number used next = nat_le used number && nat_lt number (unwrap_or next used)
 
 -- whether the peer's id of a number is retired by a call, which uses the next one
+abbrev pub uses_past : Seen → ℕ → Bool
+uses_past s number = uses_next s.now.call s.now.answer && is_passed number s.using (next_of s.using (brought s.before.intake.took))
+
+-- or by a change of the path, which does unless the id stays (section 9.5)
+abbrev pub moves_past : Seen → ℕ → Bool
+moves_past s number = has_changed s.before s.behind && (not s.stays && is_passed number s.using (next_of s.using (brought s.behind.intake.took)))
+
+-- whether it is by either
 abbrev pub passes_over : Seen → ℕ → Bool
-passes_over s number = uses_next s.now.call s.now.answer && is_passed number s.using (next_of s.using (brought s.before.intake.took))
+passes_over s number = uses_past s number || moves_past s number
 
 -- whether a stream may be done by it: what this end sent on it is acknowledged, or what the peer
 -- sent on it is over (RFC 9000, section 4.6)
@@ -313,13 +323,13 @@ may_hasten s = s.due || (s.marked || (is_poll s.now.call && nat_lt may_come (cou
 -- over, or a probe waits in vain, by which IMMEDIATE_ACK may wait; probes wait where the timer of
 -- losses expires; a message is sent; bytes are written, or an end is told; a control frame is
 -- called for; what a datagram bore is lost; or a probe says it again. PATH_CHALLENGE waits only
--- where a moment comes, at which the timer of path validation may expire, and PATH_RESPONSE only
--- where PATH_CHALLENGE comes (section 8.2).
+-- where a moment comes, at which the timer of path validation may expire, or where the path changes
+-- (section 9.3), and PATH_RESPONSE only where PATH_CHALLENGE comes (section 8.2).
 abbrev pub HasCause : Seen → Thing → Type 0
 HasCause s Ack = may_hasten s ≡ true
 HasCause s Ping = makes_ping s ≡ true
 HasCause s Immediate = fails_to_probe s ≡ true
-HasCause s Challenge = is_timeout s.now.call ≡ true
+HasCause s Challenge = is_timeout s.now.call || has_changed s.before s.behind ≡ true
 HasCause s Response = brings is_path_challenge s ≡ true
 HasCause s Probe = makes_probes s ≡ true
 HasCause s (Message message) = In message (sent_by s.now.call s.now.answer)
@@ -330,8 +340,8 @@ HasCause s (Frame control) = (asks_for s control ≡ true) ⊎ (WasLost s (Frame
 -- ---- the clause
 
 -- what an observer of an end sees of a call at it, behind the first so many answers
-abbrev pub seen_at : Run → Side → ℕ → Call → Answer → Seen
-seen_at r side i call a = record {
+abbrev pub seen_at : Run → (ℕ → Bool) → Side → ℕ → Call → Answer → Seen
+seen_at r stays side i call a = record {
   told = until r side i;
   now = record { call = call; answer = a; state = state_at r side i };
   before = watch r side i;
@@ -341,7 +351,8 @@ seen_at r side i call a = record {
   marked = (wants r side (suc i)).marked;
   alive = (wants r side i).alive;
   asking = asking_at r side;
-  using = in_use r side i;
+  using = in_use r stays side i;
+  stays = stays (generation_at r side (suc i));
   side = side;
   params = (end_at side r.start).peer_params;
   gave = sents_until r side i;
@@ -360,6 +371,6 @@ BeginsAt s before behind = (q : Thing) → IsPending behind q → StillOrNew s b
 -- wait. It is one before which, and at which, no delivery, no poll and no timeout met want of
 -- memory.
 abbrev pub WaitingBegins : Run → Type 0
-WaitingBegins r = (side : Side) (i : ℕ) (call : Call) (a : Answer) (w v : World) → AreServed r (suc i) → IsAt r i side call a → LeadsTo r i w → LeadsTo r (suc i) v
-    → ((end_at side v).closing.state ≡ states.Open → BeginsAt (seen_at r side i call a) (end_at side w) (end_at side v))
+WaitingBegins r = (side : Side) (stays : ℕ → Bool) (i : ℕ) (call : Call) (a : Answer) (w v : World) → TellsStays r side stays → AreServed r (suc i) → IsAt r i side call a → LeadsTo r i w → LeadsTo r (suc i) v
+    → ((end_at side v).closing.state ≡ states.Open → BeginsAt (seen_at r stays side i call a) (end_at side w) (end_at side v))
     × ((q : Thing) → IsPending (end_at (other_side side) v) q → IsPending (end_at (other_side side) w) q)

@@ -1,7 +1,7 @@
 -- Connection ids in a run (RFC 9000, sections 5.1, 19.15 and 19.16): to which one a datagram goes,
 -- when one is unknown, and when the next one can't be used. All is read off the run's lists, but
 -- where it is said: an end may have an id that it drew and told nobody, which no list shows.
-use Rattle.std.specs.Prelude.{ℕ, ◌≡◌, ◌⊎◌, ◌↔◌, ◌<◌, ◌+◌, ◌-◌, List, [], ◌∷◌, ◌++◌, length, slice_get, Option, Some, None, Err}
+use Rattle.std.specs.Prelude.{ℕ, suc, Bool, true, ◌≡◌, ◌⊎◌, ◌↔◌, ◌<◌, ◌+◌, ◌-◌, List, [], ◌∷◌, ◌++◌, length, slice_get, Option, Some, None, Err}
 use Rattle.quic_wire_core.specs.declared.stream_id.Side.{Side}
 use Rattle.quic_wire_core.specs.StreamId.{other_side}
 use Rattle.quic_wire.specs.Value.{NewConnectionIdValue, new_connection_id, retire_connection_id}
@@ -20,9 +20,9 @@ use Rattle.quic_machine.specs.Opens.{opens}
 use Rattle.quic_machine.specs.End.{End}
 use Rattle.quic_machine.specs.Machine.{World, policy_at, end_at}
 use Rattle.quic_headline.specs.Runs.{Run, Packet, In, state_at, given_of, given_until, LeadsTo, AreServed, destination, expected_behind, first_id_of_peer}
-use Rattle.quic_headline.specs.Observer.{Sent, took, came_in, sents_until}
+use Rattle.quic_headline.specs.Observer.{Sent, took, came_in, sents_until, generation_at, path_changes}
 use Rattle.quic_headline.specs.Polls.{GaveOne}
-use Rattle.quic_headline.specs.InUse.{in_use, next_id}
+use Rattle.quic_headline.specs.InUse.{in_use, next_id, TellsStays}
 use Rattle.quic_headline.specs.Duties.{WasGiven, WasToldId, WasRetired}
 use Rattle.quic_headline.specs.Headline.{IsAt, NoneAbove, OpensAs}
 
@@ -88,13 +88,13 @@ NewestOpensAtEnd r = (side : Side) (i place number : ℕ) (datagram : List ℕ) 
 -- each datagram that an open end gave went to the id of the number in use, as the end was told of
 -- it (section 5.1.2)
 abbrev pub IdsAreInUse : Run → Type 0
-IdsAreInUse r = (side : Side) (i now : ℕ) (gave : GaveOne r side i now) → state_at r side i ≡ states.Open → IsToldId (first_id_of_peer r side) (took r side i) (in_use r side i) gave.sent.id
+IdsAreInUse r = (side : Side) (stays : ℕ → Bool) (i now : ℕ) (gave : GaveOne r side i now) → TellsStays r side stays → state_at r side i ≡ states.Open → IsToldId (first_id_of_peer r side) (took r side i) (in_use r stays side i) gave.sent.id
 
 -- an open end refuses the next id for want of one exactly where no frame that it took brought an id
 -- with a number above that in use
 abbrev pub NoIdIsExact : Run → Type 0
-NoIdIsExact r = (side : Side) (i : ℕ) (a : Answer) → AreServed r i → state_at r side i ≡ states.Open → IsAt r i side calls.UseNextId a
-    → (a ≡ answers.UseNextId (Err next_errors.NoId)) ↔ (next_id r side i ≡ None)
+NoIdIsExact r = (side : Side) (stays : ℕ → Bool) (i : ℕ) (a : Answer) → TellsStays r side stays → AreServed r i → state_at r side i ≡ states.Open → IsAt r i side calls.UseNextId a
+    → (a ≡ answers.UseNextId (Err next_errors.NoId)) ↔ (next_id r stays side i ≡ None)
 
 -- the next id would retire so many that, with those that wait at an end to be told, there are more
 -- than 80
@@ -104,5 +104,11 @@ IsPastLimit e used next = most_retirements < length e.waiting.frames.retire_cids
 -- and for too many retirements exactly where there is a next id, and with those that wait at the
 -- end to which the run leads there would be more than 80
 abbrev pub TooManyIsExact : Run → Type 0
-TooManyIsExact r = (side : Side) (i : ℕ) (a : Answer) (w : World) → AreServed r i → LeadsTo r i w → state_at r side i ≡ states.Open → IsAt r i side calls.UseNextId a
-    → (a ≡ answers.UseNextId (Err next_errors.TooManyPending)) ↔ ((next : ℕ) × (next_id r side i ≡ Some next) × IsPastLimit (end_at side w) (in_use r side i) next)
+TooManyIsExact r = (side : Side) (stays : ℕ → Bool) (i : ℕ) (a : Answer) (w : World) → TellsStays r side stays → AreServed r i → LeadsTo r i w → state_at r side i ≡ states.Open → IsAt r i side calls.UseNextId a
+    → (a ≡ answers.UseNextId (Err next_errors.TooManyPending)) ↔ ((next : ℕ) × (next_id r stays side i ≡ Some next) × IsPastLimit (end_at side w) (in_use r stays side i) next)
+
+-- where the path of an end changes, the id stays in use only where the end took none with a number
+-- above it by then, or where too many retirements would wait (sections 5.1.2 and 9.5)
+abbrev pub StaysForAReason : Run → Type 0
+StaysForAReason r = (side : Side) (stays : ℕ → Bool) (i : ℕ) (v : World) → TellsStays r side stays → AreServed r (suc i) → LeadsTo r (suc i) v → path_changes r side i ≡ true → stays (generation_at r side (suc i)) ≡ true
+    → (next_id r stays side (suc i) ≡ None) ⊎ ((next : ℕ) × (next_id r stays side (suc i) ≡ Some next) × IsPastLimit (end_at side v) (in_use r stays side (suc i)) next)

@@ -24,7 +24,7 @@ use Rattle.quic_machine.specs.Poll.{waits}
 use Rattle.quic_machine.specs.Machine.{World, end_at}
 use Rattle.quic_headline.specs.Runs.{Run, Told, Packet, In, until, AreServed, LeadsTo, written, ended, reset, HasArrived, EndHasArrived, ResetHasArrived}
 use Rattle.quic_headline.specs.Observer.{Sent, took, sents_until}
-use Rattle.quic_headline.specs.InUse.{in_use}
+use Rattle.quic_headline.specs.InUse.{in_use, TellsStays}
 use Rattle.quic_headline.specs.Amounts.{was_stopped}
 use Rattle.quic_headline.specs.Unread.{stopped}
 
@@ -250,7 +250,7 @@ IsSomewhere e own packets told duty = Waits e duty ⊎ IsUnderWay own e.tracking
 
 -- so it is of each duty, at both ends
 abbrev pub DutiesAt : Run → ℕ → World → Type 0
-DutiesAt r i w = (side : Side) (duty : Duty) → IsOwed (in_use r side i) (end_at side w) (sents_until r side i) (until r side i) duty → IsSomewhere (end_at side w) (sents_until r side i) (took r (other_side side) i) (until r side i) duty
+DutiesAt r i w = (side : Side) (stays : ℕ → Bool) (duty : Duty) → TellsStays r side stays → IsOwed (in_use r stays side i) (end_at side w) (sents_until r side i) (until r side i) duty → IsSomewhere (end_at side w) (sents_until r side i) (took r (other_side side) i) (until r side i) duty
 
 -- at each place before which no delivery, no poll and no timeout met want of memory
 abbrev pub DutiesStand : Run → Type 0

@@ -18,10 +18,11 @@ use Rattle.quic_machine.specs.declared.run.Answer.{Answer}
 use Rattle.quic_machine.specs.declared.run.View.{View}
 use Rattle.quic_machine.specs.Machine.{end_at}
 use Rattle.quic_headline.specs.Runs.{Run, Told, Packet, state_in, state_at, AreServed, folded, until, given_of}
-use Rattle.quic_headline.specs.Observer.{Sent, asks_of, Flight, lesser, latest, waited, is_past, Watch, watch_from, watch, news, clock_behind, is_timely, Lens, watch_told, lens_of}
+use Rattle.quic_headline.specs.Observer.{Sent, asks_of, Flight, lesser, latest, waited, is_past, Watch, watch_from, watch, news, clock_behind, is_timely, Lens, watch_told, lens_of, has_changed}
 use Rattle.quic_headline.specs.Headline.{IsAt}
 use Rattle.quic_headline.specs.Moments.{timers_in, went}
 use Rattle.quic_headline.specs.Polls.{end_in, seen_at}
+use Rattle.quic_headline.specs.Telling.{shows_validated}
 use Rattle.quic_headline.specs.Causes.{reason_in}
 use Rattle.quic_headline.specs.Waited.{wants}
 use Rattle.quic_headline.specs.Views.{place}
@@ -108,28 +109,35 @@ AliveMoments r = (side : Side) (i : ℕ) (v : View) → AreServed r (suc i) → 
 abbrev pub most_questions : ℕ
 most_questions = 2 ^ 64 - 1
 
--- What an observer knows of how an end asks whether its peer receives: how often it did, and when
--- it asks anew if no answer came.
+-- What an observer knows of how an end asks whether its peer receives: how often it did, when it
+-- asks anew if no answer came, and how many calls there were.
 pub record Questions : Type 0 where
   pub watch : Watch
   pub count : ℕ
   pub due : Option ℕ
+  pub calls : ℕ
 
--- an end asks, or asks once more: it waits for three probe timeouts
-abbrev pub one_more : Watch → ℕ → Questions
-one_more w count =
-    if nat_lt count most_questions then record { watch = w; count = count + 1; due = Some (moment_behind w.clock (three_waits w.flight)) }
-    else record { watch = w; count = count; due = None }
+-- an end asks, or asks once more, behind so many calls: it waits for three probe timeouts
+abbrev pub one_more : Watch → ℕ → ℕ → Questions
+one_more w count calls =
+    if nat_lt count most_questions then record { watch = w; count = count + 1; due = Some (moment_behind w.clock (three_waits w.flight)); calls = calls }
+    else record { watch = w; count = count; due = None; calls = calls }
 
--- one call more at the end
-abbrev pub questions_told : Lens → Told → Questions → Questions
-questions_told l t q =
+-- whether an end asks anew by a call, before which the address of its peer is seen to be validated or
+-- isn't: its path changed by it (section 9.3); or the moment came to one that isn't validated
+abbrev pub asks_anew : Bool → Told → Watch → Questions → Bool
+asks_anew validated t after q = has_changed q.watch after || (is_timely t.state t.call && (is_past q.due after.clock && not validated))
+
+-- one call more at the end, where before its call behind so many others the address is seen to be
+-- validated or isn't
+abbrev pub questions_told : Lens → (ℕ → Bool) → Told → Questions → Questions
+questions_told l validated t q =
     let after = watch_told l t q.watch in
-    if is_timely t.state t.call && is_past q.due after.clock then one_more after q.count else record q { watch = after }
+    if asks_anew (validated q.calls) t after q then one_more after q.count (suc q.calls) else record q { watch = after; calls = suc q.calls }
 
 -- an end asks as it is made, but where the address of its peer is validated
 abbrev pub first_questions : Bool → Watch → Questions
-first_questions validated w = if validated then record { watch = w; count = 0; due = None } else one_more w 0
+first_questions validated w = if validated then record { watch = w; count = 0; due = None; calls = 0 } else one_more w 0 0
 
 -- how it does before the first call
 abbrev pub questions_at_first : Run → Side → Questions
@@ -137,10 +145,11 @@ questions_at_first r side = first_questions (end_at side r.start).path.validated
 
 -- how an end asked behind the first so many answers
 abbrev pub questions : Run → Side → ℕ → Questions
-questions r side i = folded (questions_told (lens_of r side)) (until r side i) (questions_at_first r side)
+questions r side i = folded (questions_told (lens_of r side) (shows_validated r side)) (until r side i) (questions_at_first r side)
 
 -- and that its timer of path validation is set to the moment at which it asks anew, while the
--- address of its peer isn't validated, and isn't set where it is
+-- address of its peer isn't validated, and isn't set where it is: also of another path, for which the
+-- end asks as it changes
 abbrev pub PathMoments : Run → Type 0
 PathMoments r = (side : Side) (i : ℕ) (v : View) → AreServed r (suc i) → slice_get r.views i ≡ Some v → state_in v side ≡ states.Open
     → timer_in PathValidation v side ≡ Some (if (end_in v side).validated then None else (questions r side (suc i)).due)

@@ -1,9 +1,10 @@
 -- What every run of two honest ends keeps (RFC 9000, sections 2.2, 2.3 and 12.3): the headline,
 -- over the run's lists alone, and in some clauses over the ends that are left.
-use Rattle.std.specs.Prelude.{ℕ, ◌+◌, ◌-◌, ◌^◌, ◌<◌, ◌≤◌, ◌≡◌, ◌↔◌, Bool, true, false, eqb, List, [], ◌∷◌, ◌++◌, length, take, drop, slice_get, Option, Some, None, Ok, Err}
+use Rattle.std.specs.Prelude.{ℕ, ◌+◌, ◌-◌, ◌^◌, ◌<◌, ◌≤◌, ◌≡◌, ◌↔◌, ◌==◌, ◌&&◌, not, Bool, true, false, eqb, List, [], ◌∷◌, ◌++◌, length, take, drop, slice_get, Option, Some, None, Ok, Err}
 use Rattle.std.specs.List.{IsDistinct}
 use Rattle.std.specs.Option.{is_some}
 use Rattle.quic_wire_core.specs.declared.stream_id.Side.{Side}
+use Rattle.quic_wire_core.specs.declared.stream_id.Side.TheVariants.{Client, Server}
 use Rattle.quic_wire_core.specs.declared.stream_id.Dir.{Dir}
 use Rattle.quic_wire_core.specs.StreamId.{stream_id, other_side}
 use Rattle.quic_wire.specs.Value.{FrameValue, AckValue, ack}
@@ -187,16 +188,23 @@ NamesWereTaken r = (side : Side) (i expected number : ℕ) (datagram : List ℕ)
 
 -- ---- injections
 
--- whether bytes open at an end to which the first so many events lead: with its keys, under an id
+-- whether an end takes nothing from an address: a client, whose peer stays where it is (RFC 9000,
+-- section 9), and the address isn't that for which the client was made
+abbrev pub takes_nothing_from : Run → Side → ℕ → Bool
+takes_nothing_from r Client remote = not (remote == r.start.client.path.remote)
+takes_nothing_from r Server remote = false
+
+-- whether bytes from an address open at an end to which the first so many events lead: it takes
+-- what comes from there, and they open with its keys, under an id
 -- that it has there, where by the run's lists one above the greatest number that it took is
 -- expected (RFC 9000, sections 5.2 and 12.2, and A.3), in key phase 0. An end may have an id that
 -- it drew and told nobody, which no list shows.
-abbrev pub would_open_at : Run → World → Side → ℕ → List ℕ → Bool
-would_open_at r w side i d = is_some (opens (policy_at side r.keys) (known (end_at side w).ids) (expected_behind (took r side i)) d)
+abbrev pub would_open_at : Run → World → Side → ℕ → ℕ → List ℕ → Bool
+would_open_at r w side i remote d = not (takes_nothing_from r side remote) && is_some (opens (policy_at side r.keys) (known (end_at side w).ids) (expected_behind (took r side i)) d)
 
 -- an injection is answered `Opens` exactly where its bytes open so, whatever the state of its end
 abbrev pub OpensExactly : Run → Type 0
-OpensExactly r = (side : Side) (i : ℕ) (w : World) (injection : Injection) (a : Answer) → AreServed r i → LeadsTo r i w → IsAt r i side (calls.Inject injection) a → (a ≡ answers.Opens) ↔ (would_open_at r w side i injection.bytes ≡ true)
+OpensExactly r = (side : Side) (i : ℕ) (w : World) (injection : Injection) (a : Answer) → AreServed r i → LeadsTo r i w → IsAt r i side (calls.Inject injection) a → (a ≡ answers.Opens) ↔ (would_open_at r w side i injection.remote injection.bytes ≡ true)
 
 -- ---- what opens
 

@@ -110,10 +110,10 @@ again_in frames = record {
 abbrev pub carried_by : List FrameValue → Carried
 carried_by frames = record { largest_acked = first_acknowledged frames; stream_frames = all_offsets frames; retransmits = again_in frames }
 
--- what an end knows of a datagram that it waits for, by its number; there is one path, the first.
--- Where it asks, it counts against the congestion window
+-- what an end knows of a datagram that it waits for, by its number, and on which path it went. Where
+-- it asks, it counts against the congestion window
 abbrev pub waited_for : Sent → ℕ × TrackedPacket
-waited_for s = (s.number, record { generation = 0; time_sent = s.moment; size = if asks_of s then s.size else 0; asks = asks_of s; carried = carried_by s.frames })
+waited_for s = (s.number, record { generation = s.generation; time_sent = s.moment; size = if asks_of s then s.size else 0; asks = asks_of s; carried = carried_by s.frames })
 
 -- the same, but for what has to be sent again of it: a probe may have taken that (RFC 9002, section
 -- 6.2.4)

@@ -12,10 +12,13 @@ use Rattle.quic_machine.specs.declared.run.Call.TheVariants as calls
 use Rattle.quic_machine.specs.declared.run.Answer.{Answer}
 use Rattle.quic_machine.specs.declared.run.Answer.TheVariants as answers
 use Rattle.quic_packet.specs.Datagram.{Opening}
-use Rattle.quic_machine.specs.Machine.{World, policy_at, Follows, says_last}
-use Rattle.quic_headline.specs.Runs.{Run, given_of, handed, is_again, came_open, AreServed}
+use Rattle.quic_machine.specs.declared.answers.State.TheVariants as states
+use Rattle.quic_machine.specs.declared.run.View.{View}
+use Rattle.quic_machine.specs.Machine.{World, policy_at, end_at, Follows, says_last}
+use Rattle.quic_headline.specs.Runs.{Run, given_of, handed, is_again, came_open, state_in, AreServed}
 use Rattle.quic_headline.specs.Observer.{watch}
 use Rattle.quic_headline.specs.Headline.{IsAt, IsRun}
+use Rattle.quic_headline.specs.Polls.{end_in}
 
 -- ---- idle events
 
@@ -64,15 +67,16 @@ IsRunWithout gone r end = (left : World) × SameButCounts end left × IsRun (era
 abbrev pub FailuresStayBelow : Run → Type 0
 FailuresStayBelow r = (i : ℕ) (a : Answer) → slice_get r.answers i ≡ Some a → says_last a ≡ false
 
--- the peers' addresses are validated at both ends (RFC 9000, section 8): else what comes says how
--- much may go, also where it is dropped
-abbrev pub AreValidated : World → Type 0
-AreValidated w = (w.client.path.validated ≡ true) × (w.server.path.validated ≡ true)
+-- The peers' addresses are validated at both ends, from the start on, in each view of an end that
+-- hasn't failed (RFC 9000, section 8): else what comes says how much may go, also where it is dropped.
+pub record AreValidated (r : Run) : Type 0 where
+  pub start : (side : Side) → (end_at side r.start).path.validated ≡ true
+  pub behind : (side : Side) (i : ℕ) (v : View) → slice_get r.views i ≡ Some v → (state_in v side ≡ states.Failed → ⊥) → (end_in v side).validated ≡ true
 
--- so it is less any choice of its idle events, where keys last and the addresses are validated from
--- the start
+-- so it is less any choice of its idle events, where keys last and the addresses are validated
+-- throughout
 abbrev pub Isolated : Run → World → Type 0
-Isolated r end = AreValidated r.start → (gone : ℕ → Bool) → OnlyIdle r gone → FailuresStayBelow r → IsRunWithout gone r end
+Isolated r end = AreValidated r → (gone : ℕ → Bool) → OnlyIdle r gone → FailuresStayBelow r → IsRunWithout gone r end
 
 -- ---- the choice by answers
 
@@ -81,9 +85,10 @@ abbrev pub is_injection : Call → Bool
 is_injection (calls.Inject injection) = true
 is_injection call = false
 
--- whether a datagram that is dropped for this reason didn't open, for its header, its key or its
--- key phase, or came before
+-- whether a datagram that is dropped for this reason didn't open, for its address, its header, its
+-- key or its key phase, or came before
 abbrev pub is_shut_out : DropReason → Bool
+is_shut_out drops.Address = true
 is_shut_out drops.TooShort = true
 is_shut_out drops.NotShort = true
 is_shut_out drops.FixedBit = true
@@ -114,7 +119,7 @@ answered_idle r = places_of (λ i event a. is_answered_idle event.call a) r
 
 -- less these it is a run again, where keys last
 abbrev pub IsolatedByAnswers : Run → World → Type 0
-IsolatedByAnswers r end = AreValidated r.start → FailuresStayBelow r → IsRunWithout (answered_idle r) r end
+IsolatedByAnswers r end = AreValidated r → FailuresStayBelow r → IsRunWithout (answered_idle r) r end
 
 -- ---- the choice by the lists
 
@@ -157,4 +162,4 @@ pub record GoesOnWithout (gone : ℕ → Bool) (r : Run) (i : ℕ) : Type 0 wher
 
 -- less these it is a run again, up to each place before which memory served, where keys last
 abbrev pub IsolatedByLists : Run → Type 0
-IsolatedByLists r = AreValidated r.start → (i : ℕ) → AreServed r i → FailuresStayBelow r → GoesOnWithout (listed_idle r) r i
+IsolatedByLists r = AreValidated r → (i : ℕ) → AreServed r i → FailuresStayBelow r → GoesOnWithout (listed_idle r) r i

@@ -9,6 +9,7 @@ pub mod Causes
 pub mod Moments
 pub mod Grown
 pub mod Messages
+pub mod Allowance
 pub mod Polls
 pub mod Rest
 pub mod AcksDue
@@ -37,6 +38,7 @@ pub mod Spread
 pub mod Threefold
 pub mod PeerLimits
 pub mod Validated
+pub mod Moves
 pub mod Expiring
 pub mod Closes
 pub mod Taken
@@ -47,5 +49,5 @@ pub mod Nonces
 pub mod LoneCloses
 pub mod FewCloses
 pub mod Promises
-pub mod Amplification
 pub mod LoneAcks
+pub mod Amplification

@@ -1,10 +1,11 @@
 -- What an observer of a run's lists knows of an end: what came to it, what it gave, and what of
 -- that is in flight or acknowledged (RFC 9002, sections 2, 5, 6.1, 6.2 and A.1). It reads what an
 -- end gave with the keys of its peer.
-use Rattle.std.specs.Prelude.{ℕ, ◌+◌, ◌-◌, ◌*◌, ◌/◌, ◌^◌, ◌<◌, ◌≤◌, ◌≡◌, min, max, not, ◌==◌, ◌&&◌, ◌||◌, Bool, true, false, nat_le, nat_lt, if◌then◌else◌, List, [], ◌∷◌, ◌++◌, filter, length, map, take, Option, Some, None, unwrap_or}
+use Rattle.std.specs.Prelude.{ℕ, suc, ◌+◌, ◌-◌, ◌*◌, ◌/◌, ◌^◌, ◌<◌, ◌≤◌, ◌≡◌, min, max, not, ◌==◌, ◌&&◌, ◌||◌, Bool, true, false, nat_le, nat_lt, if◌then◌else◌, List, [], ◌∷◌, ◌++◌, filter, length, map, take, Option, Some, None, unwrap_or}
 use Rattle.std.specs.List.{list_any}
 use Rattle.std.specs.Option.{option_to_list}
 use Rattle.quic_wire_core.specs.declared.stream_id.Side.{Side}
+use Rattle.quic_wire_core.specs.declared.stream_id.Side.TheVariants.{Client, Server}
 use Rattle.quic_wire_core.specs.StreamId.{other_side}
 use Rattle.quic_wire.specs.Value.{FrameValue, StreamValue, AckValue, ack, stream, connection_close, application_close, ack_frequency, asks}
 use Rattle.quic_wire.specs.Items.{items}
@@ -19,14 +20,16 @@ use Rattle.quic_machine.specs.declared.run.Call.{Call}
 use Rattle.quic_machine.specs.declared.run.Call.TheVariants as calls
 use Rattle.quic_machine.specs.Policy.{Policy}
 use Rattle.quic_machine.specs.Opens.{own_id_length}
+use Rattle.quic_machine.specs.Migration.{is_probing}
 use Rattle.quic_machine.specs.End.{End}
 use Rattle.quic_machine.specs.Machine.{policy_at, end_at, gave}
-use Rattle.quic_headline.specs.Runs.{Run, Told, Packet, Intake, In, nothing_came, destination, frames_of, names, acknowledged, and_told, folded, until, given_of}
+use Rattle.quic_headline.specs.Runs.{Run, Told, Packet, Intake, In, nothing_came, destination, frames_of, names, acknowledged, expected_behind, and_told, folded, until, given_of}
 
 -- ---- what was sent
 
 -- A datagram as it was sent: the id to which it went, its number, what that was cut against (RFC
--- 9000, A.2), its frames, when it went, in nanoseconds, and how many bytes it has. Of one that
+-- 9000, A.2), its frames, when it went, in nanoseconds, how many bytes it has, and on which path it
+-- went, by how many paths its end had before. Of one that
 -- closes its connection no moment is kept, since no acknowledgement of it is waited for; and as it
 -- may go behind a packet of which a part was taken, and the lists don't say which, its number's
 -- reference is the least with which it has so many bytes.
@@ -37,6 +40,7 @@ pub record Sent : Type 0 where
   pub frames : List FrameValue
   pub moment : ℕ
   pub size : ℕ
+  pub generation : ℕ
 
 -- whether it asks for an acknowledgement (RFC 9002, section 2: is ack-eliciting)
 abbrev pub asks_of : Sent → Bool
@@ -332,22 +336,51 @@ expired_for (Some moment) t clock f = after_losses t clock f
 abbrev pub after_moment : Terms → ℕ → Flight → Flight
 after_moment t clock f = if is_past (loss_due f) clock then expired_for f.loss_time t clock f else f
 
+-- ---- where the peer is (RFC 9000, section 9)
+
+-- at which address an end takes its peer to be, and how often that changed
+pub record Route : Type 0 where
+  pub address : ℕ
+  pub generation : ℕ
+
+-- Whether a packet that was taken tells that the peer is where it came from, behind these that were
+-- taken before: its number lies above all of theirs, and it has a frame that isn't only for probing
+-- a path (sections 9.1 and 9.3). One that closes the connection tells nothing any more.
+abbrev pub tells_address : List Packet → Packet → Bool
+tells_address before p = nat_le (expected_behind before) p.number && (list_any (λ f. not (is_probing f)) p.frames && not (list_any is_close p.frames))
+
+-- whether it tells another address than this one, from which it came
+abbrev pub tells_other : List Packet → Packet → ℕ → Route → Bool
+tells_other before p remote r = not (remote == r.address) && tells_address before p
+
+-- the peer is at another address
+abbrev pub moved_to : ℕ → Route → Route
+moved_to remote r = record { address = remote; generation = r.generation + 1 }
+
+-- where the peer of a server, or of a client, is behind a call by which these packets were taken,
+-- one at most, behind those before: a client's peer stays where it is
+abbrev pub route_behind : Bool → List Packet → List Packet → Call → Route → Route
+route_behind true before (p ∷ ps) (calls.Deliver delivery) r = if tells_other before p delivery.remote r then moved_to delivery.remote r else r
+route_behind serves before came call r = r
+
 -- ---- the observer
 
--- what came to the end; the greatest moment that it took over, in nanoseconds; the datagrams that
--- it gives from here on; those that it gave so far, as they were sent, and what of these is in
--- flight or acknowledged
+-- what came to the end; the greatest moment that it took over, in nanoseconds; where it takes its
+-- peer to be; the datagrams that it gives from here on; those that it gave so far, as they were
+-- sent, and what of these is in flight or acknowledged
 pub record Watch : Type 0 where
   pub intake : Intake
   pub clock : ℕ
+  pub route : Route
   pub left : List (List ℕ)
   pub own : List Sent
   pub flight : Flight
 
--- nothing happened to an end that gives these datagrams in all, was made at this moment, takes a
--- round trip to last so long, and was told that its peer holds acknowledgements back for so long
-abbrev pub first_watch : List (List ℕ) → ℕ → ℕ → ℕ → Watch
-first_watch gives moment initial_rtt delay = record { intake = nothing_came; clock = moment; left = gives; own = []; flight = no_flight initial_rtt delay }
+-- nothing happened to an end that gives these datagrams in all, was made at this moment for a peer
+-- at this address, takes a round trip to last so long, and was told that its peer holds
+-- acknowledgements back for so long
+abbrev pub first_watch : List (List ℕ) → ℕ → ℕ → ℕ → ℕ → Watch
+first_watch gives moment remote initial_rtt delay = record { intake = nothing_came; clock = moment; route = record { address = remote; generation = 0 }; left = gives; own = []; flight = no_flight initial_rtt delay }
 
 -- the packets that came between two intakes
 abbrev pub news : Intake → Intake → List Packet
@@ -390,12 +423,12 @@ abbrev pub moment_for : Bool → ℕ → ℕ
 moment_for closes moment = if closes then 0 else moment
 
 -- what a datagram that opens so was sent as at a moment, cut against this reference where it
--- doesn't close; one that doesn't open is none
-abbrev pub sent_as : Option Opening → ℕ → ℕ → List ℕ → List Sent
-sent_as None reference moment d = []
-sent_as (Some o) reference moment d =
+-- doesn't close, on this path; one that doesn't open is none
+abbrev pub sent_as : Option Opening → ℕ → ℕ → ℕ → List ℕ → List Sent
+sent_as None reference moment generation d = []
+sent_as (Some o) reference moment generation d =
     let frames = frames_of (items o.payload) in
-    record { id = destination d; number = o.number; reference = reference_for (list_any is_close frames) o.number (width_in o.first) reference; frames = frames; moment = moment_for (list_any is_close frames) moment; size = length d } ∷ []
+    record { id = destination d; number = o.number; reference = reference_for (list_any is_close frames) o.number (width_in o.first) reference; frames = frames; moment = moment_for (list_any is_close frames) moment; size = length d; generation = generation } ∷ []
 
 -- what is in flight once these are sent
 abbrev pub and_all_sent : List Sent → Flight → Flight
@@ -413,12 +446,13 @@ next_number (s ∷ sents) = max (s.number + 1) (next_number sents)
 abbrev pub watch_sent : Policy → List (List ℕ) → Watch → Watch
 watch_sent taker [] w = w
 watch_sent taker (d ∷ ds) w =
-    let sent = sent_as (opened_packet taker.header taker.packet (own_id_length + 1) (next_number w.own) d) (acknowledged w.intake.took) w.clock d in
+    let sent = sent_as (opened_packet taker.header taker.packet (own_id_length + 1) (next_number w.own) d) (acknowledged w.intake.took) w.clock w.route.generation d in
     record w { left = ds; own = w.own ++ sent; flight = and_all_sent sent w.flight }
 
--- how the lists of a run are read for one end: the keys of its peer, its own, all datagrams of its
--- peer, and by what losses are judged
+-- how the lists of a run are read for one end: whether it is the server, the keys of its peer, its
+-- own, all datagrams of its peer, and by what losses are judged
 pub record Lens : Type 0 where
+  pub serves : Bool
   pub taker : Policy
   pub own : Policy
   pub peer_gave : List (List ℕ)
@@ -443,21 +477,34 @@ watch_moment false t w = w
 abbrev pub watch_came : Terms → Intake → ℕ → Watch → Watch
 watch_came t after clock w = record w { intake = after; clock = clock; flight = after_packets t clock (news w.intake after) w.flight }
 
+-- and the peer may be elsewhere since
+abbrev pub watch_moved : Bool → Intake → Call → Watch → Watch
+watch_moved serves after call w = record w { route = route_behind serves w.intake.took (news w.intake after) call w.route }
+
 -- one call more at the end
 abbrev pub watch_told : Lens → Told → Watch → Watch
 watch_told l t w =
     let after = and_told l.own l.peer_gave t w.intake in
-    watch_given (gave t.answer) l (watch_moment (is_timely t.state t.call) l.terms (watch_came l.terms after (clock_behind w.clock (moment_of t.state (has_opened w.intake after) t.call)) w))
+    watch_given (gave t.answer) l (watch_moment (is_timely t.state t.call) l.terms (watch_came l.terms after (clock_behind w.clock (moment_of t.state (has_opened w.intake after) t.call)) (watch_moved l.serves after t.call w)))
+
+-- whether the path of an end changed between two of these
+abbrev pub has_changed : Watch → Watch → Bool
+has_changed before after = not (after.route.generation == before.route.generation)
 
 -- ---- over a run
 
+-- whether a side is the server's
+abbrev pub serves : Side → Bool
+serves Client = false
+serves Server = true
+
 -- how the lists of a run are read for one of its ends
 abbrev pub lens_of : Run → Side → Lens
-lens_of r side = record { taker = policy_at (other_side side) r.keys; own = policy_at side r.keys; peer_gave = given_of r (other_side side); terms = terms_of (end_at side r.start) }
+lens_of r side = record { serves = serves side; taker = policy_at (other_side side) r.keys; own = policy_at side r.keys; peer_gave = given_of r (other_side side); terms = terms_of (end_at side r.start) }
 
 -- nothing happened yet to an end that gives these datagrams in all
 abbrev pub watch_from : End → List (List ℕ) → Watch
-watch_from e gives = first_watch gives e.closing.clock e.transport.initial_rtt (e.peer_params.max_ack_delay * 1000000)
+watch_from e gives = first_watch gives e.closing.clock e.path.remote e.transport.initial_rtt (e.peer_params.max_ack_delay * 1000000)
 
 -- what the observer of an end knows by the first so many answers
 abbrev pub watch : Run → Side → ℕ → Watch
@@ -483,3 +530,15 @@ references_until r side i = map (λ s. s.reference) (sents_until r side i)
 -- those that were acknowledged in flight
 abbrev pub acked_until : Run → Side → ℕ → List Sent
 acked_until r side i = (watch r side i).flight.acked
+
+-- the address at which an end takes its peer to be
+abbrev pub peer_address : Run → Side → ℕ → ℕ
+peer_address r side i = (watch r side i).route.address
+
+-- the path of an end, by how many it had before
+abbrev pub generation_at : Run → Side → ℕ → ℕ
+generation_at r side i = (watch r side i).route.generation
+
+-- whether it changed by the event behind the first so many answers
+abbrev pub path_changes : Run → Side → ℕ → Bool
+path_changes r side i = has_changed (watch r side i) (watch r side (suc i))

@@ -1,7 +1,7 @@
 -- What polls give, and what they hold back (RFC 9002, sections 7, 7.5 and 7.7): an open end gives
 -- what waits, unless the congestion window or the pacer holds it back; and the controller shows the
 -- window that comes of what it was told.
-use Rattle.std.specs.Prelude.{ℕ, zero, suc, ◌+◌, ◌<◌, ◌≤◌, ◌≡◌, ◌⊎◌, true, false, List, [], ◌∷◌, ◌++◌, filter, length, replicate, sum_by, slice_get, take, Option, Some, None, Ok, if◌then◌else◌, ◌*◌}
+use Rattle.std.specs.Prelude.{ℕ, zero, suc, ◌+◌, ◌<◌, ◌≤◌, ◌≡◌, ◌⊎◌, ◌==◌, ◌&&◌, Bool, true, false, List, [], ◌∷◌, ◌++◌, filter, length, replicate, sum_by, slice_get, take, Option, Some, None, Ok, if◌then◌else◌, ◌*◌}
 use Rattle.quic_wire_core.specs.declared.stream_id.Side.{Side}
 use Rattle.quic_wire_core.specs.declared.stream_id.Side.TheVariants.{Client, Server}
 use Rattle.quic_wire_core.specs.StreamId.{other_side}
@@ -23,8 +23,9 @@ use Rattle.quic_machine.specs.End.{End, with_closing, with_window}
 use Rattle.quic_machine.specs.Control.{paced_until, with_pacing_timer}
 use Rattle.quic_machine.specs.Poll.{probed, request_queued, waits}
 use Rattle.quic_machine.specs.Machine.{World, Policies, IsStep, policy_at, end_at, end_met, control_at, given_by, tells, end_view}
-use Rattle.quic_headline.specs.Runs.{Run, In, same_side, state_in, until, AreServed, LeadsTo, written, ended, reset, bytes_handed, bytes_given}
-use Rattle.quic_headline.specs.Observer.{Sent, HoldsOffset, HoldsEnd, asks_of, watch, sents_until, acked_until}
+use Rattle.quic_headline.specs.Runs.{Run, In, same_side, state_in, until, AreServed, LeadsTo, written, ended, reset}
+use Rattle.quic_headline.specs.Observer.{Sent, HoldsOffset, HoldsEnd, asks_of, watch, generation_at, sents_until, acked_until}
+use Rattle.quic_headline.specs.Allowance.{bytes_handed, bytes_given}
 use Rattle.quic_headline.specs.Headline.{IsAt}
 use Rattle.quic_headline.specs.Moments.{timers_in}
 
@@ -76,9 +77,18 @@ pub record GaveNothing (r : Run) (side : Side) (i now : ℕ) (v : View) : Type 0
 abbrev pub flying : Run → Side → ℕ → List Sent
 flying r side i = (watch r side i).flight.flying
 
--- their bytes, of those that ask for an acknowledgement
+-- whether a datagram counts against the congestion window of a path: it went on that path, and asks
+-- for an acknowledgement
+abbrev pub counts_on : ℕ → Sent → Bool
+counts_on generation s = asks_of s && (s.generation == generation)
+
+-- the bytes of those that do
+abbrev pub bytes_on : ℕ → List Sent → ℕ
+bytes_on generation ss = sum_by (λ s. s.size) (filter (counts_on generation) ss)
+
+-- their bytes, of those that count against the window of the path that the end has there
 abbrev pub bytes_flying : Run → Side → ℕ → ℕ
-bytes_flying r side i = sum_by (λ s. s.size) (filter asks_of (flying r side i))
+bytes_flying r side i = bytes_on (generation_at r side i) (flying r side i)
 
 -- the window that a view shows has no room for one more datagram beside those in flight
 abbrev pub IsFull : Run → Side → ℕ → View → Type 0
@@ -96,8 +106,8 @@ abbrev pub IsHeldBack : Run → Side → ℕ → View → Type 0
 IsHeldBack r side i v = IsFull r side i v ⊎ IsPaced r side i v
 
 -- Nothing more may go to an address that isn't validated (RFC 9000, section 8.1): with one more
--- datagram of the current size more bytes would have gone than three times those that came, of
--- which 64 bits hold three times as many.
+-- datagram of the current size more bytes would have gone on the path than three times those that
+-- came on it, of which 64 bits hold three times as many.
 pub record IsLimited (r : Run) (side : Side) (i : ℕ) (v : View) : Type 0 where
   pub unvalidated : (end_in v side).validated ≡ false
   pub full : saturated (3 * bytes_handed r side i) < bytes_given r side i + mtu_in v side

@@ -16,7 +16,7 @@ use Rattle.quic_headline.specs.Rest.{DeliveredAtRest, NothingOwedAtRest}
 use Rattle.quic_headline.specs.AcksDue.{AcksAreDue}
 use Rattle.quic_headline.specs.Resets.{ResetsAreTold}
 use Rattle.quic_headline.specs.Ids.{IdsAreNew, AcceptedWereOpened}
-use Rattle.quic_headline.specs.ConnectionIds.{NewestOpensAtEnd, IdsAreIssued, IdsAreInUse, UnknownOnlyWhereRetired, ToldIdsAreKnown, NoIdIsExact, TooManyIsExact}
+use Rattle.quic_headline.specs.ConnectionIds.{NewestOpensAtEnd, IdsAreIssued, IdsAreInUse, UnknownOnlyWhereRetired, ToldIdsAreKnown, NoIdIsExact, TooManyIsExact, StaysForAReason}
 use Rattle.quic_headline.specs.Taken.{TakenExactly}
 use Rattle.quic_headline.specs.Reasons.{ClosedHasAReason, NeverFails}
 use Rattle.quic_headline.specs.Views.{ViewsTell}
@@ -38,6 +38,7 @@ use Rattle.quic_headline.specs.Spread.{PacerIsOfHistory}
 use Rattle.quic_headline.specs.Threefold.{Threefold}
 use Rattle.quic_headline.specs.PeerLimits.{LimitsAreThePeers}
 use Rattle.quic_headline.specs.Validated.{ValidatedByAnswer, AnswersValidate}
+use Rattle.quic_headline.specs.Moves.{GoesToPath, PathChangesExactly, DropsOtherAddresses}
 use Rattle.quic_headline.specs.Expiring.{IdleMoments, AliveMoments, PathMoments, ClosedTimers, CloseMoments, CloseMomentsStay, DrainsInTime}
 use Rattle.quic_headline.specs.Closes.{ClosesSayWhy, PeerClosesCome, ClosesAreOwed, OwedClosesGo, DrainedAreSilent}
 
@@ -236,15 +237,26 @@ pub record Identifies (r : Run) : Type 0 where
   -- `TooManyPending` exactly where it told of one, and over 80 retirements would wait (section
   -- 5.1.2)
   pub too_many_is_exact : TooManyIsExact r
+  -- as the path changes the next id comes into use, unless there is none, or too many retirements
+  -- would wait (sections 5.1.2 and 9.5)
+  pub stays_for_a_reason : StaysForAReason r
 
 -- What goes to an address, and when that becomes validated (RFC 9000, section 8).
 pub record Validates (r : Run) : Type 0 where
-  -- until then at most three times the bytes that were handed in go (section 8.1)
+  -- until then at most three times the bytes that came from there go there (section 8.1)
   pub threefold : Threefold r
   -- it becomes validated only by the answer to the challenge that went (section 8.2.2)
   pub validated_by_answer : ValidatedByAnswer r
   -- it becomes validated by that answer (section 8.2.3)
   pub answers_validate : AnswersValidate r
+  -- each datagram goes to where its end takes its peer to be (sections 9.3 and 10.2)
+  pub goes_to_path : GoesToPath r
+  -- that changes, and isn't validated then, exactly where the newest packet that was taken came from
+  -- elsewhere to a server, and doesn't only probe (sections 9.1 and 9.3)
+  pub path_changes_exactly : PathChangesExactly r
+  -- a client drops all that comes from elsewhere, and nothing else is dropped for its address (section
+  -- 9)
+  pub drops_other_addresses : DropsOtherAddresses r
 
 -- Why an end closes, and that it takes what comes otherwise (RFC 9000, sections 10 and 11).
 pub record Causes (r : Run) : Type 0 where

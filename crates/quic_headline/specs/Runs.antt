@@ -1,6 +1,6 @@
 -- What a run says of its ends over its lists alone: its events, their answers, the views behind
 -- them, and the datagrams that each end gave.
-use Rattle.std.specs.Prelude.{ℕ, zero, suc, ◌+◌, ◌<◌, ◌≤◌, ◌≡◌, ◌⊎◌, max, Bool, true, false, nat_le, ◌==◌, ◌&&◌, ◌||◌, not, if◌then◌else◌, List, [], ◌∷◌, ◌++◌, length, take, slice_get, Option, Some, None, Result, Ok, Err, sum_by}
+use Rattle.std.specs.Prelude.{ℕ, zero, suc, ◌+◌, ◌<◌, ◌≤◌, ◌≡◌, ◌⊎◌, max, Bool, true, false, nat_le, ◌==◌, ◌&&◌, ◌||◌, not, if◌then◌else◌, List, [], ◌∷◌, ◌++◌, length, take, slice_get, Option, Some, None, Result, Ok, Err}
 use Rattle.std.specs.List.{list_any}
 use Rattle.quic_wire_core.specs.declared.stream_id.Side.{Side}
 use Rattle.quic_wire_core.specs.declared.stream_id.Side.TheVariants.{Client, Server}
@@ -281,14 +281,16 @@ destination (first ∷ rest) = take own_id_length rest
 abbrev pub opens_by_key : Policy → ℕ → List ℕ → Option Opening
 opens_by_key p expected d = opens p (destination d ∷ []) expected d
 
--- whether a delivery was answered that its datagram was sent to no id of the end's
+-- whether a delivery was answered that its datagram was sent to no id of the end's, or came from
+-- where the end takes nothing
 abbrev pub is_elsewhere : Answer → Bool
 is_elsewhere (answers.Deliver (receives.Dropped drops.UnknownId)) = true
+is_elsewhere (answers.Deliver (receives.Dropped drops.Address)) = true
 is_elsewhere a = false
 
 -- What a datagram opens to that is handed to an end, which took these packets before: to what it
--- does by its key, and to nothing where it was sent to no id of the end's. The lists show no ids,
--- so the answer says where that is.
+-- does by its key, and to nothing where it was sent to no id of the end's, or came from where the
+-- end takes nothing. The lists show no ids, so the answer says where that is.
 abbrev pub came_open : Policy → List Packet → Answer → List ℕ → Option Opening
 came_open p packets a d = if is_elsewhere a then None else opens_by_key p (expected_behind packets) d
 
@@ -434,14 +436,6 @@ size_of (Some datagram) = length datagram
 abbrev pub bytes_in_call : List (List ℕ) → Call → Answer → ℕ
 bytes_in_call given (calls.Inject injection) (answers.Inject a) = length injection.bytes
 bytes_in_call given call a = size_of (handed given call a)
-
--- how many bytes were handed to an end by the first so many answers
-abbrev pub bytes_handed : Run → Side → ℕ → ℕ
-bytes_handed r side i = sum_by (λ t. bytes_in_call (given_of r (other_side side)) t.call t.answer) (until r side i)
-
--- how many bytes the datagrams have that it gave by them
-abbrev pub bytes_given : Run → Side → ℕ → ℕ
-bytes_given r side i = sum_by length (given_until r side i)
 
 -- the greatest number that frames acknowledge, or 0
 abbrev pub acknowledged_in : List FrameValue → ℕ

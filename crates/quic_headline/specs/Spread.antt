@@ -1,11 +1,11 @@
 -- How an end spreads what it sends over the round trip, as an observer of a run's lists reckons it
 -- (RFC 9002, section 7.7): in which polls its pacer is asked, and with what; which tokens are taken
 -- of it; and which moment it names.
-use Rattle.std.specs.Prelude.{ℕ, zero, suc, ◌+◌, ◌≤◌, ◌≡◌, ◌⊎◌, max, not, ◌==◌, ◌&&◌, ◌||◌, Bool, true, false, nat_lt, IfSome, List, [], ◌∷◌, ◌++◌, filter, map, length, slice_get, Option, Some, None}
+use Rattle.std.specs.Prelude.{ℕ, zero, suc, ◌+◌, ◌≤◌, ◌≡◌, ◌⊎◌, max, not, ◌==◌, ◌&&◌, ◌||◌, Bool, true, false, nat_lt, if◌then◌else◌, IfSome, List, [], ◌∷◌, ◌++◌, filter, map, length, slice_get, Option, Some, None}
 use Rattle.std.specs.List.{list_any}
 use Rattle.quic_wire_core.specs.declared.stream_id.Side.{Side}
 use Rattle.quic_time.specs.Rtt.{best_rtt}
-use Rattle.quic_congestion.specs.Pacer.{Pacing, Ask, answer_of, pacing_after}
+use Rattle.quic_congestion.specs.Pacer.{Pacing, Ask, answer_of, pacing_after, new_pacing}
 use Rattle.quic_congestion.specs.Pacer as pacer
 use Rattle.quic_machine.specs.declared.answers.State.TheVariants as states
 use Rattle.quic_machine.specs.declared.run.RunEvent.{RunEvent}
@@ -16,7 +16,7 @@ use Rattle.quic_machine.specs.declared.run.View.{View}
 use Rattle.quic_machine.specs.Control.{if_later}
 use Rattle.quic_machine.specs.Machine.{end_at}
 use Rattle.quic_headline.specs.Runs.{Run, same_side, state_in, AreServed}
-use Rattle.quic_headline.specs.Observer.{Sent, asks_of, watch}
+use Rattle.quic_headline.specs.Observer.{Sent, asks_of, watch, path_changes}
 use Rattle.quic_headline.specs.Headline.{IsAt}
 use Rattle.quic_headline.specs.Moments.{went}
 use Rattle.quic_headline.specs.Polls.{seen_at, pacing_timer, bytes_flying, GaveNothing, GaveAsking, IsFull, IsLimited, IsToGo, IsSizeProbe}
@@ -105,11 +105,16 @@ abbrev pub paces_at : Option RunEvent → Option View → Run → Side → ℕ �
 paces_at (Some event) (Some v) r side i = paces_in (same_side event.side side) event.call r side i v
 paces_at event v r side i = []
 
+-- that of another path, as it comes: full, by the round trip, the window, the size and the clock that
+-- are seen behind the event
+abbrev pub pacer_anew : Run → Side → ℕ → Pacing
+pacer_anew r side i = new_pacing (best_rtt (watch r side i).flight.rtt) (seen_at r side i).window (seen_at r side i).current_mtu (watch r side i).clock
+
 -- what the pacer of an end holds behind the first so many answers: at first what it did as the run
--- began, and then what each event leaves of that
+-- began, and then what each event leaves of that; where the path changes, it is made anew
 abbrev pub pacer_at : Run → Side → ℕ → Pacing
 pacer_at r side zero = (end_at side r.start).path.pacing
-pacer_at r side (suc i) = pacing_after (paces_at (slice_get r.events i) (slice_get r.views i) r side i) (pacer_at r side i)
+pacer_at r side (suc i) = if path_changes r side i then pacer_anew r side (suc i) else pacing_after (paces_at (slice_get r.events i) (slice_get r.views i) r side i) (pacer_at r side i)
 
 -- the moment that it names where it is asked in a poll there, if it names a later one
 abbrev pub named_at : Run → Side → ℕ → ℕ → Option ℕ

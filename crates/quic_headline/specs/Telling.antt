@@ -28,7 +28,7 @@ use Rattle.quic_machine.specs.declared.run.View.{View}
 use Rattle.quic_machine.specs.Machine.{end_at, control_at}
 use Rattle.quic_headline.specs.Runs.{Run, Told, Packet, Intake, In, same_side, given_of, names, is_refused, and_told, until, AreServed}
 use Rattle.quic_headline.specs.Observer.{Sent, asks_of, Terms, Flight, latest, late_by, is_lost, is_greatest, measures, kept_delay, open_request, rtt_behind, after_ack, after_packets, waited, loss_due, is_past, Watch, news, has_opened, moment_of, clock_behind, Lens, is_timely, watch_came, watch_told, lens_of, watch_from, next_number}
-use Rattle.quic_headline.specs.Polls.{window_in, mtu_in, end_in, search_at}
+use Rattle.quic_headline.specs.Polls.{window_in, mtu_in, end_in, search_at, counts_on, bytes_on}
 use Rattle.quic_headline.specs.AppLimited.{CountsAt}
 
 -- what a controller is told, one thing behind another
@@ -48,6 +48,7 @@ pub record Judging : Type 0 where
   pub terms : Terms
   pub settings : TransportSettings
   pub validated : Bool
+  pub generation : ℕ
   pub next : ℕ
   pub first : Option ℕ
   pub limited : Bool
@@ -118,7 +119,7 @@ pub record TellsLosses (j : Judging) (clock : ℕ) (by_ack : Bool) (f : Flight) 
   pub persists : Bool
   pub persistent : (persists ≡ true) ↔ ((by_ack ≡ true) × IsPersistent (lasting j.settings f) (measured_first j.first j.next f.rtt.smoothed) (map (loss_as probe) (lost_at j.terms clock f)))
   pub is : told ≡ told_if falls (congestion.Resized j.settings.min_mtu)
-      ++ (let others = but_for_probe probe (lost_at j.terms clock f) in told_if (list_any asks_of others) (congestion.Congested clock (last_moment others) persists (min (bytes_asking others) latest)))
+      ++ (let others = but_for_probe probe (lost_at j.terms clock f) in told_if (list_any (counts_on j.generation) others) (congestion.Congested clock (last_moment others) persists (min (bytes_asking others) latest)))
 
 -- ---- datagrams that are acknowledged (RFC 9002, section 7.3)
 
@@ -163,7 +164,7 @@ pub record TellsSettled (j : Judging) (clock : ℕ) (a : AckValue) (acked others
   pub losses : TellsLosses j clock true (acked_flight j.terms clock a acked others f) lost
   pub marks : Bool
   pub counts : marks ≡ true → MayMark f.named a
-  pub is : told ≡ each ++ congestion.AcksEnded clock (min (bytes_asking others) latest) j.limited (Some (greatest_of f.named a.largest)) ∷ lost ++ told_if marks (congestion.Congested clock (last_moment acked) false 0)
+  pub is : told ≡ each ++ congestion.AcksEnded clock (min (bytes_on j.generation others) latest) j.limited (Some (greatest_of f.named a.largest)) ∷ lost ++ told_if marks (congestion.Congested clock (last_moment acked) false 0)
 
 -- an ACK frame that names none in flight tells nothing
 abbrev pub TellsNamed : Judging → ℕ → AckValue → List Sent → List Sent → Flight → Tellings → Type 0
@@ -206,7 +207,7 @@ TellsMoment false j clock f told = told ≡ []
 
 -- by what they are judged where the observer knows this
 abbrev pub judging : Lens → TransportSettings → Bool → Option ℕ → Bool → Watch → Judging
-judging l c validated first limited w = record { terms = l.terms; settings = c; validated = validated; next = next_number w.own; first = first; limited = limited }
+judging l c validated first limited w = record { terms = l.terms; settings = c; validated = validated; generation = w.route.generation; next = next_number w.own; first = first; limited = limited }
 
 -- the number that went next as a round trip was first measured, by what the observer knows behind a
 -- call

@@ -4,13 +4,18 @@ use Rattle.std.specs.Prelude.{ℕ, suc, ◌<◌, ◌^◌, nat_lt, ◌≡◌, ◌
 use Rattle.quic_wire_core.specs.declared.stream_id.Side.{Side}
 use Rattle.quic_wire.specs.Value.{FrameValue, path_challenge, path_response}
 use Rattle.quic_machine.specs.declared.answers.State.TheVariants as states
+use Rattle.quic_machine.specs.declared.run.Delivery.{Delivery}
+use Rattle.quic_machine.specs.declared.run.Call.TheVariants as calls
+use Rattle.quic_machine.specs.declared.run.Answer.{Answer}
 use Rattle.quic_machine.specs.Validation.{word_of}
 use Rattle.quic_machine.specs.Machine.{policy_at, end_at}
 use Rattle.quic_headline.specs.Runs.{Run, Told, Packet, In, folded, until, state_at, AreServed}
-use Rattle.quic_headline.specs.Observer.{Sent, Lens, watch, lens_of, news}
+use Rattle.quic_headline.specs.Observer.{Sent, Lens, watch, lens_of, news, has_changed, peer_address, path_changes}
+use Rattle.quic_headline.specs.Headline.{IsAt}
 use Rattle.quic_headline.specs.Moments.{went}
 use Rattle.quic_headline.specs.Expiring.{Questions, questions_told, questions_at_first}
 use Rattle.quic_headline.specs.Polls.{seen_at}
+use Rattle.quic_headline.specs.Telling.{shows_validated}
 use Rattle.quic_headline.specs.Waited.{stands, is_path_challenge}
 
 -- ---- what an end asked
@@ -28,7 +33,7 @@ asked_by (s ∷ ss) before = asked_by ss (asked_in s.frames before)
 
 -- What an observer knows of what an end asks: how it asked, by its timer; the data of the
 -- PATH_CHALLENGE that it gave last; and whether it may ask for other data by now: it gave none yet,
--- or the timer of path validation expired since (section 8.2.4).
+-- or since then the timer of path validation expired (section 8.2.4), or its path changed.
 pub record Asking : Type 0 where
   pub questions : Questions
   pub latest : Option (List ℕ)
@@ -39,12 +44,13 @@ abbrev pub asking_behind : List Sent → Questions → Asking → Asking
 asking_behind sents after a = record {
   questions = after;
   latest = asked_by sents a.latest;
-  renewed = (if stands is_path_challenge sents then false else nat_lt a.questions.count after.count || a.renewed);
+  renewed = (if stands is_path_challenge sents then false else nat_lt a.questions.count after.count || (has_changed a.questions.watch after.watch || a.renewed));
 }
 
--- one call more at the end
-abbrev pub asking_told : Lens → Told → Asking → Asking
-asking_told l t a = let after = questions_told l t a.questions in asking_behind (went a.questions.watch after.watch) after a
+-- one call more at the end, where before its call behind so many others the address of the peer is
+-- seen to be validated or isn't
+abbrev pub asking_told : Lens → (ℕ → Bool) → Told → Asking → Asking
+asking_told l validated t a = let after = questions_told l validated t a.questions in asking_behind (went a.questions.watch after.watch) after a
 
 -- nothing was asked before the first call
 abbrev pub first_asking : Questions → Asking
@@ -52,7 +58,7 @@ first_asking q = record { questions = q; latest = None; renewed = true }
 
 -- what an end asks behind the first so many answers
 abbrev pub asking : Run → Side → ℕ → Asking
-asking r side i = folded (asking_told (lens_of r side)) (until r side i) (first_asking (questions_at_first r side))
+asking r side i = folded (asking_told (lens_of r side) (shows_validated r side)) (until r side i) (first_asking (questions_at_first r side))
 
 -- ---- what the peer answered
 
@@ -68,11 +74,12 @@ IsLatest None token = ⊥
 IsLatest (Some asked) token = word_of token ≡ word_of asked
 
 -- The peer answered, before the end was called at a place, what it was asked last, unless other
--- data may be asked for by now.
+-- data may be asked for by now: so it is also where the answer came in the packet by which the path
+-- changes, which is asked for others then.
 pub record WasAnswered (r : Run) (side : Side) (i : ℕ) : Type 0 where
   pub token : List ℕ
   pub came : AnswerCame r side i token
-  pub right : IsLatest (asking r side i).latest token ⊎ ((asking r side i).renewed ≡ true)
+  pub right : IsLatest (asking r side i).latest token ⊎ (((asking r side i).renewed ≡ true) ⊎ (path_changes r side i ≡ true))
 
 -- the address of an end's peer becomes validated only so, as views of an end that stays open show
 -- it
@@ -86,7 +93,15 @@ pub record AreWords (r : Run) : Type 0 where
   pub drawn : (side : Side) (n : ℕ) → (policy_at side r.keys).words n < 2 ^ 64
   pub asked : (side : Side) (word : ℕ) → (end_at side r.start).validation.challenge ≡ Some word → word < 2 ^ 64
 
--- and it is validated then, where no other data may be asked for, and all words fit
+-- A datagram came to an end from where it takes its peer to be, with the call at a place.
+pub record CameFromPeer (r : Run) (side : Side) (i : ℕ) : Type 0 where
+  pub delivery : Delivery
+  pub answer : Answer
+  pub at : IsAt r i side (calls.Deliver delivery) answer
+  pub from : delivery.remote ≡ peer_address r side i
+
+-- and it is validated then, where the answer came from where the end takes its peer to be, no other
+-- data may be asked for, and all words fit
 abbrev pub AnswersValidate : Run → Type 0
 AnswersValidate r = AreWords r → (side : Side) (i : ℕ) (token : List ℕ) → AreServed r (suc i) → state_at r side (suc i) ≡ states.Open
-    → (asking r side i).renewed ≡ false → AnswerCame r side i token → IsLatest (asking r side i).latest token → (seen_at r side (suc i)).validated ≡ true
+    → CameFromPeer r side i → (asking r side i).renewed ≡ false → AnswerCame r side i token → IsLatest (asking r side i).latest token → (seen_at r side (suc i)).validated ≡ true

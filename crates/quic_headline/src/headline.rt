@@ -88,10 +88,10 @@ pub fn acks_only_taken()
     ensures { (p : Policy) (theirs : List (List ℕ)) (x left : Lone) (calls : List Call) (told : List Answer) (given : List (List ℕ)) → AcksOnlyTaken p theirs x calls told given left }
 {}
 
-/// While an end shows the address of its peer as one that isn't validated, it gave no more than
-/// three times the bytes that were handed to it, whatever these are, as long as it doesn't fail
-/// (RFC 9000, section 8.1). It wants that header keys hide as many bytes as stand there, and that
-/// packet keys add a tag of 16 bytes.
+/// While an end shows the address of its peer as one that isn't validated, it gave there no more
+/// than three times the bytes that were handed to it from there, since it takes its peer to be
+/// there, whatever these are, as long as it doesn't fail (RFC 9000, section 8.1). It wants that
+/// header keys hide as many bytes as stand there, and that packet keys add a tag of 16 bytes.
 pub fn stays_threefold()
     ensures { (p : Policy) (theirs : List (List ℕ)) (x left : Lone) (calls : List Call) (told : List Answer) (given : List (List ℕ)) → StaysThreefold p theirs x calls told given left }
 {}

@@ -1,5 +1,5 @@
 -- The words that the random source of an end answers.
-use Rattle.std.proofs.Common.{◌≡◌, ℕ, sym, ap, ◌∙◌}
+use Rattle.std.proofs.Common.{◌≡◌, sym, ap, ◌∙◌}
 use Rattle.std.specs.Prelude.{replicate}
 use Rattle.rand_core.specs.Stream.{Stream, u64_call}
 use Rattle.quic_connection_parts.specs.Drawn.{words_of}

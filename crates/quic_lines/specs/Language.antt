@@ -60,6 +60,8 @@ pub data Command : Type 0 where
   sets : Side → Setting → Command
   asks : Side → Asked → Command
   shows : Side → ℕ → Command
+  -- what comes to an end comes from an address from now on
+  hears_from : Side → ℕ → Command
   -- both ends talk from a moment on
   settles : ℕ → Command
 
@@ -253,7 +255,8 @@ abbrev pub command_said : Side → List ℕ → List (List ℕ) → Option Comma
 command_said side name args =
     if is_word name (codes "set") then option_map (sets side) (settings_said args)
     else (if is_word name (codes "show") then one (shows side) number_named args
-    else option_map (asks side) (call_said name args))
+    else (if is_word name (codes "from") then one (hears_from side) number_named args
+    else option_map (asks side) (call_said name args)))
 
 -- the same, where there are an end and a word
 abbrev pub end_said : Option Side → List (List ℕ) → Option Command
@@ -321,12 +324,19 @@ asked_of (calls.Timer timer) = asks_timer timer
 asked_of calls.NextTimeout = asks_next
 asked_of calls.State = asks_state
 
+-- a call by which something comes from an address, and any other as it is
+abbrev pub from_address : ℕ → Call → Call
+from_address remote (calls.Deliver delivery) = calls.Deliver (record delivery { remote = remote })
+from_address remote (calls.Inject injection) = calls.Inject (record injection { remote = remote })
+from_address remote call = call
+
 -- what is done at a line
 abbrev pub command_of : Line → Command
 command_of lines.Empty = nothing
 command_of (lines.Set side setting) = sets side setting
 command_of (lines.Call event) = asks event.side (asked_of event.call)
 command_of (lines.Show side index) = shows side index
+command_of (lines.From side remote) = hears_from side remote
 command_of (lines.Settle now) = settles now
 
 -- What was read of a line's words, with those that are left: the whole names it where none are

@@ -1,5 +1,5 @@
 -- What is printed of an answer.
-use Rattle.std.specs.Prelude.{ℕ, Bool, true, false, ◌-◌, List, [], ◌∷◌, ◌++◌, codes, Option, Some, None, Result, Ok, Err}
+use Rattle.std.specs.Prelude.{ℕ, Bool, true, false, ◌-◌, ◌==◌, if◌then◌else◌, List, [], ◌∷◌, ◌++◌, codes, Option, Some, None, Result, Ok, Err}
 use Rattle.std.specs.Fmt.{decimal}
 use Rattle.hex.specs.Hex.{encode_lower}
 use Rattle.quic_wire_core.specs.declared.shared.EcnCodepoint.{EcnCodepoint}
@@ -141,9 +141,13 @@ abbrev pub message_text : Option (List ℕ) → List ℕ
 message_text (Some message) = bytes_text message
 message_text None = codes "none"
 
--- which datagram of its end was given, its size and its mark
+-- an address behind a blank, where it isn't 0
+abbrev pub address_text : ℕ → List ℕ
+address_text remote = if remote == 0 then [] else codes " " ++ decimal remote
+
+-- which datagram of its end was given, its size, its mark and its address
 abbrev pub transmit_text : ℕ → Transmit → List ℕ
-transmit_text index transmit = decimal index ++ (codes " " ++ (decimal transmit.size ++ (codes " " ++ mark_text transmit.ecn)))
+transmit_text index transmit = decimal index ++ (codes " " ++ (decimal transmit.size ++ (codes " " ++ (mark_text transmit.ecn ++ address_text transmit.remote))))
 
 -- the name of the reason why a datagram was dropped
 abbrev pub reason_text : DropReason → List ℕ
@@ -157,6 +161,7 @@ reason_text drops.Duplicate = codes "duplicate"
 reason_text drops.Closing = codes "closing"
 reason_text drops.Drained = codes "drained"
 reason_text drops.Failed = codes "failed"
+reason_text drops.Address = codes "address"
 
 -- what came of a datagram
 abbrev pub received_text : Received → List ℕ

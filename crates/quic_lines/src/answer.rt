@@ -1,11 +1,12 @@
 //! What is printed of an answer.
 ghost use Rattle.std.specs.Prelude.{◌≡◌, ◌++◌, OnOk, string_bytes};
-ghost use Rattle.quic_lines.specs.Printed.{bytes_text, coded_text, id_text, moment_text, mark_text, write_text, chunks_text, finish_text, update_text, reset_text, dir_text, stream_event_text, unreadable_text, next_text, send_text, message_text, transmit_text, reason_text, received_text, timeout_text, loss_text, state_text, validated_text, event_text, rest_text, answer_text, call_text, next_id_text};
+ghost use Rattle.quic_lines.specs.Printed.{bytes_text, coded_text, id_text, moment_text, mark_text, write_text, chunks_text, finish_text, update_text, reset_text, dir_text, stream_event_text, unreadable_text, next_text, send_text, message_text, address_text, transmit_text, reason_text, received_text, timeout_text, loss_text, state_text, validated_text, event_text, rest_text, answer_text, call_text, next_id_text};
 
 use bytes::Bytes;
 use quic_assembler::Chunk;
 use quic_machine::{
-    Answer, Call, DropReason, Event, Failed, LostReason, NextIdError, Received, State, Transmit,
+    Address, Answer, Call, DropReason, Event, Failed, LostReason, NextIdError, Received, State,
+    Transmit,
 };
 use quic_messages::SendDatagramError;
 use quic_streams_parts::{
@@ -196,13 +197,29 @@ pub fn mark_name(ecn: Option<EcnCodepoint>) -> &'static str
     }
 }
 
-/// Appends which datagram of its end it is, its size and its mark.
+/// Appends which datagram of its end it is, its size, its mark, and its address where that isn't 0.
 fn put_transmit(out: &mut String, transmit: &Transmit, index: usize) -> Result<(), AllocError>
     ensures { OnOk result (string_bytes out.new ≡ string_bytes out.old ++ transmit_text index transmit.now) }
 {
     let size = transmit.size;
     let mark = mark_name(transmit.ecn);
-    write!(out, "{index} {size} {mark}")
+    write!(out, "{index} {size} {mark}")?;
+    put_address(out, transmit.remote)
+}
+
+/// Appends a blank and an address, where that isn't 0.
+///
+/// # Errors
+///
+/// - [`AllocError`]: an allocation fails. Some of the text may stand in `out`.
+pub fn put_address(out: &mut String, remote: Address) -> Result<(), AllocError>
+    ensures { OnOk result (string_bytes out.new ≡ string_bytes out.old ++ address_text remote) }
+{
+    let Address(number) = remote;
+    if number == 0 {
+        return Ok(());
+    }
+    write!(out, " {number}")
 }
 
 /// How the reason why a datagram was dropped is printed.
@@ -220,6 +237,7 @@ fn reason_name(reason: DropReason) -> &'static str
         DropReason::Closing => "closing",
         DropReason::Drained => "drained",
         DropReason::Failed => "failed",
+        DropReason::Address => "address",
     }
 }
 

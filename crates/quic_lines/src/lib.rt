@@ -9,11 +9,14 @@ mod lines;
 mod options;
 mod script;
 
-pub use answer::{call_name, mark_name, put_answer, put_bytes, put_received, put_rest};
+pub use answer::{
+    call_name, mark_name, put_address, put_answer, put_bytes, put_received, put_rest,
+};
 pub use error::ScriptError;
 pub use line_by_line::{RunsLines, print, run_lines};
 pub use lines::{Lines, MOST_TURNS};
 pub use options::Options;
 pub use script::{
-    Line, LineError, LineWords, MAX_LINE, Setting, call_of, is_skipped, parse_line, side,
+    Line, LineError, LineWords, MAX_LINE, Setting, call_of, from_address, is_skipped, parse_line,
+    side,
 };

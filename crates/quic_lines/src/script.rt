@@ -6,7 +6,7 @@ ghost use Rattle.std.specs.Option.{SomeIff};
 ghost use Rattle.std.specs.Str.Parse.{IsNumeral, digits_value};
 ghost use Rattle.quic_lines.specs.Refusals.{line_error, script_error};
 ghost use Rattle.quic_lines.specs.Named.{side_named, dir_named, mark_named, timer_named, bytes_named};
-ghost use Rattle.quic_lines.specs.Language.{number_named, varint_named, switch_in, priority_named, first, two, three, reading, resets, stops, closes, delivers, injects, words_left, setting_with, setting_said, settings_said, call_named, asked_by, call_said, command_said, end_said, words_said, is_skipped, said, command_of, asked_of, asked_read, Reads, words as words_of};
+ghost use Rattle.quic_lines.specs.Language.{number_named, varint_named, switch_in, priority_named, first, two, three, reading, resets, stops, closes, delivers, injects, words_left, setting_with, setting_said, settings_said, call_named, asked_by, call_said, from_address, command_said, end_said, words_said, is_skipped, said, command_of, asked_of, asked_read, Reads, words as words_of};
 
 use crate::error::ScriptError;
 use bytes::Bytes;
@@ -33,6 +33,8 @@ pub enum Line {
     Call(RunEvent),
     /// The datagram of this index that the end gave out is shown.
     Show(Side, usize),
+    /// What comes to an end from now on comes from this address.
+    From(Side, Address),
     /// Both ends talk from this moment on until they rest.
     Settle(Instant),
 }
@@ -214,6 +216,18 @@ impl<'a> LineWords<'a> {
         Ok(Instant::from_nanos(self.number()?))
     }
 
+    /// The address that the next word names.
+    ///
+    /// # Errors
+    ///
+    /// - [`LineError::BadCommand`]: no word is left, or it is no number below 2^64.
+    pub fn address(&mut self) -> Result<Address, LineError>
+        ensures answer { result ≡ ok_or (first number_named (words_left self.old.rest)) LineError.BadCommand }
+        ensures rest { words_left self.new.rest ≡ drop 1 (words_left self.old.rest) }
+    {
+        Ok(Address(self.number()?))
+    }
+
     fn index(&mut self) -> Result<usize, LineError>
         ensures answer { result ≡ ok_or (first number_named (words_left self.old.rest)) LineError.BadCommand }
         ensures rest { words_left self.new.rest ≡ drop 1 (words_left self.old.rest) }
@@ -304,7 +318,7 @@ impl<'a> LineWords<'a> {
         })
     }
 
-    /// A moment, a mark and bytes.
+    /// A moment, a mark and bytes, which come from address 0.
     ///
     /// # Errors
     ///
@@ -529,6 +543,17 @@ pub fn call_of(alloc: Global, name: &str, words: &mut LineWords) -> Result<Call,
     }
 }
 
+/// What comes to an end by this call comes from this address.
+pub fn from_address(call: &mut Call, remote: Address)
+    ensures { call.new ≡ from_address remote call.old }
+{
+    match call {
+        Call::Deliver(delivery) => delivery.remote = remote,
+        Call::Inject(injection) => injection.remote = remote,
+        _ => {}
+    }
+}
+
 /// What the words behind this name ask of an end.
 fn command(alloc: Global, side: Side, name: &str, words: &mut LineWords) -> Result<Line, LineError>
     ensures { Reads result command_of (command_said side name.now (words_left words.old.rest)) (words_left words.new.rest) }
@@ -536,6 +561,7 @@ fn command(alloc: Global, side: Side, name: &str, words: &mut LineWords) -> Resu
     match name {
         "set" => Ok(Line::Set(side, words.setting()?)),
         "show" => Ok(Line::Show(side, words.index()?)),
+        "from" => Ok(Line::From(side, words.address()?)),
         _ => Ok(Line::Call(RunEvent {
             side,
             call: call_of(alloc, name, words)?,

@@ -17,7 +17,8 @@ use Rattle.quic_machine.specs.declared.answers.LostReason.TheVariants as reasons
 use Rattle.quic_machine.specs.Reasons.{error_close}
 use Rattle.quic_machine.specs.Closing.{ticked}
 use Rattle.quic_machine.specs.End.{End, with_closing, closing_by, with_ping, with_streams, with_messages, with_window}
-use Rattle.quic_machine.specs.Control.{Control}
+use Rattle.quic_congestion.specs.Pacer.{Pacing}
+use Rattle.quic_machine.specs.Control.{Control, with_pacing}
 use Rattle.quic_machine.specs.Heard.{Heard}
 use Rattle.quic_machine.specs.Validation.{is_blocked, with_blocked}
 use Rattle.quic_machine.specs.Receive.{received}
@@ -185,7 +186,10 @@ module _ (p : Policy) (e : End) (theirs : List (List ℕ)) (P : End → Type 0) 
   })
 
   -- what holds of an end, whichever window a poll reads and whether or not it finds that nothing
-  -- may go, and then in each case, holds of the end that a call leaves
-  pub by_left : P e → ((window : ℕ) (blocked : Bool) → P e → P (with_blocked (with_window e window) blocked)) → (control : Control) (heard : Heard) (call : Call) (a : Answer) → ((x : End) → P x → P (after_call p x theirs call a)) → P (end_left p control heard e theirs call a)
-  by_left here reads control heard (calls.Poll now) a step = step (with_blocked (with_window e (control [])) (is_blocked e heard)) (reads (control []) (is_blocked e heard) here)
-  by_left here reads control heard call a step = step e here
+  -- may go, and then in each case, holds of the end that a call leaves; of each end it holds with
+  -- another pacer
+  pub by_left : P e → ((window : ℕ) (blocked : Bool) → P e → P (with_blocked (with_window e window) blocked)) → (control : Control) (heard : Heard) (call : Call) (a : Answer) → ((x : End) (pacing : Pacing) → P x → P (with_pacing x pacing)) → ((x : End) → P x → P (after_call p x theirs call a)) → P (end_left p control heard e theirs call a)
+  by_left here reads control heard (calls.Poll now) a paces step =
+      let met = with_blocked (with_window e (control [])) (is_blocked e heard) in
+      paces (after_call p met theirs (calls.Poll now) a) _ (step met (reads (control []) (is_blocked e heard) here))
+  by_left here reads control heard call a paces step = paces (after_call p e theirs call a) _ (step e here)

@@ -10,9 +10,7 @@ use Rattle.quic_wire_core.specs.declared.shared.EcnCodepoint.{EcnCodepoint}
 use Rattle.quic_wire.specs.Items.{items}
 use Rattle.quic_wire.specs.declared.frame.InvalidFrame.{InvalidFrame}
 use Rattle.quic_packet.specs.Header.{key_phase, reserved_bits}
-use Rattle.quic_packet.specs.Destination.{decoded, fixed_length_id}
 use Rattle.quic_packet.specs.Datagram.{Opening}
-use Rattle.quic_packet.specs.declared.packet.HeaderError.{HeaderError}
 use Rattle.quic_send_buffer.specs.declared.stream_meta.StreamMeta.{StreamMeta}
 use Rattle.quic_recovery_core.specs.Duplicates.{is_duplicate}
 use Rattle.quic_streams_state.specs.State.{Streams}
@@ -20,6 +18,7 @@ use Rattle.quic_streams_parts.specs.Table.{Table}
 use Rattle.quic_machine.specs.Arrival.{Arrival}
 use Rattle.quic_machine.specs.declared.answers.State.{State}
 use Rattle.quic_machine.specs.declared.answers.State.TheVariants as states
+use Rattle.quic_machine.specs.declared.answers.DropReason.{DropReason}
 use Rattle.quic_machine.specs.declared.answers.DropReason.TheVariants as drops
 use Rattle.quic_machine.specs.declared.answers.LostReason.{LostReason}
 use Rattle.quic_wire.specs.Close.{CloseValue}
@@ -34,7 +33,7 @@ use Rattle.quic_ids.specs.CidQueue.{insert_answer}
 use Rattle.quic_ids.specs.declared.cid_queue.InsertError.{InsertError}
 use Rattle.quic_ids.specs.declared.cid_queue.InsertError.TheVariants as inserts
 use Rattle.quic_retransmits.specs.Retransmits.{most_retirements, can_retire, after_retire}
-use Rattle.quic_machine.specs.Ids.{Ids, known, destination, frame_of, taken_up, retires_for, retired, may_issue}
+use Rattle.quic_machine.specs.Ids.{Ids, destination, frame_of, taken_up, retires_for, retired, may_issue}
 use Rattle.quic_machine.specs.IdFrames.{most_untold, issued, issued_if, issues_for, drawn}
 use Rattle.quic_spaces.specs.Numbers.{number_opened, number_named}
 use Rattle.quic_spaces.specs.Marks.{Counts}
@@ -44,7 +43,8 @@ use Rattle.quic_messages.specs.Messages.{received_answer}
 use Rattle.quic_machine.specs.Parts.{Messaging}
 use Rattle.quic_machine.specs.Tracking.{TrackedPacket, Carried, acked_by, Verdict, lost_by, after_detection}
 use Rattle.quic_machine.specs.End.{End, with_closing, closed_by, with_numbers, with_ids, with_frames, with_streams, with_messages, with_tracking, with_told, with_marking, with_discovery, with_queued}
-use Rattle.quic_machine.specs.Opens.{own_id_length}
+use Rattle.quic_machine.specs.Opens.{head}
+use Rattle.quic_machine.specs.Migration.{migrated}
 use Rattle.quic_messages.specs.Messages.{without_longer}
 use Rattle.quic_congestion.specs.Search.{Discovery}
 use Rattle.quic_machine.specs.MessageCalls.{most_message}
@@ -55,7 +55,7 @@ use Rattle.quic_machine.specs.Acked.{request_acked, without_known, reset_acked, 
 use Rattle.quic_paths.specs.Paths.{is_asked}
 use Rattle.quic_paths.specs.Responses.{Response}
 use Rattle.quic_machine.specs.Validation.{Asked, asked_of, path_asked, path_validated, word_of, validated_if}
-use Rattle.quic_machine.specs.Receive.{Fault, broke, too_many_pieces, closed_by_peer, drained_at, exhausted, unopened_in, violation, reason_of, Progress, goes_on, is_above, names_ungiven, message_taken, message_judged, take_message, retired_for, id_judged, retirement_judged, asks_too_soon, frequency_judged, take_frame, take_item, unless_fault, take_items, is_empty, take_payload, asks_in, is_urged, after_taken, dropped, ends_as, by_state, opened_to, opened_as, opening, headed, received_in, is_read, drawn_if, received}
+use Rattle.quic_machine.specs.Receive.{Fault, broke, too_many_pieces, closed_by_peer, drained_at, exhausted, unopened_in, violation, reason_of, Progress, goes_on, is_above, names_ungiven, message_taken, message_judged, take_message, retired_for, id_judged, retirement_judged, asks_too_soon, frequency_judged, take_frame, take_item, unless_fault, take_items, is_empty, take_payload, asks_in, is_urged, after_taken, dropped, ends_as, by_state, opened_to, opened_as, opening, headed, received_in, is_read, drawn_if, with_ids_drawn, has_migrated, migrated_if, items_taken, received}
 
 -- ---- packets that are acknowledged, and those that are lost
 
@@ -436,6 +436,8 @@ pub record Receives (P : End → Type 0) : Type 0 where
   pub exhausts : (now : ℕ) (e : End) → P e → P (exhausted now e)
   -- ids that were issued are drawn
   pub draws : (words : ℕ → ℕ) (e : End) → P e → P (drawn words e)
+  -- the peer is at another address
+  pub moves : (p : Policy) (o : Opening) (remote : ℕ) (e : End) → P e → P (migrated p o remote e)
 
 module _ (P : End → Type 0) (c : Receives P) where
   -- a payload
@@ -457,8 +459,10 @@ module _ (P : End → Type 0) (c : Receives P) where
   state_keeps : (state : State) (o : Opening) (arrival : Arrival) (e : End) → P e → P (by_state state o arrival (with_numbers e (number_opened e.numbers o.number))).end
   state_keeps states.Open o arrival e i =
       let begins = begun e arrival.now o.number in
-      let taken = take_payload o.first (items o.payload) begins in
-      ends_keep taken.fault (asks_in (items o.payload)) (is_urged arrival.mark (items o.payload) begins) o.number arrival.mark taken.end (payload_keeps o.first (items o.payload) begins (c.begins arrival.now o.number e i))
+      let is = items_taken o arrival e in
+      let asks = asks_in (items o.payload) in
+      let taken = take_payload o.first is begins in
+      ends_keep taken.fault asks (is_urged arrival.mark asks is begins) o.number arrival.mark taken.end (payload_keeps o.first is begins (c.begins arrival.now o.number e i))
   state_keeps states.Closing o arrival e i = c.asks_close (with_numbers e (number_opened e.numbers o.number)) (c.notes o.number e i)
   state_keeps states.Drained o arrival e i = c.notes o.number e i
   state_keeps states.Failed o arrival e i = c.notes o.number e i
@@ -477,6 +481,11 @@ module _ (P : End → Type 0) (c : Receives P) where
   drawn_keeps true p e i = c.draws p.words e i
   drawn_keeps false p e i = i
 
+  -- the peer has moved or hasn't
+  migrated_keeps : (b : Bool) (p : Policy) (o : Opening) (remote : ℕ) (e : End) → P e → P (migrated_if b p o remote e)
+  migrated_keeps true p o remote e i = c.moves p o remote e i
+  migrated_keeps false p o remote e i = i
+
   packet_keeps : (o : Option Opening) (p : Policy) (arrival : Arrival) (e : End) → P e → P (opened_as o p arrival e).end
   packet_keeps None p arrival e i = go e.closing.state arrival.last
     where
@@ -486,17 +495,19 @@ module _ (P : End → Type 0) (c : Receives P) where
       go states.Closing b = i
       go states.Drained b = i
       go states.Failed b = i
-  packet_keeps (Some o) p arrival e i = drawn_keeps (is_read (opened_to o arrival e).answer) p (opened_to o arrival e).end (opened_keeps o arrival e i)
+  packet_keeps (Some o) p arrival e i =
+      let out = with_ids_drawn p (opened_to o arrival e) in
+      migrated_keeps (has_migrated o arrival.remote e out) p o arrival.remote out.end (drawn_keeps (is_read (opened_to o arrival e).answer) p (opened_to o arrival e).end (opened_keeps o arrival e i))
 
-  headed_keeps : (r : Result (List ℕ) HeaderError) (p : Policy) (e : End) (arrival : Arrival) (d : List ℕ) → P e → P (headed r p e arrival d).end
+  headed_keeps : (r : Result (List ℕ) DropReason) (p : Policy) (e : End) (arrival : Arrival) (d : List ℕ) → P e → P (headed r p e arrival d).end
   headed_keeps (Err error) p e arrival d i = i
   headed_keeps (Ok id) p e arrival d i = packet_keeps (opening p e d) p arrival e i
 
   received_keeps : (state : State) (p : Policy) (e : End) (arrival : Arrival) (d : List ℕ) → P e → P (received_in state p e arrival d).end
   received_keeps states.Failed p e arrival d i = i
   received_keeps states.Drained p e arrival d i = i
-  received_keeps states.Open p e arrival d i = headed_keeps (decoded (fixed_length_id own_id_length) (known e.ids) d) p e arrival d i
-  received_keeps states.Closing p e arrival d i = headed_keeps (decoded (fixed_length_id own_id_length) (known e.ids) d) p e arrival d i
+  received_keeps states.Open p e arrival d i = headed_keeps (head e arrival.remote d) p e arrival d i
+  received_keeps states.Closing p e arrival d i = headed_keeps (head e arrival.remote d) p e arrival d i
 
   -- what each step keeps holds after a datagram
   pub by_received : (p : Policy) (e : End) (arrival : Arrival) (d : List ℕ) → P e → P (received p e arrival d).end

@@ -15,6 +15,7 @@ pub mod Opens
 pub mod Acked
 pub mod Steps
 pub mod Arrival
+pub mod Migration
 pub mod Receive
 pub mod Poll
 pub mod Timeouts

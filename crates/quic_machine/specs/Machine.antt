@@ -20,10 +20,12 @@ use Rattle.quic_machine.specs.declared.run.Answer.TheVariants as answers
 use Rattle.quic_machine.specs.declared.run.EndView.{EndView}
 use Rattle.quic_machine.specs.declared.run.View.{View}
 use Rattle.quic_congestion.specs.Congestion.{Told}
+use Rattle.quic_congestion.specs.Pacer.{Pacing}
 use Rattle.quic_machine.specs.Parts.{current_mtu}
 use Rattle.quic_machine.specs.Policy.{Policy}
 use Rattle.quic_machine.specs.End.{End, streams_at, with_streams, with_window}
-use Rattle.quic_machine.specs.Control.{Control, after_told}
+use Rattle.quic_machine.specs.Control.{Control, after_told, with_pacing}
+use Rattle.quic_machine.specs.Migration.{is_there, has_moved, pacing_moved}
 use Rattle.quic_machine.specs.Heard.{Heard, is_key_limit, is_last, heard_datagram, heard_given}
 use Rattle.quic_machine.specs.Validation.{is_blocked, with_blocked}
 use Rattle.quic_time.specs.Timers.{no_timers, timer_at, each_timer, next_timer}
@@ -145,9 +147,18 @@ abbrev pub reads_window : Control → Heard → Call → End → End
 reads_window control heard (calls.Poll now) e = with_blocked (with_window e (control [])) (is_blocked e heard)
 reads_window control heard call e = e
 
+-- the pacer that a call leaves, behind which the controller has this window: that of a path that a
+-- delivery made is made for it
+abbrev pub pacing_left : ℕ → Call → End → End → Pacing
+pacing_left window (calls.Deliver delivery) before after = pacing_moved (has_moved before after) window after
+pacing_left window call before after = after.path.pacing
+
 -- the end that a call leaves
 abbrev pub end_left : Policy → Control → Heard → End → List (List ℕ) → Call → Answer → End
-end_left p control heard e theirs call a = after_call p (reads_window control heard call e) theirs call a
+end_left p control heard e theirs call a =
+    let met = reads_window control heard call e in
+    let left = after_call p met theirs call a in
+    with_pacing left (pacing_left (control (tells p met theirs call)) call met left)
 
 -- what a call may leave: of an end that fails it is said only that it has stopped
 abbrev pub IsLeft : Bool → Policy → Control → Heard → End → List (List ℕ) → Call → Answer → End → Type 0
@@ -159,23 +170,24 @@ abbrev pub IsTold : Bool → Policy → Control → Heard → End → List (List
 IsTold true p control heard e theirs call next = Unit {0}
 IsTold false p control heard e theirs call next = next ≡ after_told control (tells p (reads_window control heard call e) theirs call)
 
--- what an end has counted behind a delivery: as much as before, where there is no such datagram
-abbrev pub heard_delivery : Option (List ℕ) → Received → Heard → Heard
-heard_delivery None a h = h
-heard_delivery (Some d) a h = heard_datagram d a h
+-- what an end has counted behind a delivery from an address: as much as before, where there is no
+-- such datagram
+abbrev pub heard_delivery : End → End → ℕ → Option (List ℕ) → Received → Heard → Heard
+heard_delivery before after remote None a h = h
+heard_delivery before after remote (Some d) a h = heard_datagram (is_there remote before) (has_moved before after) d a h
 
--- what an end has counted behind a call that was answered so: what comes counts, whatever is made
--- of it, and so does what is given
-abbrev pub heard_by : List (List ℕ) → Call → Answer → Heard → Heard
-heard_by theirs (calls.Poll now) (answers.Poll (Ok given)) h = heard_given given h
-heard_by theirs (calls.Deliver delivery) (answers.Deliver a) h = heard_delivery (slice_get theirs delivery.index) a h
-heard_by theirs (calls.Inject injection) (answers.Inject a) h = heard_datagram injection.bytes a h
-heard_by theirs call a h = h
+-- what an end has counted behind a call that was answered so and left another: what comes counts for
+-- its path, whatever is made of it, and so does what is given
+abbrev pub heard_by : End → End → List (List ℕ) → Call → Answer → Heard → Heard
+heard_by before after theirs (calls.Poll now) (answers.Poll (Ok given)) h = heard_given given h
+heard_by before after theirs (calls.Deliver delivery) (answers.Deliver a) h = heard_delivery before after delivery.remote (slice_get theirs delivery.index) a h
+heard_by before after theirs (calls.Inject injection) (answers.Inject a) h = heard_datagram (is_there injection.remote before) false injection.bytes a h
+heard_by before after theirs call a h = h
 
 -- what a call leaves counted: of an end that fails nothing is said
-abbrev pub IsHeard : Bool → List (List ℕ) → Call → Answer → Heard → Heard → Type 0
-IsHeard true theirs call a h next = Unit {0}
-IsHeard false theirs call a h next = next ≡ heard_by theirs call a h
+abbrev pub IsHeard : Bool → End → End → List (List ℕ) → Call → Answer → Heard → Heard → Type 0
+IsHeard true before after theirs call a h next = Unit {0}
+IsHeard false before after theirs call a h next = next ≡ heard_by before after theirs call a h
 
 -- An open end closes for packets that didn't open exactly at the last that its peer's key may
 -- refuse, by what it has counted (RFC 9001, section 6.6).
@@ -256,7 +268,7 @@ pub record IsStep (k : Policies) (w : World) (event : RunEvent) (a : Answer) (ne
   pub answer : IsAnswer (policy_at event.side k) (end_met w event) (given_by (other_side event.side) w) event.call a
   pub end : IsLeft (fails a) (policy_at event.side k) (control_at event.side w) (heard_at event.side w) (end_at event.side w) (given_by (other_side event.side) w) event.call a (end_at event.side next)
   pub control : IsTold (fails a) (policy_at event.side k) (control_at event.side w) (heard_at event.side w) (end_at event.side w) (given_by (other_side event.side) w) event.call (control_at event.side next)
-  pub heard : IsHeard (fails a) (given_by (other_side event.side) w) event.call a (heard_at event.side w) (heard_at event.side next)
+  pub heard : IsHeard (fails a) (end_at event.side w) (end_at event.side next) (given_by (other_side event.side) w) event.call a (heard_at event.side w) (heard_at event.side next)
   pub openings : CountsOpenings (policy_at event.side k).openings (end_at event.side w).closing.state (heard_at event.side w) a
   pub others : next ≡ changed event.side w (end_at event.side next) (gives (policy_at event.side k) (end_met w event) event.call a) (control_at event.side next) (heard_at event.side next)
   pub lacking : LacksWhere (policy_at event.side k) (end_met w event) (given_by (other_side event.side) w) event.call a

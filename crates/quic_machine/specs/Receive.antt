@@ -9,11 +9,8 @@ use Rattle.quic_wire.specs.Value.{FrameValue, AckValue, ack, stream, reset_strea
 use Rattle.quic_wire.specs.Close.{CloseValue, by_transport, by_application, transport_close}
 use Rattle.quic_wire.specs.Items.{items}
 use Rattle.quic_packet.specs.Header.{key_phase, reserved_bits}
-use Rattle.quic_packet.specs.Destination.{decoded, fixed_length_id}
 use Rattle.quic_packet.specs.Datagram.{Opening, opened_packet}
 use Rattle.quic_wire.specs.declared.frame.InvalidFrame.{InvalidFrame}
-use Rattle.quic_packet.specs.declared.packet.HeaderError.{HeaderError}
-use Rattle.quic_packet.specs.declared.packet.HeaderError.TheVariants as headers
 use Rattle.quic_machine.specs.Validation.{path_asked, path_answered}
 use Rattle.quic_machine.specs.Arrival.{Arrival}
 use Rattle.quic_machine.specs.declared.answers.State.{State}
@@ -34,7 +31,7 @@ use Rattle.quic_ids.specs.CidQueue.{insert_answer}
 use Rattle.quic_ids.specs.declared.cid_queue.InsertError.{InsertError}
 use Rattle.quic_ids.specs.declared.cid_queue.InsertError.TheVariants as inserts
 use Rattle.quic_retransmits.specs.Retransmits.{can_retire, after_late}
-use Rattle.quic_machine.specs.Ids.{known, frame_of, retires_for}
+use Rattle.quic_machine.specs.Ids.{frame_of, retires_for}
 use Rattle.quic_machine.specs.IdFrames.{fitted, retiring, with_taken_up, after_retired, drawn}
 use Rattle.quic_spaces.specs.Numbers.{expected, number_opened, number_taken, number_named}
 use Rattle.quic_spaces.specs.Filter.{names_skipped}
@@ -57,7 +54,10 @@ use Rattle.quic_time.specs.Clocks.{saturated}
 use Rattle.quic_machine.specs.Policy.{Policy}
 use Rattle.quic_machine.specs.Idle.{packet_heard}
 use Rattle.quic_machine.specs.End.{End, side_of, with_closing, closed_by, drained_by, with_numbers, with_acknowledging, with_frequency, with_frames, with_streams, with_messages, with_ack_timer, with_loss_timer}
-use Rattle.quic_machine.specs.Opens.{own_id_length}
+use Rattle.quic_machine.specs.Calls.{is_open}
+use Rattle.quic_machine.specs.Opens.{own_id_length, head}
+pub use Rattle.quic_machine.specs.Opens.{drop_of}
+use Rattle.quic_machine.specs.Migration.{is_there, items_at, migrates, migrated}
 use Rattle.quic_machine.specs.Tracking.{dir_named, asks_any, acked_by}
 use Rattle.quic_machine.specs.Acked.{after_acked, told_acked}
 
@@ -358,12 +358,13 @@ item_asks (Err x) = false
 abbrev pub asks_in : List (Result FrameValue InvalidFrame) → Bool
 asks_in is = list_any item_asks is
 
--- whether a packet of these items is to be acknowledged at once for its mark: it came with CE, and
--- asks for an acknowledgement, or newly acknowledges one that does (section 13.2.1). One that only
+-- whether a packet is to be acknowledged at once for its mark, of which these items are taken: it
+-- came with CE, and asks for an acknowledgement, or newly acknowledges one that does (section
+-- 13.2.1). One that only
 -- acknowledges what needn't be acknowledged is answered by none: else two ends on a path that marks
 -- each packet would acknowledge acknowledgements without end
-abbrev pub is_urged : Option EcnCodepoint → List (Result FrameValue InvalidFrame) → End → Bool
-is_urged mark is e = is_congested mark && (asks_in is || items_answer is e)
+abbrev pub is_urged : Option EcnCodepoint → Bool → List (Result FrameValue InvalidFrame) → End → Bool
+is_urged mark asking taken e = is_congested mark && (asking || items_answer taken e)
 
 -- the whole payload of a packet of this number was taken, which asks for an acknowledgement or
 -- doesn't, is to be acknowledged at once for its mark or isn't, and came with this mark or with
@@ -399,11 +400,18 @@ ends_as (Some fault) asking urged n mark e = record { answer = Closed (error_of 
 abbrev pub judged : Progress → Bool → Bool → ℕ → Option EcnCodepoint → Outcome
 judged p asking urged n mark = ends_as p.fault asking urged n mark p.end
 
+-- what is taken of the items of a packet: frames of path validation that came from elsewhere are
+-- left out, as PADDING in their place
+abbrev pub items_taken : Opening → Arrival → End → List (Result FrameValue InvalidFrame)
+items_taken o arrival e = items_at (is_there arrival.remote e) (items o.payload)
+
 -- a packet that opened at an open end, under a number that didn't come before
 abbrev pub processed : Opening → Arrival → End → Outcome
 processed o arrival e =
     let now = with_closing e (ticked e.closing arrival.now) in
-    judged (take_payload o.first (items o.payload) now) (asks_in (items o.payload)) (is_urged arrival.mark (items o.payload) now) o.number arrival.mark
+    let asking = asks_in (items o.payload) in
+    let taken = items_taken o arrival e in
+    judged (take_payload o.first taken now) asking (is_urged arrival.mark asking taken now) o.number arrival.mark
 
 -- a closing end reads nothing of the packet, and its close is to go once more (section 10.2.1)
 abbrev pub by_state : State → Opening → Arrival → End → Outcome
@@ -448,33 +456,47 @@ drawn_if false p e = e
 abbrev pub with_ids_drawn : Policy → Outcome → Outcome
 with_ids_drawn p o = record { answer = o.answer; end = drawn_if (is_read o.answer) p o.end }
 
+-- whether all frames of a packet were taken, or those before a close
+abbrev pub is_taken : Received → Bool
+is_taken Taken = true
+is_taken (Closed error) = false
+is_taken (Dropped reason) = false
+is_taken receives.Failed = false
+
+-- whether a packet says that the peer of an end has moved to the address from which it came, which
+-- came to this: one with a close doesn't
+abbrev pub has_migrated : Opening → ℕ → End → Outcome → Bool
+has_migrated o remote e out = migrates o remote e && (is_taken out.answer && is_open out.end.closing.state)
+
+-- the end has another path then
+abbrev pub migrated_if : Bool → Policy → Opening → ℕ → End → End
+migrated_if true p o remote e = migrated p o remote e
+migrated_if false p o remote e = e
+
+-- what a packet comes to that came to an end, once it has
+abbrev pub with_migration : Policy → Opening → ℕ → End → Outcome → Outcome
+with_migration p o remote e out = record { answer = out.answer; end = migrated_if (has_migrated o remote e out) p o remote out.end }
+
 -- what a packet comes to, where it opened
 abbrev pub opened_as : Option Opening → Policy → Arrival → End → Outcome
 opened_as None p arrival e = unopened_in e.closing.state arrival.last arrival e
-opened_as (Some o) p arrival e = with_ids_drawn p (opened_to o arrival e)
+opened_as (Some o) p arrival e = with_migration p o arrival.remote e (with_ids_drawn p (opened_to o arrival e))
 
 -- what a datagram opens to at an end, behind an own id
 abbrev pub opening : Policy → End → List ℕ → Option Opening
 opening p e d = opened_packet p.header p.packet (own_id_length + 1) (expected e.numbers) d
 
--- why a datagram with such a header is dropped
-abbrev pub drop_of : HeaderError → DropReason
-drop_of headers.TooShort = drops.TooShort
-drop_of headers.NotShort = drops.NotShort
-drop_of headers.FixedBit = drops.FixedBit
-drop_of headers.UnknownId = drops.UnknownId
-
--- what a datagram comes to, by what its header says
-abbrev pub headed : Result (List ℕ) HeaderError → Policy → End → Arrival → List ℕ → Outcome
-headed (Err error) p e arrival d = dropped (drop_of error) e
+-- what a datagram comes to, by whether it is dropped for its address or its header
+abbrev pub headed : Result (List ℕ) DropReason → Policy → End → Arrival → List ℕ → Outcome
+headed (Err reason) p e arrival d = dropped reason e
 headed (Ok id) p e arrival d = opened_as (opening p e d) p arrival e
 
 -- an end that is drained or has failed drops all
 abbrev pub received_in : State → Policy → End → Arrival → List ℕ → Outcome
 received_in states.Failed p e arrival d = dropped drops.Failed e
 received_in states.Drained p e arrival d = dropped drops.Drained e
-received_in states.Open p e arrival d = headed (decoded (fixed_length_id own_id_length) (known e.ids) d) p e arrival d
-received_in states.Closing p e arrival d = headed (decoded (fixed_length_id own_id_length) (known e.ids) d) p e arrival d
+received_in states.Open p e arrival d = headed (head e arrival.remote d) p e arrival d
+received_in states.Closing p e arrival d = headed (head e arrival.remote d) p e arrival d
 
 -- what an end makes of a datagram that comes
 abbrev pub received : Policy → End → Arrival → List ℕ → Outcome
@@ -484,7 +506,7 @@ received p e arrival d = received_in e.closing.state p e arrival d
 
 -- of a packet that opened at an open end, under a number that didn't come before
 abbrev pub told_processed : Opening → Arrival → End → List Told
-told_processed o arrival e = told_payload o.first (items o.payload) (with_closing e (ticked e.closing arrival.now))
+told_processed o arrival e = told_payload o.first (items_taken o arrival e) (with_closing e (ticked e.closing arrival.now))
 
 -- only an open end reads what is in a packet
 abbrev pub told_by_state : State → Opening → Arrival → End → List Told
@@ -502,17 +524,17 @@ abbrev pub told_opened_as : Option Opening → Arrival → End → List Told
 told_opened_as None arrival e = []
 told_opened_as (Some o) arrival e = told_opened o arrival e
 
--- of a datagram, by what its header says
-abbrev pub told_headed : Result (List ℕ) HeaderError → Policy → End → Arrival → List ℕ → List Told
-told_headed (Err error) p e arrival d = []
+-- of a datagram, by whether it is dropped for its address or its header
+abbrev pub told_headed : Result (List ℕ) DropReason → Policy → End → Arrival → List ℕ → List Told
+told_headed (Err reason) p e arrival d = []
 told_headed (Ok id) p e arrival d = told_opened_as (opening p e d) arrival e
 
 -- an end that is drained or has failed drops all
 abbrev pub told_received_in : State → Policy → End → Arrival → List ℕ → List Told
 told_received_in states.Failed p e arrival d = []
 told_received_in states.Drained p e arrival d = []
-told_received_in states.Open p e arrival d = told_headed (decoded (fixed_length_id own_id_length) (known e.ids) d) p e arrival d
-told_received_in states.Closing p e arrival d = told_headed (decoded (fixed_length_id own_id_length) (known e.ids) d) p e arrival d
+told_received_in states.Open p e arrival d = told_headed (head e arrival.remote d) p e arrival d
+told_received_in states.Closing p e arrival d = told_headed (head e arrival.remote d) p e arrival d
 
 -- of a datagram that comes
 abbrev pub told_received : Policy → End → Arrival → List ℕ → List Told

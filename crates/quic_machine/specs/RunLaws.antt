@@ -25,18 +25,24 @@ left_control k w event a x served s =
     subst (λ (b : Bool). IsTold b (policy_at event.side k) (control_at event.side w) (heard_at event.side w) (end_at event.side w) (given_by (other_side event.side) w) event.call (control_at event.side x)) served s.control
 
 -- what it leaves counted
-left_heard : (k : Policies) (w : World) (event : RunEvent) (a : Answer) (x : World) → fails a ≡ false → IsStep k w event a x → heard_at event.side x ≡ heard_by (given_by (other_side event.side) w) event.call a (heard_at event.side w)
-left_heard k w event a x served s = subst (λ (b : Bool). IsHeard b (given_by (other_side event.side) w) event.call a (heard_at event.side w) (heard_at event.side x)) served s.heard
+left_heard : (k : Policies) (w : World) (event : RunEvent) (a : Answer) (x : World) → fails a ≡ false → IsStep k w event a x → heard_at event.side x ≡ heard_by (end_at event.side w) (end_at event.side x) (given_by (other_side event.side) w) event.call a (heard_at event.side w)
+left_heard k w event a x served s = subst (λ (b : Bool). IsHeard b (end_at event.side w) (end_at event.side x) (given_by (other_side event.side) w) event.call a (heard_at event.side w) (heard_at event.side x)) served s.heard
 
 -- a step leaves one world
 pub one_world : (k : Policies) (w : World) (event : RunEvent) (a : Answer) (x y : World) → fails a ≡ false → IsStep k w event a x → IsStep k w event a y → x ≡ y
 one_world k w event a x y served s t =
     s.others
-    ∙ ap (λ (e : End). changed event.side w e ds (control_at event.side x) (heard_at event.side x)) (left k w event a x served s ∙ sym (left k w event a y served t))
+    ∙ ap (λ (e : End). changed event.side w e ds (control_at event.side x) (heard_at event.side x)) one_end
     ∙ ap (λ (control : Control). changed event.side w (end_at event.side y) ds control (heard_at event.side x)) (left_control k w event a x served s ∙ sym (left_control k w event a y served t))
-    ∙ ap (λ (heard : Heard). changed event.side w (end_at event.side y) ds (control_at event.side y) heard) (left_heard k w event a x served s ∙ sym (left_heard k w event a y served t))
+    ∙ ap (λ (heard : Heard). changed event.side w (end_at event.side y) ds (control_at event.side y) heard)
+    (left_heard k w event a x served s
+    ∙ ap (λ (e : End). heard_by (end_at event.side w) e (given_by (other_side event.side) w) event.call a (heard_at event.side w)) one_end
+    ∙ sym (left_heard k w event a y served t))
     ∙ sym t.others
   where
+    one_end : end_at event.side x ≡ end_at event.side y
+    one_end = left k w event a x served s ∙ sym (left k w event a y served t)
+
     ds : List (List ℕ)
     ds = gives (policy_at event.side k) (end_met w event) event.call a
 

@@ -149,6 +149,8 @@ pub enum DropReason {
     Drained,
     /// The end has failed.
     Failed,
+    /// It came to a client from another address than its peer's, which stays (RFC 9000, section 9).
+    Address,
 }
 
 impl fmt::Display for DropReason {
@@ -164,6 +166,7 @@ impl fmt::Display for DropReason {
             DropReason::Closing => "the end is closing",
             DropReason::Drained => "the end is drained",
             DropReason::Failed => "the end has failed",
+            DropReason::Address => "from another address than the peer's",
         })
     }
 }

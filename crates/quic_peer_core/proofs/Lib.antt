@@ -1,3 +1,4 @@
 pub mod Saying
 pub mod Making
 pub mod Behind
+mod Coming

@@ -6,7 +6,7 @@ use Rattle.quic_wire_core.specs.declared.stream_id.Side.{Side}
 use Rattle.quic_wire_core.specs.declared.shared.EcnCodepoint.{EcnCodepoint}
 use Rattle.quic_lines.specs.declared.script.Setting.{Setting}
 use Rattle.quic_lines.specs.Named.{side_named, mark_named, bytes_named}
-use Rattle.quic_lines.specs.Language.{Asked, words, is_word, is_skipped, number_named, ends, both, three, settings_said, call_said, asked_of}
+use Rattle.quic_lines.specs.Language.{Asked, words, is_word, is_skipped, number_named, ends, both, one, three, settings_said, call_said, asked_of}
 use Rattle.quic_peer_core.specs.declared.command.Line.{Line}
 use Rattle.quic_peer_core.specs.declared.command.Line.TheVariants as lines
 use Rattle.quic_peer_core.specs.declared.command.NewEnd.{NewEnd}
@@ -20,6 +20,8 @@ pub data Command : Type 0 where
   tells : Command
   -- the end is made
   makes : NewEnd → Command
+  -- bytes come from an address from now on
+  hears_from : ℕ → Command
   -- bytes came at a moment with a mark
   receives : ℕ → Option EcnCodepoint → List ℕ → Command
   -- it is told how many bytes may be in flight
@@ -67,12 +69,13 @@ command_said name args =
     if is_word name (codes "set") then option_map sets (settings_said args)
     else (if is_word name (codes "params") then ends args (Some tells)
     else (if is_word name (codes "new") then option_map makes (five new_end side_named id_named id_named number_named bytes_named args)
+    else (if is_word name (codes "from") then one hears_from number_named args
     else (if is_word name (codes "receive") then three receives number_named mark_named bytes_named args
     else (if is_word name (codes "window") then ends args (Some tells_window)
     else (if is_word name (codes "stats") then ends args (Some tells_stats)
     else (if is_word name (codes "deliver") then None
     else (if is_word name (codes "inject") then None
-    else option_map asks (call_said name args))))))))
+    else option_map asks (call_said name args)))))))))
 
 -- what a line's words ask for
 abbrev pub words_said : List (List ℕ) → Option Command
@@ -95,6 +98,7 @@ command_of lines.Empty = nothing
 command_of (lines.Set setting) = sets setting
 command_of lines.Params = tells
 command_of (lines.New new) = makes new
+command_of (lines.From remote) = hears_from remote
 command_of (lines.Receive datagram) = receives datagram.now datagram.ecn datagram.bytes
 command_of lines.Window = tells_window
 command_of lines.Stats = tells_stats

@@ -7,9 +7,10 @@ use Rattle.quic_congestion.specs.NewReno.{Reno, default_reno, reno_made, reno_st
 use Rattle.quic_stats.specs.declared.connection.ConnectionStats.{ConnectionStats}
 use Rattle.quic_machine.specs.Policy.{Policy}
 use Rattle.quic_machine.specs.Parts.{current_mtu}
-use Rattle.quic_machine.specs.End.{ConnectionValue, hearing, drawing, words_drawn, policy_of, MadeFrom, HasFailed, refusal_of}
+use Rattle.quic_machine.specs.End.{ConnectionValue, drawing, words_drawn, policy_of, MadeFrom, HasFailed, refusal_of}
 use Rattle.quic_machine.specs.Heard.{nothing_heard, is_last, heard_datagram}
 use Rattle.quic_machine.specs.Arrival.{Arrival, arriving}
+use Rattle.quic_machine.specs.Migration.{is_there, has_moved}
 use Rattle.quic_machine.specs.Machine.{IsAnswer, IsLeft, IsTold, IsHeard, CountsOpenings, reads_window, fails, gives}
 use Rattle.quic_machine.specs.Receive.{received, told_received}
 use Rattle.quic_machine.specs.declared.answers.ConfigError.{ConfigError}
@@ -18,7 +19,7 @@ use Rattle.quic_machine.specs.declared.answers.Received.TheVariants as receives_
 use Rattle.quic_machine.specs.declared.run.Call.{Call}
 use Rattle.quic_machine.specs.declared.run.Answer.{Answer}
 use Rattle.quic_connection_parts.specs.Drawn.{words_of, after_words}
-use Rattle.quic_connection_parts.specs.Telling.{telling, KeepsKeys}
+use Rattle.quic_connection_parts.specs.Telling.{taking, KeepsKeys}
 use Rattle.quic_connection.specs.Ends.{GoesOn, may_move}
 use Rattle.quic_keys.specs.declared.key.PlainHeaderKey.{PlainHeaderKey}
 use Rattle.quic_keys.specs.declared.key.PlainKey.{PlainKey}
@@ -32,7 +33,7 @@ use Rattle.quic_lines.specs.Options.{first_options, settings_of, with_setting, l
 use Rattle.quic_lines.specs.Printed.{call_text, received_text}
 use Rattle.quic_keys.specs.Words.{stream_from, source_stream, words_from}
 use Rattle.quic_peer_core.specs.declared.command.NewEnd.{NewEnd}
-use Rattle.quic_peer_core.specs.Language.{Command, nothing, sets, tells, makes, receives, tells_window, tells_stats, asks, said}
+use Rattle.quic_peer_core.specs.Language.{Command, nothing, sets, tells, makes, hears_from, receives, tells_window, tells_stats, asks, said}
 use Rattle.quic_peer_core.specs.Printed.{line_text, refusal_text, parameters_text, told_text, window_line, stats_line}
 
 -- ---- an end
@@ -58,17 +59,18 @@ pub record IsNew (options : Options) (new : NewEnd) (held : Held) : Type 0 where
   pub random : stream_from held.random ≡ after_words (words_drawn held.end) (source_stream options.source)
   pub heard : held.heard ≡ nothing_heard
 
--- how bytes come to an end from its peer's address, at a moment and with a mark or with none:
--- whether the last packet comes that may not open is by what it has counted
-abbrev pub arrival_at : Held → ℕ → Option EcnCodepoint → Arrival
-arrival_at old now mark = arriving now 0 mark (is_last (policy_at old).openings old.heard)
+-- how bytes come to an end, at a moment from an address, and with a mark or with none: whether the
+-- last packet comes that may not open is by what it has counted
+abbrev pub arrival_at : Held → ℕ → ℕ → Option EcnCodepoint → Arrival
+arrival_at old now remote mark = arriving now remote mark (is_last (policy_at old).openings old.heard)
 
--- Bytes came to an end, at a moment and with a mark or with none: this is printed of what came of
--- them, and the end is left so.
-pub record Receives (now : ℕ) (mark : Option EcnCodepoint) (bytes : List ℕ) (old : Held) (text : List ℕ) (new : Held) : Type 0 where
+-- Bytes came to an end from an address, at a moment and with a mark or with none: this is printed of
+-- what came of them, and the end is left so.
+pub record Receives (remote now : ℕ) (mark : Option EcnCodepoint) (bytes : List ℕ) (old : Held) (text : List ℕ) (new : Held) : Type 0 where
   pub answer : Received
-  pub is_answer : answer ≢ receives_as.Failed → answer ≡ (received (policy_at old) old.end (arrival_at old now mark) bytes).answer
-  pub left : answer ≢ receives_as.Failed → new ≡ drawing new.random (telling reno_steps (hearing old (heard_datagram bytes answer old.heard)) (told_received (policy_at old) old.end (arriving now 0 mark false) bytes) (received (policy_at old) old.end (arrival_at old now mark) bytes).end)
+  pub is_answer : answer ≢ receives_as.Failed → answer ≡ (received (policy_at old) old.end (arrival_at old now remote mark) bytes).answer
+  pub left : answer ≢ receives_as.Failed → let after = (received (policy_at old) old.end (arrival_at old now remote mark) bytes).end in
+      new ≡ drawing new.random (taking reno_steps (λ c. c.window) old (heard_datagram (is_there remote old.end) (has_moved old.end after) bytes answer old.heard) (told_received (policy_at old) old.end (arrival_at old now remote mark) bytes) after)
   pub failed : answer ≡ receives_as.Failed → HasFailed old new
   pub line : text ≡ line_text (codes "receive") (received_text answer)
 
@@ -81,7 +83,7 @@ pub record IsCall (asked : Asked) (old : Held) (text : List ℕ) (new : Held) : 
   pub is_answer : IsAnswer (policy_at old) (reads_window (window_after old.control) old.heard call old.end) [] call answer
   pub left : IsLeft (fails answer) (policy_at old) (window_after old.control) old.heard old.end [] call answer new.end
   pub control : IsTold (fails answer) (policy_at old) (window_after old.control) old.heard old.end [] call (window_after new.control)
-  pub heard : IsHeard (fails answer) [] call answer old.heard new.heard
+  pub heard : IsHeard (fails answer) old.end new.end [] call answer old.heard new.heard
   pub openings : CountsOpenings (policy_at old).openings old.end.closing.state old.heard answer
   pub keys : may_move call ≡ false → KeepsKeys old new
   pub draws : may_move call ≡ true → GoesOn stream_from old new
@@ -99,18 +101,19 @@ pub record Counts (held : Held) (text : List ℕ) : Type 0 where
 
 -- ---- a line
 
--- how far the lines are: the options, and the end once it is made
+-- how far the lines are: the options, from where datagrams come, and the end once it is made
 pub record Stage : Type 0 where
   pub options : Options
+  pub hears : ℕ
   pub end : Option Held
 
 -- nothing was done
 abbrev pub first_stage : Stage
-first_stage = record { options = first_options; end = None }
+first_stage = record { options = first_options; hears = 0; end = None }
 
 -- a stage with this end
 abbrev pub with_held : Stage → Held → Stage
-with_held s held = record { options = s.options; end = Some held }
+with_held s held = record s { end = Some held }
 
 -- an end is made, or it is told why not, and nothing has changed
 abbrev pub IsMaking : Option ConfigError → NewEnd → Stage → List ℕ → Stage → Type 0
@@ -130,10 +133,11 @@ Shows shown (Some held) s text t = shown held text × (t ≡ s)
 -- What a command prints, and the stage behind it. Options are set before the end is made.
 abbrev pub IsDone : Command → Stage → List ℕ → Stage → Type 0
 IsDone nothing s text t = (text ≡ []) × (t ≡ s)
-IsDone (sets setting) s text t = (s.end ≡ None) × (text ≡ line_text (codes "set") (codes "ok")) × (t ≡ record { options = with_setting setting s.options; end = None })
+IsDone (sets setting) s text t = (s.end ≡ None) × (text ≡ line_text (codes "set") (codes "ok")) × (t ≡ record s { options = with_setting setting s.options })
 IsDone tells s text t = (text ≡ line_text (codes "params") (parameters_text s.options)) × (t ≡ s)
 IsDone (makes new) s text t = (s.end ≡ None) × IsMaking (refusal s.options new) new s text t
-IsDone (receives now ecn bytes) s text t = Goes (Receives now ecn bytes) s.end s text t
+IsDone (hears_from remote) s text t = (text ≡ line_text (codes "from") (codes "ok")) × (t ≡ record s { hears = remote })
+IsDone (receives now ecn bytes) s text t = Goes (Receives s.hears now ecn bytes) s.end s text t
 IsDone tells_window s text t = Shows (λ held text. text ≡ window_line held.control.window) s.end s text t
 IsDone tells_stats s text t = Shows Counts s.end s text t
 IsDone (asks asked) s text t = Goes (IsCall asked) s.end s text t
@@ -150,6 +154,7 @@ IsBad nothing s = ⊥
 IsBad (sets setting) s = IsSome s.end
 IsBad tells s = ⊥
 IsBad (makes new) s = IsSome s.end
+IsBad (hears_from remote) s = ⊥
 IsBad (receives now ecn bytes) s = IsNone s.end
 IsBad tells_window s = IsNone s.end
 IsBad tells_stats s = IsNone s.end

@@ -1,7 +1,6 @@
 -- What is printed of what one end answers.
 use Rattle.std.specs.Prelude.{ℕ, List, ◌∷◌, ◌++◌, codes, Option, Some, None, Ok}
 use Rattle.std.specs.Fmt.{decimal}
-use Rattle.quic_wire_core.specs.declared.shared.EcnCodepoint.{EcnCodepoint}
 use Rattle.quic_stats.specs.declared.connection.ConnectionStats.{ConnectionStats}
 use Rattle.quic_stats.specs.declared.drops.DropStats.{DropStats}
 use Rattle.quic_stats.specs.declared.path.PathStats.{PathStats}
@@ -11,13 +10,14 @@ use Rattle.quic_config.specs.Transport.{parameters_of}
 use Rattle.quic_machine.specs.declared.answers.ConfigError.{ConfigError}
 use Rattle.quic_machine.specs.declared.answers.ConfigError.TheVariants as config_errors
 use Rattle.quic_machine.specs.declared.answers.LostReason.TheVariants as losses
+use Rattle.quic_machine.specs.declared.answers.Transmit.{Transmit}
 use Rattle.quic_machine.specs.declared.answers.Event.TheVariants as events
 use Rattle.quic_machine.specs.declared.run.Answer.{Answer}
 use Rattle.quic_machine.specs.declared.run.Answer.TheVariants as answers
 use Rattle.quic_connection.specs.Ends.{in_order}
 use Rattle.quic_lines.specs.declared.options.Options.{Options}
 use Rattle.quic_lines.specs.Options.{settings_of}
-use Rattle.quic_lines.specs.Printed.{bytes_text, line_feed, mark_text, answer_text}
+use Rattle.quic_lines.specs.Printed.{bytes_text, line_feed, mark_text, address_text, answer_text}
 
 -- a line: a name, a blank and what is answered
 abbrev pub line_text : List ℕ → List ℕ → List ℕ
@@ -36,9 +36,9 @@ refusal_text config_errors.Memory = None
 abbrev pub parameters_text : Options → List ℕ
 parameters_text options = bytes_text (written_parameters (parameters_of (settings_of options)) in_order)
 
--- the mark and the bytes of a datagram
-abbrev pub datagram_text : Option EcnCodepoint → List ℕ → List ℕ
-datagram_text mark bytes = mark_text mark ++ (codes " " ++ bytes_text bytes)
+-- the mark and the bytes of a datagram, and its address
+abbrev pub datagram_text : Transmit → List ℕ → List ℕ
+datagram_text transmit bytes = mark_text transmit.ecn ++ (codes " " ++ (bytes_text bytes ++ address_text transmit.remote))
 
 -- the peer closed the connection: by which kind of close, its code and its text
 abbrev pub close_text : List ℕ → ℕ → List ℕ → List ℕ
@@ -52,7 +52,7 @@ peer_close_text (by_application c) = close_text (codes "application") c.code c.r
 -- An answer of an end that gave these datagrams at the call: of a poll the first of them, if it
 -- gave one, and of an event by which the peer closed all that it said.
 abbrev pub told_text : List (List ℕ) → Answer → List ℕ
-told_text (bytes ∷ more) (answers.Poll (Ok (Some transmit))) = datagram_text transmit.ecn bytes
+told_text (bytes ∷ more) (answers.Poll (Ok (Some transmit))) = datagram_text transmit bytes
 told_text given (answers.Event (Some (events.Lost (losses.Peer close)))) = peer_close_text close
 told_text given answer = answer_text 0 answer
 

@@ -5,4 +5,4 @@ use Rattle.quic_peer_core.specs.Peer.{Stage}
 
 -- how far a runner is
 abbrev pub stage_of : Peer → Stage
-stage_of peer = record { options = peer.options; end = option_map (λ b. b.value) peer.end }
+stage_of peer = record { options = peer.options; hears = peer.hears; end = option_map (λ b. b.value) peer.end }

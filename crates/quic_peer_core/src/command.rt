@@ -6,7 +6,7 @@ ghost use Rattle.quic_lines.specs.Language.{number_named, first, words_left, Rea
 ghost use Rattle.quic_peer_core.specs.Language.{id_named, five, new_end as new_end_of, command_said, words_said, said, command_of};
 
 use bytes::Bytes;
-use quic_connection::{Call, Injection, Instant};
+use quic_connection::{Address, Call, Injection, Instant};
 use quic_lines::{LineError, LineWords, MAX_LINE, Setting, call_of, is_skipped, side};
 use quic_wire_core::{ConnectionId, MAX_CID_SIZE, Side};
 use std::alloc::Global;
@@ -23,6 +23,8 @@ pub enum Line {
     Params,
     /// The end is made.
     New(NewEnd),
+    /// Datagrams come from this address from now on.
+    From(Address),
     /// A datagram came.
     Receive(Injection),
     /// It is told how many bytes may be in flight.
@@ -92,6 +94,7 @@ fn command(alloc: Global, name: &str, words: &mut LineWords) -> Result<Line, Lin
         "set" => Ok(Line::Set(words.setting()?)),
         "params" => Ok(Line::Params),
         "new" => Ok(Line::New(new_end(alloc, words)?)),
+        "from" => Ok(Line::From(words.address()?)),
         "receive" => Ok(Line::Receive(words.injection(alloc)?)),
         "window" => Ok(Line::Window),
         "stats" => Ok(Line::Stats),

@@ -6,11 +6,13 @@ ghost use Rattle.quic_peer_core.specs.Peer.{refusal, IsNew, IsCall, Receives};
 
 use crate::command::NewEnd;
 use quic_connection::{
-    Address, Answer, Call, Close, ConfigError, Connection, Datagram, EcnCodepoint, Event,
-    Injection, LostReason, NewReno, PeerClose, VarInt, call_at,
+    Address, Answer, Call, Close, ConfigError, Connection, Datagram, Event, Injection, LostReason,
+    NewReno, PeerClose, Transmit, VarInt, call_at,
 };
 use quic_keys::{PlainHeaderKey, PlainKey, Words};
-use quic_lines::{LineError, Options, call_name, mark_name, put_answer, put_bytes, put_received};
+use quic_lines::{
+    LineError, Options, call_name, mark_name, put_address, put_answer, put_bytes, put_received,
+};
 use quic_parameters::TransportParameters;
 use std::alloc::{AllocError, Global};
 
@@ -83,14 +85,20 @@ pub(crate) fn tell_params(alloc: Global, options: &Options) -> Result<String, Al
     Ok(out)
 }
 
-/// Hands a datagram in, and gives the line that tells what comes of it. An error is want of memory.
-pub(crate) fn take(alloc: Global, end: &mut End, datagram: &Injection) -> Result<String, AllocError>
-    ensures { IfOk result (λ text. Receives datagram.entry.now.now datagram.entry.now.ecn datagram.entry.now.bytes end.old
+/// Hands a datagram in that came from this address, and gives the line that tells what comes of it.
+/// An error is want of memory.
+pub(crate) fn take(
+    alloc: Global,
+    end: &mut End,
+    remote: Address,
+    datagram: &Injection,
+) -> Result<String, AllocError>
+    ensures { IfOk result (λ text. Receives remote datagram.entry.now.now datagram.entry.now.ecn datagram.entry.now.bytes end.old
         (string_bytes text)
         end.new) }
 {
     let mut bytes = Vec::from_slice(alloc, datagram.bytes.as_slice())?;
-    let received = end.receive(datagram.now, Address(0), datagram.ecn, &mut bytes);
+    let received = end.receive(datagram.now, remote, datagram.ecn, &mut bytes);
     let mut out = String::from_str(alloc, "receive ")?;
     put_received(&mut out, &received)?;
     out.push_str("\n")?;
@@ -110,8 +118,8 @@ pub(crate) fn ask(alloc: Global, end: &mut End, call: &Call) -> Result<String, A
     Ok(out)
 }
 
-/// Appends an answer: of a poll that gave a datagram its mark and its bytes, and of an event by
-/// which the peer closed all that it said.
+/// Appends an answer: of a poll that gave a datagram its mark, its bytes and its address, and of an
+/// event by which the peer closed all that it said.
 fn put_told(
     alloc: Global,
     out: &mut String,
@@ -122,7 +130,7 @@ fn put_told(
 {
     match (answer, given) {
         (Answer::Poll(Ok(Some(transmit))), [datagram, ..]) => {
-            put_datagram(alloc, out, transmit.ecn, datagram)
+            put_datagram(alloc, out, transmit, datagram)
         }
         (Answer::Event(Some(Event::Lost(LostReason::Peer(close)))), _) => {
             put_peer_close(alloc, out, close)
@@ -161,16 +169,18 @@ fn put_close(
     put_bytes(alloc, out, reason)
 }
 
-/// Appends the mark and the bytes of a datagram.
+/// Appends the mark and the bytes of a datagram, and the address to which it goes, where that isn't
+/// 0.
 fn put_datagram(
     alloc: Global,
     out: &mut String,
-    ecn: Option<EcnCodepoint>,
+    transmit: &Transmit,
     datagram: &Datagram,
 ) -> Result<(), AllocError>
-    ensures { OnOk result (string_bytes out.new ≡ string_bytes out.old ++ datagram_text ecn datagram.now) }
+    ensures { OnOk result (string_bytes out.new ≡ string_bytes out.old ++ datagram_text transmit.now datagram.now) }
 {
-    let mark = mark_name(ecn);
+    let mark = mark_name(transmit.ecn);
     write!(out, "{mark} ")?;
-    put_bytes(alloc, out, datagram.as_slice())
+    put_bytes(alloc, out, datagram.as_slice())?;
+    put_address(out, transmit.remote)
 }

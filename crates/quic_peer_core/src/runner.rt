@@ -1,6 +1,6 @@
 //! Runs the lines of one end: what each of them does, and answers.
 ghost use Rattle.std.specs.Prelude.{◌≡◌, ◌⊎◌, Some, MatchResult, IfErr, OnOk, string_bytes};
-ghost use Rattle.quic_peer_core.specs.Language.{sets, makes, receives, tells_window, tells_stats, asks};
+ghost use Rattle.quic_peer_core.specs.Language.{sets, makes, hears_from, receives, tells_window, tells_stats, asks};
 ghost use Rattle.quic_lines.specs.Language.{asked_of};
 ghost use Rattle.quic_peer_core.specs.Peer.{first_stage, IsDone, IsRefused};
 ghost use Rattle.quic_peer_core.specs.Stages.{stage_of};
@@ -9,7 +9,7 @@ ghost use Rattle.quic_peer_core.specs.Outcomes.{RanAll, Stopped};
 use crate::command::{Line, NewEnd, parse_line};
 use crate::end::{End, ask, make_end, refusal_name, take, tell_params};
 use crate::figures::{tell_stats, tell_window};
-use quic_connection::{Call, Injection};
+use quic_connection::{Address, Call, Injection};
 use quic_lines::{
     LineError, Lines, MOST_TURNS, Options, RunsLines, ScriptError, Setting, print, run_lines,
 };
@@ -24,6 +24,8 @@ pub const NOTICE: &str = "# The keys are stand-ins that hide nothing.\n";
 struct Peer {
     alloc: Global,
     options: Options,
+    // From where datagrams come.
+    hears: Address,
     // None until a line has made it. It lies on the heap, so that a peer is small.
     end: Option<Box<End>>,
 }
@@ -36,6 +38,7 @@ impl Peer {
         Peer {
             alloc,
             options: Options::new(),
+            hears: Address(0),
             end: None,
         }
     }
@@ -72,6 +75,16 @@ impl Peer {
         Ok(format!(in self.alloc; "new {name}\n")?)
     }
 
+    /// Datagrams come from this address from now on.
+    fn hear_from(&mut self, remote: Address) -> Result<String, LineError>
+        ensures { MatchResult result
+            (λ text. IsDone (hears_from remote) (stage_of self.old) (string_bytes text) (stage_of self.new))
+            (λ e. e ≡ LineError.OutOfMemory) }
+    {
+        self.hears = remote;
+        Ok(String::from_str(self.alloc, "from ok\n")?)
+    }
+
     /// Hands a datagram in, if the end is made.
     fn receive(&mut self, datagram: &Injection) -> Result<String, LineError>
         ensures { MatchResult result
@@ -79,7 +92,7 @@ impl Peer {
             (λ e. (e ≡ LineError.OutOfMemory) ⊎ ((e ≡ LineError.BadCommand) × IsRefused (Some (receives datagram.entry.now.now datagram.entry.now.ecn datagram.entry.now.bytes)) (stage_of self.old))) }
     {
         match &mut self.end {
-            Some(end) => Ok(take(self.alloc, end.as_mut(), datagram)?),
+            Some(end) => Ok(take(self.alloc, end.as_mut(), self.hears, datagram)?),
             None => Err(LineError::BadCommand),
         }
     }
@@ -138,6 +151,7 @@ impl RunsLines for Peer {
             Line::Set(setting) => self.set(setting),
             Line::Params => Ok(tell_params(self.alloc, &self.options)?),
             Line::New(new) => self.make(&new),
+            Line::From(remote) => self.hear_from(remote),
             Line::Receive(datagram) => self.receive(&datagram),
             Line::Window => self.window(),
             Line::Stats => self.stats(),

@@ -9,6 +9,8 @@ use Rattle.quic_parameters.specs.Parameters.{ParameterValues}
 use Rattle.quic_parameters.specs.ParametersRead.{parameters_at}
 use Rattle.quic_machine.specs.declared.answers.ConfigError.{ConfigError}
 use Rattle.quic_machine.specs.declared.run.RunEvent.{RunEvent}
+use Rattle.quic_machine.specs.declared.run.Call.{Call}
+use Rattle.quic_machine.specs.declared.run.Call.TheVariants as calls
 use Rattle.quic_machine.specs.declared.run.Answer.{Answer}
 use Rattle.quic_config.specs.Transport.{Settings, parameters_of, transport_of, first_mtu}
 use Rattle.quic_machine.specs.declared.answers.ConfigError.TheVariants as config_errors
@@ -35,8 +37,9 @@ use Rattle.quic_keys.specs.Words.{stream_from, source_stream, words_from}
 use Rattle.quic_keys.proofs.Constant.{words_are}
 use Rattle.quic_keys.specs.Policies.{plain_policy}
 use Rattle.quic_lines.specs.Options.{limits_in, settings_of, first_windows}
-use Rattle.quic_lines.specs.Printed.{line_feed}
-use Rattle.quic_run_core.specs.Scripts.{are_short, lack_ends, first_id, first_controller, first_end, first_world, making, Made, Stage, made_or_first, made_at, with_made, IsSettled, TellsRest, IsSettling}
+use Rattle.quic_lines.specs.Printed.{line_feed, call_text}
+use Rattle.quic_lines.specs.Language.{asked_of, from_address}
+use Rattle.quic_run_core.specs.Scripts.{are_short, lack_ends, first_id, first_controller, first_end, first_world, making, Made, Stage, made_or_first, made_at, with_made, with_world, address_at, heading, IsTold, Tells, IsCall, IsSettled, TellsRest, IsSettling}
 use Rattle.quic_run_core.specs.declared.session.Session.{Session}
 use Rattle.quic_lines.specs.declared.script.LineError.{LineError}
 use Rattle.quic_lines.specs.declared.script.LineError.TheVariants.{BadCommand, OutOfMemory}
@@ -72,8 +75,8 @@ abbrev pub the_world : End → End → List (List ℕ) → List (List ℕ) → R
 the_world a b x y c d h l = record { client = a; server = b; from_client = x; from_server = y; client_control = window_after c; server_control = window_after d; client_heard = h; server_heard = l }
 
 -- a stage
-abbrev pub the_stage : Options → Options → Option Made → Stage
-the_stage client server made = record { client = client; server = server; made = made }
+abbrev pub the_stage : Options → Options → ℕ → ℕ → Option Made → Stage
+the_stage client server client_hears server_hears made = record { client = client; server = server; client_hears = client_hears; server_hears = server_hears; made = made }
 
 -- two ends that are made so meet the premises on ends
 pub are_started : (client server : Options) → IsMaking (making Client client) → IsMaking (making Server server) → AreStarted (first_world client server)
@@ -204,24 +207,70 @@ if_some_at P Q (Some m) k is f = f k is
 if_some_at P Q None k is f = tt
 
 -- the ends are made where they weren't
-pub begun : (o : Option Session) (client server : Options) (s : Session) → is_some o ≡ false → world_of window_after s.ends s.given ≡ first_world client server → s.client ≡ client → s.server ≡ server
-    → the_stage client server (made_in (Some s)) ≡ with_made (made_or_first (made_in o) client server) (the_stage client server (made_in o))
-begun (Some x) client server s none world client_is server_is = cc
-begun None client server s none world client_is server_is = rw (world, client_is, server_is) refl
+pub begun : (o : Option Session) (client server : Options) (x y : ℕ) (s : Session) → is_some o ≡ false → world_of window_after s.ends s.given ≡ first_world client server → s.client ≡ client → s.server ≡ server
+    → the_stage client server x y (made_in (Some s)) ≡ with_made (made_or_first (made_in o) client server) (the_stage client server x y (made_in o))
+begun (Some o) client server x y s none world client_is server_is = cc
+begun None client server x y s none world client_is server_is = rw (world, client_is, server_is) refl
+
+-- ends that were made at a stage, or that were there, go on to another world
+pub gone_on : (s : Stage) (client server : Options) (x y : ℕ) (m : Made) (next : World) (policies : Policies) → the_stage client server x y (Some m) ≡ with_made (made_at s) s → policies ≡ m.policies
+    → the_stage client server x y (Some (record { world = next; policies = policies })) ≡ with_world next s
+gone_on s client server x y m next policies begins same =
+    let made : Some m ≡ Some (made_at s) = ap (λ (t : Stage). t.made) begins in
+    let is : m ≡ made_at s = cc in
+    let over : Option Made = Some (record { world = next; policies = policies }) in
+    ap (λ (t : Stage). record t { made = over }) begins
+    ∙ ap (λ (p : Policies). with_made (record { world = next; policies = p }) s) (same ∙ ap (λ (n : Made). n.policies) is)
 
 -- both ends settle
-pub is_settling : (now : ℕ) (s : Stage) (client server : Options) (m : Made) (next : World) (policies : Policies) (before behind text : List ℕ) → the_stage client server (Some m) ≡ with_made (made_at s) s → TellsRest m.policies m.world now before behind next
-    → policies ≡ m.policies → before ≡ codes "settle " → text ≡ behind ++ line_feed → IsSettling now s text (the_stage client server (Some (record { world = next; policies = policies })))
-is_settling now s client server m next policies before behind text begins tells same head line =
+pub is_settling : (now : ℕ) (s : Stage) (client server : Options) (x y : ℕ) (m : Made) (next : World) (policies : Policies) (before behind text : List ℕ) → the_stage client server x y (Some m) ≡ with_made (made_at s) s → TellsRest m.policies m.world now before behind next
+    → policies ≡ m.policies → before ≡ codes "settle " → text ≡ behind ++ line_feed → IsSettling now s text (the_stage client server x y (Some (record { world = next; policies = policies })))
+is_settling now s client server x y m next policies before behind text begins tells same head line =
     let made : Some m ≡ Some (made_at s) = ap (λ (t : Stage). t.made) begins in
     let is : m ≡ made_at s = cc in
     record {
       answer = tells.0;
       next = next;
-      settled = subst (λ (x : Made). IsSettled x.policies x.world now tells.0 next) is tells.1;
+      settled = subst (λ (n : Made). IsSettled n.policies n.world now tells.0 next) is tells.1;
       line = line ∙ ap (λ (t : List ℕ). t ++ line_feed) (tells.2 ∙ ap (λ (t : List ℕ). t ++ tells.0) head) ∙ append_assoc (codes "settle ") tells.0 line_feed;
-      after =
-          ap (λ (c : Options). the_stage c server (Some (record { world = next; policies = policies }))) (ap (λ (t : Stage). t.client) begins)
-          ∙ ap (λ (c : Options). the_stage s.client c (Some (record { world = next; policies = policies }))) (ap (λ (t : Stage). t.server) begins)
-          ∙ ap (λ (p : Policies). the_stage s.client s.server (Some (record { world = next; policies = p }))) (same ∙ ap (λ (x : Made). x.policies) is);
+      after = gone_on s client server x y m next policies begins same;
+    }
+
+-- ---- calls
+
+-- by a call that comes from an address no less is asked for
+asked-from : (remote : ℕ) (call : Call) → asked_of (from_address remote call) ≡ asked_of call
+asked-from remote (calls.Deliver delivery) = refl
+asked-from remote (calls.Inject injection) = refl
+asked-from remote call = refl
+
+-- it comes from there
+from-there : (remote : ℕ) (call : Call) → from_address remote call ≡ from_address remote (from_address remote call)
+from-there remote (calls.Deliver delivery) = refl
+from-there remote (calls.Inject injection) = refl
+from-there remote call = refl
+
+-- from where what comes to an end does, whether the ends are made or not
+address-made : (side : Side) (s : Stage) (m : Made) → address_at side (with_made m s) ≡ address_at side s
+address-made Client s m = refl
+address-made Server s m = refl
+
+-- a call was made
+pub is_call : (side : Side) (old new : Call) (remote : ℕ) (s : Stage) (client server : Options) (x y : ℕ) (m : Made) (next : World) (policies : Policies) (before behind text : List ℕ) → the_stage client server x y (Some m) ≡ with_made (made_at s) s
+    → remote ≡ address_at side (the_stage client server x y (Some m)) → new ≡ from_address remote old → Tells m.policies m.world (record { side = side; call = new }) before behind next
+    → policies ≡ m.policies → before ≡ heading side (call_text new) → text ≡ behind ++ line_feed → IsCall side (asked_of old) s text (the_stage client server x y (Some (record { world = next; policies = policies })))
+is_call side old new remote s client server x y m next policies before behind text begins there comes tells same head line =
+    let made : Some m ≡ Some (made_at s) = ap (λ (t : Stage). t.made) begins in
+    let is : m ≡ made_at s = cc in
+    let remote_is : remote ≡ address_at side s = there ∙ ap (λ (t : Stage). address_at side t) begins ∙ address-made side s (made_at s) in
+    record {
+      event = record { side = side; call = new };
+      of_side = refl;
+      of_call = ap (λ (c : Call). asked_of c) comes ∙ asked-from remote old;
+      of_address = comes ∙ from-there remote old ∙ ap (λ (c : Call). from_address remote c) (sym comes) ∙ ap (λ (n : ℕ). from_address n new) remote_is;
+      answer = tells.0;
+      next = next;
+      told = subst (λ (n : Made). IsTold n.policies n.world (record { side = side; call = new }) tells.0 next) is tells.1;
+      line = line ∙ ap (λ (t : List ℕ). t ++ line_feed) (tells.2 ∙ ap (λ (t : List ℕ). t ++ tells.0) head) ∙ append_assoc (heading side (call_text new)) tells.0 line_feed;
+      after = gone_on s client server x y m next policies begins same;
     }

@@ -9,9 +9,9 @@ use Rattle.quic_lines.specs.LineByLine.{lines_of}
 use Rattle.quic_lines.specs.Printed.{line_feed, reason_text}
 use Rattle.quic_run_core.specs.Scripts.{Stage, first_stage, heading, Does}
 
--- why a datagram is dropped that doesn't open, or came before
+-- why a datagram is dropped that doesn't open, came before, or came to a client from elsewhere
 abbrev pub shut_out : List DropReason
-shut_out = drops.TooShort ∷ drops.NotShort ∷ drops.FixedBit ∷ drops.UnknownId ∷ drops.NotOpened ∷ drops.KeyPhase ∷ drops.Duplicate ∷ []
+shut_out = drops.TooShort ∷ drops.NotShort ∷ drops.FixedBit ∷ drops.UnknownId ∷ drops.NotOpened ∷ drops.KeyPhase ∷ drops.Duplicate ∷ drops.Address ∷ []
 
 -- whether a line that prints this delivers such a datagram
 abbrev pub is_shut_out : List ℕ → Bool

@@ -23,7 +23,7 @@ use Rattle.quic_lines.specs.LineByLine.{LineRules}
 use Rattle.quic_lines.specs.Options.{first_options, settings_of, with_setting, limits_in, first_windows}
 use Rattle.quic_lines.specs.Printed.{line_feed, call_text, rest_text, answer_text}
 use Rattle.quic_run_core.specs.Shown.{shown_text}
-use Rattle.quic_lines.specs.Language.{Command, Asked, nothing, sets, asks, shows, settles, asked_of, said}
+use Rattle.quic_lines.specs.Language.{Command, Asked, nothing, sets, asks, shows, hears_from, settles, asked_of, from_address, said}
 
 -- ---- the ends
 
@@ -106,24 +106,37 @@ pub record Made : Type 0 where
 abbrev pub first_made : Options → Options → Made
 first_made client server = record { world = first_world client server; policies = policies_for client server }
 
--- how far a script is: the options of both ends, and the ends once they are made
+-- how far a script is: the options of both ends, from where comes what comes to each, and the ends
+-- once they are made
 pub record Stage : Type 0 where
   pub client : Options
   pub server : Options
+  pub client_hears : ℕ
+  pub server_hears : ℕ
   pub made : Option Made
 
 -- nothing was done
 abbrev pub first_stage : Stage
-first_stage = record { client = first_options; server = first_options; made = None }
+first_stage = record { client = first_options; server = first_options; client_hears = 0; server_hears = 0; made = None }
 
 -- a stage with an option of an end set
 abbrev pub with_option : Side → Setting → Stage → Stage
-with_option Client setting s = record { client = with_setting setting s.client; server = s.server; made = s.made }
-with_option Server setting s = record { client = s.client; server = with_setting setting s.server; made = s.made }
+with_option Client setting s = record s { client = with_setting setting s.client }
+with_option Server setting s = record s { server = with_setting setting s.server }
+
+-- a stage where what comes to an end comes from an address
+abbrev pub with_address : Side → ℕ → Stage → Stage
+with_address Client remote s = record s { client_hears = remote }
+with_address Server remote s = record s { server_hears = remote }
+
+-- that address
+abbrev pub address_at : Side → Stage → ℕ
+address_at Client s = s.client_hears
+address_at Server s = s.server_hears
 
 -- a stage with these ends
 abbrev pub with_made : Made → Stage → Stage
-with_made m s = record { client = s.client; server = s.server; made = Some m }
+with_made m s = record s { made = Some m }
 
 -- these ends, or those that are made of the options
 abbrev pub made_or_first : Option Made → Options → Options → Made
@@ -160,11 +173,13 @@ heading side name = side_text side ++ (codes " " ++ (name ++ codes " "))
 abbrev pub line_text : Side → List ℕ → List ℕ → List ℕ
 line_text side name answer = heading side name ++ (answer ++ line_feed)
 
--- A call that was asked for: the line has its first two words and what the end answers.
+-- A call that was asked for, where what comes by it comes from the address of the stage: the line
+-- has its first two words and what the end answers.
 pub record IsCall (side : Side) (asked : Asked) (s : Stage) (text : List ℕ) (t : Stage) : Type 0 where
   pub event : RunEvent
   pub of_side : event.side ≡ side
   pub of_call : asked_of event.call ≡ asked
+  pub of_address : event.call ≡ from_address (address_at side s) event.call
   pub answer : List ℕ
   pub next : World
   pub told : IsTold (made_at s).policies (made_at s).world event answer next
@@ -186,6 +201,7 @@ IsDone nothing s text t = (text ≡ []) × (t ≡ s)
 IsDone (sets side setting) s text t = (s.made ≡ None) × (text ≡ line_text side (codes "set") (codes "ok")) × (t ≡ with_option side setting s)
 IsDone (asks side asked) s text t = (has_no_ends s ≡ false) × IsCall side asked s text t
 IsDone (shows side index) s text t = (has_no_ends s ≡ false) × (text ≡ line_text side (codes "show") (shown_text side (given_by side (made_at s).world) index)) × (t ≡ with_made (made_at s) s)
+IsDone (hears_from side remote) s text t = (has_no_ends s ≡ false) × (text ≡ line_text side (codes "from") (codes "ok")) × (t ≡ with_address side remote (with_made (made_at s) s))
 IsDone (settles now) s text t = (has_no_ends s ≡ false) × IsSettling now s text t
 
 -- what a line prints, and the stage behind it, by what it asks for
@@ -201,6 +217,7 @@ IsRefused (Some nothing) s = ⊥
 IsRefused (Some (sets side setting)) s = IsSome s.made
 IsRefused (Some (asks side asked)) s = has_no_ends s ≡ true
 IsRefused (Some (shows side index)) s = has_no_ends s ≡ true
+IsRefused (Some (hears_from side remote)) s = has_no_ends s ≡ true
 IsRefused (Some (settles now)) s = has_no_ends s ≡ true
 
 -- what scripts say of lines

@@ -14,4 +14,4 @@ made_in (Some session) = Some (record { world = world_of window_after session.en
 
 -- how far a runner is
 abbrev pub stage_of : Runner → Stage
-stage_of runner = record { client = runner.client; server = runner.server; made = made_in (option_map (λ b. b.value) runner.session) }
+stage_of runner = record { client = runner.client; server = runner.server; client_hears = runner.client_hears; server_hears = runner.server_hears; made = made_in (option_map (λ b. b.value) runner.session) }

@@ -13,8 +13,9 @@ use std::io::Read;
 
 /// Runs a script as [`run_script`](crate::run_script) does, prints nothing, and answers its lines
 /// less those that change nothing: `inject` lines, and `deliver` lines that are answered `dropped`
-/// with `tooshort`, `notshort`, `fixedbit`, `unknownid`, `notopened`, `keyphase` or `duplicate`.
-/// Each line that stays is ended by a line feed, also the last. It returns on any script.
+/// with `tooshort`, `notshort`, `fixedbit`, `unknownid`, `notopened`, `keyphase`, `duplicate` or
+/// `address`. Each line that stays is ended by a line feed, also the last. It returns on any
+/// script.
 ///
 /// # Errors
 ///
@@ -77,7 +78,8 @@ fn is_left_out(text: &str) -> bool
     text.starts_with(b"c inject ") || text.starts_with(b"s inject ") || is_shut_out(text)
 }
 
-/// Whether a line that printed this delivered what didn't open, or came before.
+/// Whether a line that printed this delivered what didn't open, came before, or came to a client
+/// from elsewhere.
 fn is_shut_out(text: &[u8]) -> bool
     ensures { result ≡ is_shut_out text.now }
 {
@@ -88,4 +90,5 @@ fn is_shut_out(text: &[u8]) -> bool
         || text.ends_with(b" deliver dropped notopened\n")
         || text.ends_with(b" deliver dropped keyphase\n")
         || text.ends_with(b" deliver dropped duplicate\n")
+        || text.ends_with(b" deliver dropped address\n")
 }

@@ -1,15 +1,15 @@
 //! Runs a script: what each of its lines does, and answers.
 ghost use Rattle.std.specs.Prelude.{◌≡◌, ◌⊎◌, true, false, MatchResult, IfErr, IfOk, OnOk, IsSome, string_bytes};
-ghost use Rattle.quic_lines.specs.Language.{sets, asks, shows, settles, asked_of};
+ghost use Rattle.quic_lines.specs.Language.{sets, asks, shows, hears_from, settles, asked_of};
 ghost use Rattle.quic_run_core.specs.Scripts.{first_stage, with_made, made_at, has_no_ends, IsDone, heading as heading_of};
 ghost use Rattle.quic_run_core.specs.Stages.{stage_of};
 ghost use Rattle.quic_run_core.specs.Outcomes.{RanAll, Stopped};
 
 use crate::session::Session;
-use quic_connection::{Instant, RunEvent};
+use quic_connection::{Address, Instant, RunEvent};
 use quic_lines::{
     Line, LineError, Lines, MOST_TURNS, Options, RunsLines, ScriptError, Setting, call_name,
-    parse_line, run_lines,
+    from_address, parse_line, run_lines,
 };
 use quic_wire_core::Side;
 use std::alloc::{AllocError, Global};
@@ -28,6 +28,9 @@ pub(crate) struct Runner {
     alloc: Global,
     client: Options,
     server: Options,
+    // From where comes what comes to each end.
+    client_hears: Address,
+    server_hears: Address,
     // None until the first line that isn't a setting. It lies on the heap, so that a runner is
     // small.
     session: Option<Box<Session>>,
@@ -42,6 +45,8 @@ impl Runner {
             alloc,
             client: Options::new(),
             server: Options::new(),
+            client_hears: Address(0),
+            server_hears: Address(0),
             session: None,
         }
     }
@@ -64,16 +69,37 @@ impl Runner {
         Ok(out)
     }
 
-    /// Makes a call at an end.
-    fn call(&mut self, event: &RunEvent) -> Result<String, LineError>
+    /// What comes to an end comes from this address from now on.
+    fn hear_from(&mut self, side: Side, remote: Address) -> Result<String, LineError>
         ensures { MatchResult result
-            (λ text. IsDone (asks event.now.side (asked_of event.now.call)) (stage_of self.old) (string_bytes text) (stage_of self.new))
+            (λ text. IsDone (hears_from side remote) (stage_of self.old) (string_bytes text) (stage_of self.new))
             (λ e. (e ≡ LineError.OutOfMemory) ⊎ ((e ≡ LineError.BadCommand) × (has_no_ends (stage_of self.old) ≡ true))) }
     {
         self.begin()?;
+        match side {
+            Side::Client => self.client_hears = remote,
+            Side::Server => self.server_hears = remote,
+        }
+        let mut out = heading(self.alloc, side, "from")?;
+        out.push_str("ok\n")?;
+        Ok(out)
+    }
+
+    /// Makes a call at an end.
+    fn call(&mut self, mut event: RunEvent) -> Result<String, LineError>
+        ensures { MatchResult result
+            (λ text. IsDone (asks event.side (asked_of event.call)) (stage_of self.old) (string_bytes text) (stage_of self.new))
+            (λ e. (e ≡ LineError.OutOfMemory) ⊎ ((e ≡ LineError.BadCommand) × (has_no_ends (stage_of self.old) ≡ true))) }
+    {
+        self.begin()?;
+        let remote = match event.side {
+            Side::Client => self.client_hears,
+            Side::Server => self.server_hears,
+        };
+        from_address(&mut event.call, remote);
         let mut out = heading(self.alloc, event.side, call_name(&event.call))?;
         match &mut self.session {
-            Some(session) => session.as_mut().call(event, &mut out)?,
+            Some(session) => session.as_mut().call(&event, &mut out)?,
             None => unreachable!(),
         }
         out.push_str("\n")?;
@@ -142,8 +168,9 @@ impl RunsLines for Runner {
         match parse_line(self.alloc, line)? {
             Line::Empty => Ok(String::new(self.alloc)),
             Line::Set(side, setting) => self.set(side, setting),
-            Line::Call(event) => self.call(&event),
+            Line::Call(event) => self.call(event),
             Line::Show(side, index) => self.show(side, index),
+            Line::From(side, remote) => self.hear_from(side, remote),
             Line::Settle(now) => self.settle(now),
         }
     }

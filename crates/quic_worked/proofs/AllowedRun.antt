@@ -27,14 +27,14 @@ use Rattle.quic_worked.specs.Allowed.{opened_then, stops_stream, stopped_twice, 
 use Rattle.quic_worked.proofs.OwnIds.{honest, AreOwn, own_ids}
 use Rattle.quic_worked.specs.Acknowledged.{client_acked}
 use Rattle.quic_worked.specs.Paired.{resets_with}
-use Rattle.quic_worked.specs.Rested.{once_rested, still_view, hello_packet}
+use Rattle.quic_worked.specs.Rested.{once_rested, still_view}
 use Rattle.quic_worked.proofs.Codes.{AllSmall, small_codes}
 use Rattle.quic_worked.proofs.BrokenRuns.{IsRefused, stops, behind, read_of}
 use Rattle.quic_worked.proofs.WorkedKeys.{are_keys}
 use Rattle.quic_worked.proofs.WorkedRun.{opens}
 use Rattle.quic_worked.proofs.FaultTimes.{kept_gave, kept_held}
 use Rattle.quic_worked.proofs.RestedRun.{rested_started, until_rested, both_packets, end_in_hello, word_arrived}
-use Rattle.quic_worked.proofs.Steps.{counts_so, others_so}
+use Rattle.quic_worked.proofs.Steps.{StepsSo, steps_so}
 use Rattle.quic_worked.proofs.Validated.{unless_limited}
 use Rattle.quic_headline.specs.Polls.{IsHeldBack}
 
@@ -53,7 +53,9 @@ twice_reset = refl
 
 late_resets : IsStep worked_policies (once_rested 13) (resets_with 7) reset_closed late_end
 unfolding once_rested
-late_resets = record { answer = inl refl; end = refl; control = refl; heard = counts_so worked_policies (once_rested 13) (resets_with 7) reset_closed; openings = tt; others = others_so worked_policies (once_rested 13) (resets_with 7) reset_closed; lacking = λ lacks. cc }
+late_resets =
+    let s : StepsSo worked_policies (once_rested 13) (resets_with 7) reset_closed late_end = steps_so worked_policies (once_rested 13) (resets_with 7) reset_closed refl in
+    record { answer = inl refl; end = s.end; control = s.control; heard = s.heard; openings = tt; others = s.others; lacking = λ lacks. cc }
 
 late_seen : still_view ≡ view_of late_end
 unfolding once_rested
@@ -165,7 +167,9 @@ once_halted = ran worked_policies started (take 2 stopped_again.events) (take 2 
 
 halts : IsStep worked_policies once_opened stops_stream (answers.Stop (Ok tt)) once_halted
 unfolding once_halted
-halts = record { answer = inl refl; end = refl; control = refl; heard = counts_so worked_policies once_opened stops_stream (answers.Stop (Ok tt)); openings = tt; others = refl; lacking = λ lacks. cc }
+halts =
+    let s : StepsSo worked_policies once_opened stops_stream (answers.Stop (Ok tt)) once_halted = steps_so worked_policies once_opened stops_stream (answers.Stop (Ok tt)) refl in
+    record { answer = inl refl; end = s.end; control = s.control; heard = s.heard; openings = tt; others = s.others; lacking = λ lacks. cc }
 
 again_no : IsRefused once_halted stops_stream (answers.Stop (Ok tt))
 unfolding once_halted

@@ -1,6 +1,6 @@
 -- The run in which the peer answers what a server asked it, event by event, and machines that take
 -- another answer, or none, for the right one, or the right one for none.
-use Rattle.std.proofs.Common.{◌≡◌, ◌<◌, ℕ, zero, suc, List, [], ◌∷◌, replicate, Option, Some, None, Bool, true, false, refl, inl, inr, sym, ◌∙◌, subst, arith}
+use Rattle.std.proofs.Common.{◌≡◌, ◌<◌, ◌⊎◌, ℕ, zero, suc, List, [], ◌∷◌, replicate, Option, Some, None, Bool, true, false, refl, inl, inr, sym, ◌∙◌, subst, arith}
 use Rattle.std.specs.Prelude.{◌^◌}
 use Rattle.quic_wire_core.specs.declared.stream_id.Side.{Side}
 use Rattle.quic_wire_core.specs.declared.stream_id.Side.TheVariants.{Client, Server}
@@ -10,22 +10,22 @@ use Rattle.quic_machine.specs.declared.run.Answer.TheVariants as answers
 use Rattle.quic_machine.specs.declared.run.EndView.{EndView}
 use Rattle.quic_machine.specs.Machine.{IsStep, policy_at, end_at, view_of}
 use Rattle.quic_headline.specs.Runs.{Run, Packet, In}
-use Rattle.quic_headline.specs.Observer.{watch, news}
+use Rattle.quic_headline.specs.Observer.{watch, news, peer_address, path_changes}
 use Rattle.quic_headline.specs.Polls.{seen_at}
 use Rattle.quic_headline.specs.Headline.{IsHonest, IsRun}
-use Rattle.quic_headline.specs.Validated.{asking, IsLatest, AnswerCame, WasAnswered, ValidatedByAnswer, AreWords, AnswersValidate}
+use Rattle.quic_headline.specs.Validated.{asking, IsLatest, AnswerCame, WasAnswered, ValidatedByAnswer, AreWords, CameFromPeer, AnswersValidate}
 use Rattle.quic_worked.specs.Worked.{worked_policies, asks_datagram, gives_bytes, gives_unmarked, view_with, waiting_view, id_word, behind_ids}
 use Rattle.quic_worked.specs.Acknowledged.{client_acked}
 use Rattle.quic_worked.specs.Broken.{IsNoRun}
 use Rattle.quic_worked.specs.Paired.{asks_server, client_hears}
 use Rattle.quic_worked.specs.Reordered.{delivers_at}
-use Rattle.quic_worked.specs.Unvalidated.{far_view, once_far, once_answered, asks_state, tells_state, state_told, response_packet, answered_with, answered_run, ignored_run, unanswered_run, other_word, old_answer_run, late_answer_run}
+use Rattle.quic_worked.specs.Unvalidated.{far_view, once_far, answering_events, answering_answers, once_answered, asks_state, tells_state, state_told, response_packet, answered_with, answered_run, ignored_run, unanswered_run, other_word, old_answer_run, late_answer_run}
 use Rattle.quic_worked.proofs.Codes.{no_codes}
 use Rattle.quic_worked.proofs.OwnIds.{AreOwn, own_ids}
 use Rattle.quic_worked.proofs.BrokenRuns.{IsRefused, behind, stops}
 use Rattle.quic_worked.proofs.WorkedKeys.{are_keys}
 use Rattle.quic_worked.proofs.UnvalidatedRun.{far_started, opens, writes, gives, takes, asks_back, opened_seen, written_seen, given_seen, taken_seen, asked_seen}
-use Rattle.quic_worked.proofs.Steps.{counts_so}
+use Rattle.quic_worked.proofs.Steps.{StepsSo, counts_so, steps_at}
 
 -- ---- the machine's run
 
@@ -35,7 +35,9 @@ hears = record { answer = inl refl; end = refl; control = refl; heard = counts_s
 
 pub responds : IsStep worked_policies (once_answered 1) asks_datagram (gives_unmarked 1200) (once_answered 2)
 unfolding once_answered
-responds = record { answer = inl refl; end = refl; control = refl; heard = counts_so worked_policies (once_answered 1) asks_datagram (gives_unmarked 1200); openings = tt; others = refl; lacking = tt }
+responds =
+    let s : StepsSo worked_policies (once_answered 1) asks_datagram (gives_unmarked 1200) (once_answered 2) = steps_at worked_policies (once_far 5) answering_events answering_answers 1 asks_datagram (gives_unmarked 1200) _ _ refl refl refl in
+    record { answer = inl refl; end = s.end; control = s.control; heard = s.heard; openings = tt; others = s.others; lacking = tt }
 
 takes_answer : IsStep worked_policies (once_answered 2) (delivers_at 1) (answers.Deliver receives.Taken) (once_answered 3)
 unfolding once_answered
@@ -124,6 +126,14 @@ answer_came validated seen = record { packet = response_packet; came = subst (λ
 pub is_latest : (validated : Bool) (seen : EndView) → IsLatest (asking (answered_with validated seen) Server 7).latest id_word
 is_latest validated seen = subst (λ (o : Option (List ℕ)). IsLatest o id_word) (sym (asked_last validated seen)) refl
 
+-- it came from where the server takes its peer to be
+peer_there : (validated : Bool) (seen : EndView) → peer_address (answered_with validated seen) Server 7 ≡ 0
+unfolding client_acked
+peer_there validated seen = refl
+
+came_from_peer : (validated : Bool) (seen : EndView) → CameFromPeer (answered_with validated seen) Server 7
+came_from_peer validated seen = record { delivery = record { now = 0; remote = 0; ecn = None; index = 1 }; answer = answers.Deliver receives.Taken; at = record { event = refl; answer = refl }; from = sym (peer_there validated seen) }
+
 pub was_answered : WasAnswered answered_run Server 7
 was_answered = record { token = id_word; came = answer_came true waiting_view; right = inl (is_latest true waiting_view) }
 
@@ -152,7 +162,7 @@ are_words validated seen = record { drawn = drawn; asked = asked }
 pub ignored_wrong : AnswersValidate ignored_run → ⊥
 ignored_wrong h =
     let seen = far_view None (Some 25000000) in
-    let clash : false ≡ true = h (are_words false seen) Server 7 id_word refl refl (not_renewed false seen) (answer_came false seen) (is_latest false seen) in
+    let clash : false ≡ true = h (are_words false seen) Server 7 id_word refl refl (came_from_peer false seen) (not_renewed false seen) (answer_came false seen) (is_latest false seen) in
     cc
 
 ignored_no : IsRefused (once_answered 3) asks_state (tells_state false)
@@ -238,11 +248,8 @@ not_latest : IsLatest (Some other_word) id_word → ⊥
 not_latest e = let clash : ◌≡◌ {A = ℕ} 63 0 = e in omega (arith, clash)
 
 -- so it answers nothing of what was asked last
-wrong_answer : (r : Run) (i : ℕ) → news (watch r Server i).intake (watch r Server (suc i)).intake ≡ response_packet ∷ [] → (asking r Server i).latest ≡ Some other_word → (asking r Server i).renewed ≡ false → WasAnswered r Server i → ⊥
-wrong_answer r i came asked none w = elim w.right [
-  | inl latest ↦ not_latest (subst (λ (t : List ℕ). IsLatest (Some other_word) t) first (subst (λ (o : Option (List ℕ)). IsLatest o w.token) asked latest))
-  | inr renewed ↦ (let clash : false ≡ true = sym none ∙ renewed in cc)
-]
+pub wrong_answer : (r : Run) (i : ℕ) → news (watch r Server i).intake (watch r Server (suc i)).intake ≡ response_packet ∷ [] → (asking r Server i).latest ≡ Some other_word → (asking r Server i).renewed ≡ false → path_changes r Server i ≡ false → WasAnswered r Server i → ⊥
+wrong_answer r i came asked none same w = go w.right
   where
     among : (token : List ℕ) (p : Packet) → In p (response_packet ∷ []) → In (path_response token) p.frames → token ≡ id_word
     among token p (inl is) i = answers_first token (subst (λ (q : Packet). In (path_response token) q.frames) is i)
@@ -251,8 +258,17 @@ wrong_answer r i came asked none w = elim w.right [
     first : w.token ≡ id_word
     first = among w.token w.came.packet (subst (λ (ps : List Packet). In w.came.packet ps) came w.came.came) w.came.answers
 
+    go : IsLatest (asking r Server i).latest w.token ⊎ (((asking r Server i).renewed ≡ true) ⊎ (path_changes r Server i ≡ true)) → ⊥
+    go (inl latest) = not_latest (subst (λ (t : List ℕ). IsLatest (Some other_word) t) first (subst (λ (o : Option (List ℕ)). IsLatest o w.token) asked latest))
+    go (inr (inl renewed)) = let clash : false ≡ true = sym none ∙ renewed in cc
+    go (inr (inr changes)) = let clash : false ≡ true = sym same ∙ changes in cc
+
+old_stays : path_changes old_answer_run Server 8 ≡ false
+unfolding client_acked
+old_stays = refl
+
 pub old_wrong : ValidatedByAnswer old_answer_run → ⊥
-old_wrong h = wrong_answer old_answer_run 8 old_came asked_anew none_since (h Server 8 refl refl refl refl)
+old_wrong h = wrong_answer old_answer_run 8 old_came asked_anew none_since old_stays (h Server 8 refl refl refl refl)
 
 old_own : (side : Side) → AreOwn side [] old_answer_run.events old_answer_run.answers old_answer_run.views
 old_own Client = (tt, (inl refl, (tt, (tt, (tt, (tt, (tt, (tt, (tt, tt)))))))))
@@ -284,8 +300,12 @@ none_late : (asking late_answer_run Server 9).renewed ≡ false
 unfolding client_acked
 none_late = refl
 
+late_stays : path_changes late_answer_run Server 9 ≡ false
+unfolding client_acked
+late_stays = refl
+
 pub late_wrong : ValidatedByAnswer late_answer_run → ⊥
-late_wrong h = wrong_answer late_answer_run 9 late_came late_asked none_late (h Server 9 refl refl refl refl)
+late_wrong h = wrong_answer late_answer_run 9 late_came late_asked none_late late_stays (h Server 9 refl refl refl refl)
 
 late_own : (side : Side) → AreOwn side [] late_answer_run.events late_answer_run.answers late_answer_run.views
 late_own Client = (tt, (inl refl, (tt, (tt, (tt, (tt, (tt, (tt, (tt, (tt, tt))))))))))

@@ -28,11 +28,12 @@ use Rattle.quic_worked.specs.Acknowledged.{client_acked}
 use Rattle.quic_worked.specs.Losses.{asks_ping}
 use Rattle.quic_worked.specs.Timed.{serves, asks_at, comes_at, seen_with, due_at}
 use Rattle.quic_worked.specs.Settings.{plain_settings}
-use Rattle.quic_worked.specs.Asking.{comes_there, asks_within, asking_settings, asked_settings, asked_parameters, asking_start, asking_start_with, request, first_sent, once_asked, ack_sent, ping_sent, asked_run}
+use Rattle.quic_worked.specs.Asking.{comes_there, asks_within, asking_settings, asked_settings, asked_parameters, asking_start, asking_start_with, request, first_sent, once_asked, ack_sent, ping_sent, asked_run, asked_answers, asked_events}
 use Rattle.quic_worked.proofs.Codes.{no_codes}
 use Rattle.quic_worked.proofs.OwnIds.{AreOwn, own_ids}
-use Rattle.quic_worked.proofs.Steps.{counts_so, still_steady, still_shut}
+use Rattle.quic_worked.proofs.Steps.{steps_at, StepsSo}
 use Rattle.quic_worked.proofs.TimedRun.{shows}
+use Rattle.quic_worked.proofs.Unpolled.{unpolled}
 use Rattle.quic_worked.proofs.WorkedHonest.{in_range, making}
 use Rattle.quic_worked.proofs.WorkedKeys.{are_keys}
 use Rattle.quic_worked.proofs.WorkedRun.{parameters_say}
@@ -90,35 +91,51 @@ asked_is_honest = record { start = asking_started 10000000; keys = are_keys; ids
 
 pub asks_it : IsStep worked_policies (asking_start 10000000) (asks_at Client 0) (gives_bytes 229) (once_asked 1)
 unfolding once_asked
-asks_it = record { answer = inl refl; end = refl; control = still_steady; heard = counts_so worked_policies (asking_start 10000000) (asks_at Client 0) (gives_bytes 229); openings = tt; others = refl; lacking = tt }
+asks_it =
+    let s : StepsSo worked_policies (asking_start 10000000) (asks_at Client 0) (gives_bytes 229) (once_asked 1) = steps_at worked_policies (asking_start 10000000) asked_events asked_answers 0 (asks_at Client 0) (gives_bytes 229) _ _ refl refl refl in
+    record { answer = inl refl; end = s.end; control = s.control; heard = s.heard; openings = tt; others = s.others; lacking = tt }
 
 pub takes_it : IsStep worked_policies (once_asked 1) (comes_at Server 5000000) (answers.Deliver receives.Taken) (once_asked 2)
 unfolding once_asked
-takes_it = record { answer = inl refl; end = refl; control = still_shut; heard = counts_so worked_policies (once_asked 1) (comes_at Server 5000000) (answers.Deliver receives.Taken); openings = tt; others = refl; lacking = tt }
+takes_it =
+    let s : StepsSo worked_policies (once_asked 1) (comes_at Server 5000000) (answers.Deliver receives.Taken) (once_asked 2) = steps_at worked_policies (asking_start 10000000) asked_events asked_answers 1 (comes_at Server 5000000) (answers.Deliver receives.Taken) _ _ refl refl refl in
+    record { answer = inl refl; end = s.end; control = s.control; heard = s.heard; openings = tt; others = s.others; lacking = tt }
 
 pub is_due : IsStep worked_policies (once_asked 2) (serves Server 15000000) (answers.Timeout (Ok tt)) (once_asked 3)
 unfolding once_asked
-is_due = record { answer = inl refl; end = refl; control = still_shut; heard = counts_so worked_policies (once_asked 2) (serves Server 15000000) (answers.Timeout (Ok tt)); openings = tt; others = refl; lacking = tt }
+is_due =
+    let s : StepsSo worked_policies (once_asked 2) (serves Server 15000000) (answers.Timeout (Ok tt)) (once_asked 3) = steps_at worked_policies (asking_start 10000000) asked_events asked_answers 2 (serves Server 15000000) (answers.Timeout (Ok tt)) _ _ refl refl refl in
+    record { answer = inl refl; end = s.end; control = s.control; heard = s.heard; openings = tt; others = s.others; lacking = tt }
 
 pub answers_it : IsStep worked_policies (once_asked 3) (asks_at Server 15000000) (gives_bytes 32) (once_asked 4)
 unfolding once_asked
-answers_it = record { answer = inl refl; end = refl; control = still_shut; heard = counts_so worked_policies (once_asked 3) (asks_at Server 15000000) (gives_bytes 32); openings = tt; others = refl; lacking = tt }
+answers_it =
+    let s : StepsSo worked_policies (once_asked 3) (asks_at Server 15000000) (gives_bytes 32) (once_asked 4) = steps_at worked_policies (asking_start 10000000) asked_events asked_answers 3 (asks_at Server 15000000) (gives_bytes 32) _ _ refl refl refl in
+    record { answer = inl refl; end = s.end; control = s.control; heard = s.heard; openings = tt; others = s.others; lacking = tt }
 
 pub is_answered : IsStep worked_policies (once_asked 4) (comes_at Client 20000000) (answers.Deliver receives.Taken) (once_asked 5)
 unfolding once_asked
-is_answered = record { answer = inl refl; end = refl; control = still_steady; heard = counts_so worked_policies (once_asked 4) (comes_at Client 20000000) (answers.Deliver receives.Taken); openings = tt; others = refl; lacking = tt }
+is_answered =
+    let s : StepsSo worked_policies (once_asked 4) (comes_at Client 20000000) (answers.Deliver receives.Taken) (once_asked 5) = steps_at worked_policies (asking_start 10000000) asked_events asked_answers 4 (comes_at Client 20000000) (answers.Deliver receives.Taken) _ _ refl refl refl in
+    record { answer = inl refl; end = s.end; control = s.control; heard = s.heard; openings = tt; others = s.others; lacking = tt }
 
 pub is_pinged : IsStep worked_policies (once_asked 5) asks_ping answers.Ping (once_asked 6)
 unfolding once_asked
-is_pinged = record { answer = refl; end = refl; control = still_steady; heard = counts_so worked_policies (once_asked 5) asks_ping answers.Ping; openings = tt; others = refl; lacking = tt }
+is_pinged =
+    let s : StepsSo worked_policies (once_asked 5) asks_ping answers.Ping (once_asked 6) = steps_at worked_policies (asking_start 10000000) asked_events asked_answers 5 asks_ping answers.Ping _ _ refl refl refl in
+    record { answer = refl; end = s.end; control = s.control; heard = s.heard; openings = tt; others = s.others; lacking = tt }
 
 pub pings : IsStep worked_policies (once_asked 6) (asks_at Client 20000000) (gives_unmarked 32) (once_asked 7)
 unfolding once_asked
-pings = record { answer = inl refl; end = refl; control = still_steady; heard = counts_so worked_policies (once_asked 6) (asks_at Client 20000000) (gives_unmarked 32); openings = tt; others = refl; lacking = tt }
+pings =
+    let s : StepsSo worked_policies (once_asked 6) (asks_at Client 20000000) (gives_unmarked 32) (once_asked 7) = steps_at worked_policies (asking_start 10000000) asked_events asked_answers 6 (asks_at Client 20000000) (gives_unmarked 32) _ _ refl refl refl in
+    record { answer = inl refl; end = s.end; control = s.control; heard = s.heard; openings = tt; others = s.others; lacking = tt }
 
 takes_ping : IsStep worked_policies (once_asked 7) (comes_there 1 25000000) (answers.Deliver receives.Taken) (once_asked 8)
 unfolding once_asked
-takes_ping = record { answer = inl refl; end = refl; control = still_shut; heard = counts_so worked_policies (once_asked 7) (comes_there 1 25000000) (answers.Deliver receives.Taken); openings = tt; others = refl; lacking = tt }
+takes_ping =
+    let s : StepsSo worked_policies (once_asked 7) (comes_there 1 25000000) (answers.Deliver receives.Taken) (once_asked 8) = steps_at worked_policies (asking_start 10000000) asked_events asked_answers 7 (comes_there 1 25000000) (answers.Deliver receives.Taken) _ _ refl refl refl in
+    record { answer = inl refl; end = s.end; control = s.control; heard = s.heard; openings = tt; others = s.others; lacking = tt }
 
 pub asked_seen : seen_with (Some 1024000000) None ≡ view_of (once_asked 1)
 unfolding once_asked
@@ -246,23 +263,23 @@ says_nothing now gave f there = ping_asks_nothing f (subst (λ (s : Sent). In (a
 
 pub asked_says : RequestsSay asked_run
 asked_says Server (suc (suc (suc zero))) now gave f there = absurd (ack_asks_nothing f (subst (λ (s : Sent). In (ack_frequency f) s.frames) (is_ack now gave) there))
-asked_says Server zero now gave f there = (let event = gave.poll.event in absurd cc)
-asked_says Server (suc zero) now gave f there = (let event = gave.poll.event in absurd cc)
-asked_says Server (suc (suc zero)) now gave f there = (let event = gave.poll.event in absurd cc)
-asked_says Server (suc (suc (suc (suc zero)))) now gave f there = (let event = gave.poll.event in absurd cc)
-asked_says Server (suc (suc (suc (suc (suc zero))))) now gave f there = (let event = gave.poll.event in absurd cc)
-asked_says Server (suc (suc (suc (suc (suc (suc zero)))))) now gave f there = (let event = gave.poll.event in absurd cc)
-asked_says Server (suc (suc (suc (suc (suc (suc (suc zero))))))) now gave f there = (let event = gave.poll.event in absurd cc)
-asked_says Server (suc (suc (suc (suc (suc (suc (suc (suc i)))))))) now gave f there = (let event = gave.poll.event in absurd cc)
+asked_says Server zero now gave f there = absurd (unpolled Server now _ gave.poll.event refl)
+asked_says Server (suc zero) now gave f there = absurd (unpolled Server now _ gave.poll.event refl)
+asked_says Server (suc (suc zero)) now gave f there = absurd (unpolled Server now _ gave.poll.event refl)
+asked_says Server (suc (suc (suc (suc zero)))) now gave f there = absurd (unpolled Server now _ gave.poll.event refl)
+asked_says Server (suc (suc (suc (suc (suc zero))))) now gave f there = absurd (unpolled Server now _ gave.poll.event refl)
+asked_says Server (suc (suc (suc (suc (suc (suc zero)))))) now gave f there = absurd (unpolled Server now _ gave.poll.event refl)
+asked_says Server (suc (suc (suc (suc (suc (suc (suc zero))))))) now gave f there = absurd (unpolled Server now _ gave.poll.event refl)
+asked_says Server (suc (suc (suc (suc (suc (suc (suc (suc i)))))))) now gave f there = absurd (unpolled Server now _ gave.poll.event refl)
 asked_says Client zero now gave f there = says_first now gave f there
-asked_says Client (suc zero) now gave f there = (let event = gave.poll.event in absurd cc)
-asked_says Client (suc (suc zero)) now gave f there = (let event = gave.poll.event in absurd cc)
-asked_says Client (suc (suc (suc zero))) now gave f there = (let event = gave.poll.event in absurd cc)
-asked_says Client (suc (suc (suc (suc zero)))) now gave f there = (let event = gave.poll.event in absurd cc)
-asked_says Client (suc (suc (suc (suc (suc zero))))) now gave f there = (let event = gave.poll.event in absurd cc)
+asked_says Client (suc zero) now gave f there = absurd (unpolled Client now _ gave.poll.event refl)
+asked_says Client (suc (suc zero)) now gave f there = absurd (unpolled Client now _ gave.poll.event refl)
+asked_says Client (suc (suc (suc zero))) now gave f there = absurd (unpolled Client now _ gave.poll.event refl)
+asked_says Client (suc (suc (suc (suc zero)))) now gave f there = absurd (unpolled Client now _ gave.poll.event refl)
+asked_says Client (suc (suc (suc (suc (suc zero))))) now gave f there = absurd (unpolled Client now _ gave.poll.event refl)
 asked_says Client (suc (suc (suc (suc (suc (suc zero)))))) now gave f there = absurd (says_nothing now gave f there)
-asked_says Client (suc (suc (suc (suc (suc (suc (suc zero))))))) now gave f there = (let event = gave.poll.event in absurd cc)
-asked_says Client (suc (suc (suc (suc (suc (suc (suc (suc i)))))))) now gave f there = (let event = gave.poll.event in absurd cc)
+asked_says Client (suc (suc (suc (suc (suc (suc (suc zero))))))) now gave f there = absurd (unpolled Client now _ gave.poll.event refl)
+asked_says Client (suc (suc (suc (suc (suc (suc (suc (suc i)))))))) now gave f there = absurd (unpolled Client now _ gave.poll.event refl)
 
 -- ---- where it asks
 
@@ -281,14 +298,14 @@ wanted_never = refl
 goes_along : (side : Side) (i now : ℕ) (given : GaveAsking asked_run side i now) → wants_anew (asking_at asked_run side) (watch asked_run side i).own (watch asked_run side i).flight ≡ true → list_any is_ack_frequency given.one.sent.frames ≡ true
 goes_along Server i now given wanted = (let clash : false ≡ true = wanted in absurd cc)
 goes_along Client zero now given wanted = subst (λ (s : Sent). list_any is_ack_frequency s.frames ≡ true) (sym (is_first now given.one)) refl
-goes_along Client (suc zero) now given wanted = (let event = given.one.poll.event in absurd cc)
-goes_along Client (suc (suc zero)) now given wanted = (let event = given.one.poll.event in absurd cc)
-goes_along Client (suc (suc (suc zero))) now given wanted = (let event = given.one.poll.event in absurd cc)
-goes_along Client (suc (suc (suc (suc zero)))) now given wanted = (let event = given.one.poll.event in absurd cc)
-goes_along Client (suc (suc (suc (suc (suc zero))))) now given wanted = (let event = given.one.poll.event in absurd cc)
+goes_along Client (suc zero) now given wanted = absurd (unpolled Client now _ given.one.poll.event refl)
+goes_along Client (suc (suc zero)) now given wanted = absurd (unpolled Client now _ given.one.poll.event refl)
+goes_along Client (suc (suc (suc zero))) now given wanted = absurd (unpolled Client now _ given.one.poll.event refl)
+goes_along Client (suc (suc (suc (suc zero)))) now given wanted = absurd (unpolled Client now _ given.one.poll.event refl)
+goes_along Client (suc (suc (suc (suc (suc zero))))) now given wanted = absurd (unpolled Client now _ given.one.poll.event refl)
 goes_along Client (suc (suc (suc (suc (suc (suc zero)))))) now given wanted = absurd (both_ways (wants_anew (asking_at asked_run Client) (watch asked_run Client 6).own (watch asked_run Client 6).flight) wanted_never wanted)
-goes_along Client (suc (suc (suc (suc (suc (suc (suc zero))))))) now given wanted = (let event = given.one.poll.event in absurd cc)
-goes_along Client (suc (suc (suc (suc (suc (suc (suc (suc i)))))))) now given wanted = (let event = given.one.poll.event in absurd cc)
+goes_along Client (suc (suc (suc (suc (suc (suc (suc zero))))))) now given wanted = absurd (unpolled Client now _ given.one.poll.event refl)
+goes_along Client (suc (suc (suc (suc (suc (suc (suc (suc i)))))))) now given wanted = absurd (unpolled Client now _ given.one.poll.event refl)
 
 -- each poll gives something
 never_nothing : (side : Side) (i now : ℕ) (v : View) → GaveNothing asked_run side i now v → ⊥
@@ -337,21 +354,21 @@ pub asked_waited : EachWaited asked_run
 asked_waited Client zero now gave = subst (λ (s : Sent). HasWaited asked_run Client 0 s) (sym (is_first now gave)) (as_frames refl first_waited)
 asked_waited Client (suc (suc (suc (suc (suc (suc zero)))))) now gave = subst (λ (s : Sent). HasWaited asked_run Client 6 s) (sym (is_second now gave)) (as_frames refl second_waited)
 asked_waited Server (suc (suc (suc zero))) now gave = subst (λ (s : Sent). HasWaited asked_run Server 3 s) (sym (is_ack now gave)) ack_waited
-asked_waited Client (suc zero) now gave = (let event = gave.poll.event in absurd cc)
-asked_waited Client (suc (suc zero)) now gave = (let event = gave.poll.event in absurd cc)
-asked_waited Client (suc (suc (suc zero))) now gave = (let event = gave.poll.event in absurd cc)
-asked_waited Client (suc (suc (suc (suc zero)))) now gave = (let event = gave.poll.event in absurd cc)
-asked_waited Client (suc (suc (suc (suc (suc zero))))) now gave = (let event = gave.poll.event in absurd cc)
-asked_waited Client (suc (suc (suc (suc (suc (suc (suc zero))))))) now gave = (let event = gave.poll.event in absurd cc)
-asked_waited Client (suc (suc (suc (suc (suc (suc (suc (suc i)))))))) now gave = (let event = gave.poll.event in absurd cc)
-asked_waited Server zero now gave = (let event = gave.poll.event in absurd cc)
-asked_waited Server (suc zero) now gave = (let event = gave.poll.event in absurd cc)
-asked_waited Server (suc (suc zero)) now gave = (let event = gave.poll.event in absurd cc)
-asked_waited Server (suc (suc (suc (suc zero)))) now gave = (let event = gave.poll.event in absurd cc)
-asked_waited Server (suc (suc (suc (suc (suc zero))))) now gave = (let event = gave.poll.event in absurd cc)
-asked_waited Server (suc (suc (suc (suc (suc (suc zero)))))) now gave = (let event = gave.poll.event in absurd cc)
-asked_waited Server (suc (suc (suc (suc (suc (suc (suc zero))))))) now gave = (let event = gave.poll.event in absurd cc)
-asked_waited Server (suc (suc (suc (suc (suc (suc (suc (suc i)))))))) now gave = (let event = gave.poll.event in absurd cc)
+asked_waited Client (suc zero) now gave = absurd (unpolled Client now _ gave.poll.event refl)
+asked_waited Client (suc (suc zero)) now gave = absurd (unpolled Client now _ gave.poll.event refl)
+asked_waited Client (suc (suc (suc zero))) now gave = absurd (unpolled Client now _ gave.poll.event refl)
+asked_waited Client (suc (suc (suc (suc zero)))) now gave = absurd (unpolled Client now _ gave.poll.event refl)
+asked_waited Client (suc (suc (suc (suc (suc zero))))) now gave = absurd (unpolled Client now _ gave.poll.event refl)
+asked_waited Client (suc (suc (suc (suc (suc (suc (suc zero))))))) now gave = absurd (unpolled Client now _ gave.poll.event refl)
+asked_waited Client (suc (suc (suc (suc (suc (suc (suc (suc i)))))))) now gave = absurd (unpolled Client now _ gave.poll.event refl)
+asked_waited Server zero now gave = absurd (unpolled Server now _ gave.poll.event refl)
+asked_waited Server (suc zero) now gave = absurd (unpolled Server now _ gave.poll.event refl)
+asked_waited Server (suc (suc zero)) now gave = absurd (unpolled Server now _ gave.poll.event refl)
+asked_waited Server (suc (suc (suc (suc zero)))) now gave = absurd (unpolled Server now _ gave.poll.event refl)
+asked_waited Server (suc (suc (suc (suc (suc zero))))) now gave = absurd (unpolled Server now _ gave.poll.event refl)
+asked_waited Server (suc (suc (suc (suc (suc (suc zero)))))) now gave = absurd (unpolled Server now _ gave.poll.event refl)
+asked_waited Server (suc (suc (suc (suc (suc (suc (suc zero))))))) now gave = absurd (unpolled Server now _ gave.poll.event refl)
+asked_waited Server (suc (suc (suc (suc (suc (suc (suc (suc i)))))))) now gave = absurd (unpolled Server now _ gave.poll.event refl)
 
 -- ---- the timers
 

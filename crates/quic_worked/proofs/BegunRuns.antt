@@ -15,7 +15,7 @@ use Rattle.quic_headline.specs.Runs.{In, written}
 use Rattle.quic_headline.specs.InFlight.{is_max_data}
 use Rattle.quic_headline.specs.Duties.{AllData, on_half}
 use Rattle.quic_headline.specs.Moments.{went}
-use Rattle.quic_headline.specs.Observer.{Sent, HoldsOffset}
+use Rattle.quic_headline.specs.Observer.{Sent, HoldsOffset, has_changed}
 use Rattle.quic_headline.specs.Waited.{stands, is_path_challenge}
 use Rattle.quic_headline.specs.Begins.{Seen, Control, Ack, Ping, Challenge, Response, Byte, Frame, LimitOf, NewId, Retirement, control_waits, byte_waits, brings, asks_for, may_hasten, makes_ping, acknowledged_by, IsPending, HasCause, WasLost, still, begins, BeginsAt}
 use Rattle.quic_worked.specs.Credit.{narrow_bytes, credit_written, credit_sent, credit_read, credit_given, ReadsEight}
@@ -301,10 +301,14 @@ none_answers : is_some credit_given.server.waiting.signals.response ≡ false
 unfolding credit_given
 none_answers = refl
 
+path_stays : (read : ReadCall) → has_changed (pinging_seen read).before (pinging_seen read).behind ≡ false
+unfolding limit_came
+path_stays read = refl
+
 pub challenge_shows : (read : ReadCall) → BeginsAt (pinging_seen read) credit_given.server challenge_at_each_call.server → ⊥
 challenge_shows read h = elim (h Challenge refl) [
   | still set stays ↦ both_ways (is_some credit_given.server.waiting.signals.challenge) none_challenged set
-  | begins cause ↦ (let clash : false ≡ true = cause in cc)
+  | begins cause ↦ both_ways (has_changed (pinging_seen read).before (pinging_seen read).behind) (path_stays read) cause
 ]
 
 none_asks : (read : ReadCall) → brings is_path_challenge (pinging_seen read) ≡ false

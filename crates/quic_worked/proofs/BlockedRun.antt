@@ -29,7 +29,7 @@ use Rattle.quic_worked.specs.Paired.{writes_on}
 use Rattle.quic_worked.specs.Credit.{eight}
 use Rattle.quic_worked.specs.Timed.{serves, asks_at, comes_at}
 use Rattle.quic_worked.specs.Held.{gives_nothing}
-use Rattle.quic_worked.specs.Rested.{roomy_windows, rested_start, still_view, given_view, taken_view, rested_run, hello_packet, second_comes, told_view}
+use Rattle.quic_worked.specs.Rested.{roomy_windows, rested_start, still_view, given_view, taken_view, rested_run, second_comes, told_view}
 use Rattle.quic_worked.specs.Blocked.{blocked_run, five_places, small_parameters, small_start, once_left, left_run, eight_frame, eight_packet, eight_places}
 use Rattle.quic_worked.proofs.Codes.{no_codes}
 use Rattle.quic_worked.proofs.OwnIds.{AreOwn, own_ids}

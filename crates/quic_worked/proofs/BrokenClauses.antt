@@ -134,7 +134,7 @@ tells_twice h = let most : 2 ≤ 1 = (h Client 0 2 refl).0 in omega (arith, most
 
 -- the client's datagram, as it was sent
 abbrev hello_sent : Sent
-hello_sent = record { id = server_id; number = 0; reference = 0; frames = behind_ids (stream hello_frame ∷ []); moment = 0; size = 230 }
+hello_sent = record { id = server_id; number = 0; reference = 0; frames = behind_ids (stream hello_frame ∷ []); moment = 0; size = 230; generation = 0 }
 
 -- it is acknowledged once the server's datagram came, and not before
 pub acknowledged_last : (read : ReadCall) → acked_until (answered_run read) Client 8 ≡ hello_sent ∷ []

@@ -15,7 +15,7 @@ use Rattle.quic_worked.specs.Chunked.{writes_buffers, two_buffers, both_written,
 use Rattle.quic_worked.proofs.WorkedRun.{opens}
 use Rattle.quic_worked.proofs.Codes.{no_codes}
 use Rattle.quic_worked.proofs.BrokenRuns.{IsRefused, stops, behind}
-use Rattle.quic_worked.proofs.Steps.{counts_so}
+use Rattle.quic_worked.proofs.Steps.{StepsSo, steps_so}
 
 -- what a write of buffers is answered
 abbrev answer_to : List (List ℕ) → Answer
@@ -36,11 +36,15 @@ writes buffers are = record {
 }
 
 finishes : IsStep worked_policies chunks_written finishes_stream (answers.Finish (Ok tt)) chunks_ended
-finishes = record { answer = inl refl; end = refl; control = refl; heard = counts_so worked_policies chunks_written finishes_stream (answers.Finish (Ok tt)); openings = tt; others = refl; lacking = λ lacks. cc }
+finishes =
+    let s : StepsSo worked_policies chunks_written finishes_stream (answers.Finish (Ok tt)) chunks_ended = steps_so worked_policies chunks_written finishes_stream (answers.Finish (Ok tt)) refl in
+    record { answer = inl refl; end = s.end; control = s.control; heard = s.heard; openings = tt; others = s.others; lacking = λ lacks. cc }
 
 gives : IsStep worked_policies chunks_ended asks_datagram (gives_bytes 230) chunks_sent
 unfolding chunks_sent
-gives = record { answer = inl refl; end = refl; control = refl; heard = counts_so worked_policies chunks_ended asks_datagram (gives_bytes 230); openings = tt; others = refl; lacking = tt }
+gives =
+    let s : StepsSo worked_policies chunks_ended asks_datagram (gives_bytes 230) chunks_sent = steps_so worked_policies chunks_ended asks_datagram (gives_bytes 230) refl in
+    record { answer = inl refl; end = s.end; control = s.control; heard = s.heard; openings = tt; others = s.others; lacking = tt }
 
 sent_seen : record { client = sent_view; server = server_open } ≡ view_of chunks_sent
 unfolding chunks_sent

@@ -1,6 +1,6 @@
 -- Marks that are counted, PING that goes, and the timer of acknowledgements, in the machine's runs;
 -- and machines that count no mark, let PING wait, set that timer anew, or never.
-use Rattle.std.proofs.Common.{◌≡◌, ℕ, zero, suc, ◌+◌, ◌≤◌, true, false, List, [], ◌∷◌, ◌++◌, Some, None, Ok, Option, refl, inl, inr, ap, ◌∙◌, sym, subst, arith}
+use Rattle.std.proofs.Common.{◌≡◌, ℕ, zero, suc, ◌≤◌, true, false, List, [], ◌∷◌, ◌++◌, Some, None, Ok, Option, refl, inl, inr, ap, ◌∙◌, sym, subst, arith}
 use Rattle.std.specs.Prelude.{slice_get}
 use Rattle.std.specs.List.{list_any}
 use Rattle.quic_wire_core.specs.declared.stream_id.Side.{Side}
@@ -38,6 +38,7 @@ use Rattle.quic_worked.proofs.WorkedHonest.{are_started}
 use Rattle.quic_worked.proofs.WorkedKeys.{are_keys}
 use Rattle.quic_worked.proofs.Steps.{counts_so}
 use Rattle.quic_worked.proofs.Validated.{unless_limited}
+use Rattle.quic_worked.proofs.Unpolled.{unpolled}
 use Rattle.quic_worked.proofs.TimedRun.{ack_moment_of, moment_in}
 use Rattle.quic_worked.proofs.HastyRun.{step_0, step_1, step_2, step_3, step_4, seen_0, seen_1, seen_2, seen_3, seen_4, marked_0, marked_1, marked_2}
 
@@ -94,18 +95,18 @@ AtPoll i = (side : Side) (now : ℕ) (given : GaveOne marked_run side i now) (a 
 
 at_first : AtPoll 1
 at_first Client now given a among = absurd (none_named a (subst (λ (s : Sent). In (ack a) s.frames) (client_sent now given) among))
-at_first Server now given a among = (let event = given.poll.event in cc)
+at_first Server now given a among = absurd (unpolled Server now _ given.poll.event refl)
 
 at_second : AtPoll 3
-at_second Client now given a among = (let event = given.poll.event in cc)
+at_second Client now given a among = absurd (unpolled Client now _ given.poll.event refl)
 at_second Server now given a among = counts_one a (subst (λ (s : Sent). In (ack a) s.frames) (server_sent now given) among) ∙ sym one_counted
 
 pub marks_counted : AcksCountMarks marked_run
-marks_counted side zero now given a among = (let event = given.poll.event in cc)
+marks_counted side zero now given a among = absurd (unpolled side now _ given.poll.event refl)
 marks_counted side (suc zero) now given a among = at_first side now given a among
-marks_counted side (suc (suc zero)) now given a among = (let event = given.poll.event in cc)
+marks_counted side (suc (suc zero)) now given a among = absurd (unpolled side now _ given.poll.event refl)
 marks_counted side (suc (suc (suc zero))) now given a among = at_second side now given a among
-marks_counted side (suc (suc (suc (suc i)))) now given a among = (let event = given.poll.event in cc)
+marks_counted side (suc (suc (suc (suc i)))) now given a among = absurd (unpolled side now _ given.poll.event refl)
 
 -- ---- a server that counts none
 
@@ -160,18 +161,18 @@ Along i = (side : Side) (now : ℕ) (given : GaveAsking marked_run side i now) �
 
 along_first : Along 1
 along_first Client now given = subst (λ (s : Sent). list_any is_ping s.frames ≡ true) (sym (client_sent now given.one)) refl
-along_first Server now given = (let event = given.one.poll.event in cc)
+along_first Server now given = absurd (unpolled Server now _ given.one.poll.event refl)
 
 along_second : Along 3
-along_second Client now given = (let event = given.one.poll.event in cc)
+along_second Client now given = absurd (unpolled Client now _ given.one.poll.event refl)
 along_second Server now given = (let clash : false ≡ true = sym (ap (λ (s : Sent). asks_of s) (server_sent now given.one)) ∙ given.asks in cc)
 
 goes_along : (side : Side) (i now : ℕ) (given : GaveAsking marked_run side i now) → (wants marked_run side i).pinged ≡ true → list_any is_ping given.one.sent.frames ≡ true
-goes_along side zero now given wanted = (let event = given.one.poll.event in cc)
+goes_along side zero now given wanted = absurd (unpolled side now _ given.one.poll.event refl)
 goes_along side (suc zero) now given wanted = along_first side now given
-goes_along side (suc (suc zero)) now given wanted = (let event = given.one.poll.event in cc)
+goes_along side (suc (suc zero)) now given wanted = absurd (unpolled side now _ given.one.poll.event refl)
 goes_along side (suc (suc (suc zero))) now given wanted = along_second side now given
-goes_along side (suc (suc (suc (suc i)))) now given wanted = (let event = given.one.poll.event in cc)
+goes_along side (suc (suc (suc (suc i)))) now given wanted = absurd (unpolled side now _ given.one.poll.event refl)
 
 -- each poll gives something
 never_nothing : (side : Side) (i now : ℕ) (v : View) → GaveNothing marked_run side i now v → ⊥

@@ -24,7 +24,7 @@ use Rattle.quic_worked.specs.Held.{gives_nothing}
 use Rattle.quic_worked.specs.Losses.{asks_ping}
 use Rattle.quic_worked.specs.Timed.{asks_at, seen_with}
 use Rattle.quic_worked.specs.Asking.{comes_there, once_asked}
-use Rattle.quic_worked.specs.Obeying.{once_early, early_run, acks_early, early_ack, acks_first, first_ack}
+use Rattle.quic_worked.specs.Obeying.{once_early, early_events, answers_early, early_run, acks_early, early_ack, acks_first, first_ack}
 use Rattle.quic_worked.proofs.AskingRuns as asked
 use Rattle.quic_worked.proofs.HastyRun as hasty
 use Rattle.quic_worked.proofs.RepeatedRuns.{alone_closes}
@@ -32,26 +32,34 @@ use Rattle.quic_worked.proofs.WorkedHonest.{are_started}
 use Rattle.quic_worked.proofs.BrokenRuns.{IsRefused, stops, behind}
 use Rattle.quic_worked.proofs.Codes.{no_codes}
 use Rattle.quic_worked.proofs.OwnIds.{AreOwn, own_ids}
-use Rattle.quic_worked.proofs.Steps.{counts_so, still_steady, still_shut}
+use Rattle.quic_worked.proofs.Steps.{steps_at, StepsSo}
 use Rattle.quic_worked.proofs.WorkedKeys.{are_keys}
 
 -- ---- the machine's run
 
 early_0 : IsStep worked_policies (once_asked 7) asks_ping answers.Ping (once_early 1)
 unfolding once_early
-early_0 = record { answer = refl; end = refl; control = still_steady; heard = counts_so worked_policies (once_asked 7) asks_ping answers.Ping; openings = tt; others = refl; lacking = tt }
+early_0 =
+    let s : StepsSo worked_policies (once_asked 7) asks_ping answers.Ping (once_early 1) = steps_at worked_policies (once_asked 7) early_events (answers_early gives_nothing) 0 asks_ping answers.Ping _ _ refl refl refl in
+    record { answer = refl; end = s.end; control = s.control; heard = s.heard; openings = tt; others = s.others; lacking = tt }
 
 early_1 : IsStep worked_policies (once_early 1) (asks_at Client 20000000) (gives_unmarked 32) (once_early 2)
 unfolding once_early
-early_1 = record { answer = inl refl; end = refl; control = still_steady; heard = counts_so worked_policies (once_early 1) (asks_at Client 20000000) (gives_unmarked 32); openings = tt; others = refl; lacking = tt }
+early_1 =
+    let s : StepsSo worked_policies (once_early 1) (asks_at Client 20000000) (gives_unmarked 32) (once_early 2) = steps_at worked_policies (once_asked 7) early_events (answers_early gives_nothing) 1 (asks_at Client 20000000) (gives_unmarked 32) _ _ refl refl refl in
+    record { answer = inl refl; end = s.end; control = s.control; heard = s.heard; openings = tt; others = s.others; lacking = tt }
 
 early_2 : IsStep worked_policies (once_early 2) (comes_there 2 25000000) (answers.Deliver receives.Taken) (once_early 3)
 unfolding once_early
-early_2 = record { answer = inl refl; end = refl; control = still_shut; heard = counts_so worked_policies (once_early 2) (comes_there 2 25000000) (answers.Deliver receives.Taken); openings = tt; others = refl; lacking = tt }
+early_2 =
+    let s : StepsSo worked_policies (once_early 2) (comes_there 2 25000000) (answers.Deliver receives.Taken) (once_early 3) = steps_at worked_policies (once_asked 7) early_events (answers_early gives_nothing) 2 (comes_there 2 25000000) (answers.Deliver receives.Taken) _ _ refl refl refl in
+    record { answer = inl refl; end = s.end; control = s.control; heard = s.heard; openings = tt; others = s.others; lacking = tt }
 
 early_3 : IsStep worked_policies (once_early 3) (asks_at Server 25000000) gives_nothing (once_early 4)
 unfolding once_early
-early_3 = record { answer = inl refl; end = refl; control = still_shut; heard = counts_so worked_policies (once_early 3) (asks_at Server 25000000) gives_nothing; openings = tt; others = refl; lacking = tt }
+early_3 =
+    let s : StepsSo worked_policies (once_early 3) (asks_at Server 25000000) gives_nothing (once_early 4) = steps_at worked_policies (once_asked 7) early_events (answers_early gives_nothing) 3 (asks_at Server 25000000) gives_nothing _ _ refl refl refl in
+    record { answer = inl refl; end = s.end; control = s.control; heard = s.heard; openings = tt; others = s.others; lacking = tt }
 
 early_seen_0 : seen_with (Some 90000000) None ≡ view_of (once_early 1)
 unfolding once_early

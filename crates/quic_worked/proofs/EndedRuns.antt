@@ -317,7 +317,7 @@ early_is_none views end is = never_polls (sealing 9) (gives_bytes 30) early_no v
 
 -- the server's datagram as it was sent
 abbrev naming_close : Sent
-naming_close = record { id = client_id; number = 0; reference = 0; frames = ack (record { largest = 0; delay = 0; ranges = (0, 0) ∷ []; ecn = None }) ∷ []; moment = 0; size = 31 }
+naming_close = record { id = client_id; number = 0; reference = 0; frames = ack (record { largest = 0; delay = 0; ranges = (0, 0) ∷ []; ecn = None }) ∷ []; moment = 0; size = 31; generation = 0 }
 
 named_sent : sents_until close_named Server 4 ≡ sents_until close_named Server 3 ++ naming_close ∷ []
 unfolding client_acked application_close_at

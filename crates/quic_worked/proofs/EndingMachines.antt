@@ -167,7 +167,7 @@ said_once code text s =
 
 -- a close under number 1 with a code and a text
 abbrev other_sent : ℕ → List ℕ → Sent
-other_sent code text = record { id = server_id; number = 1; reference = 0; frames = application_close (record { code = code; reason = text }) ∷ []; moment = 0; size = 34 }
+other_sent code text = record { id = server_id; number = 1; reference = 0; frames = application_close (record { code = code; reason = text }) ∷ []; moment = 0; size = 34; generation = 0 }
 
 code_sent : sents_until other_code Client 4 ≡ ids_sent ∷ other_sent 8 hello ∷ []
 unfolding client_acked application_close_at
@@ -235,7 +235,7 @@ abbrev seven_frame : FrameValue
 seven_frame = application_close (record { code = 7; reason = [] })
 
 abbrev seven_sent : Sent
-seven_sent = record { id = server_id; number = 0; reference = 0; frames = seven_frame ∷ []; moment = 0; size = 29 }
+seven_sent = record { id = server_id; number = 0; reference = 0; frames = seven_frame ∷ []; moment = 0; size = 29; generation = 0 }
 
 seven_alone : sents_until other_peer Client 2 ≡ seven_sent ∷ []
 unfolding client_acked application_close_at

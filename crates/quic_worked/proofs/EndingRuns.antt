@@ -41,13 +41,15 @@ use Rattle.quic_worked.specs.Ending.{close_call, closes_late, close_comes, endin
 use Rattle.quic_worked.proofs.Codes.{AllSmall, small_codes}
 use Rattle.quic_worked.proofs.OwnIds.{honest_steady}
 use Rattle.quic_worked.proofs.TimedRun.{moment_in}
-use Rattle.quic_worked.proofs.Steps.{counts_so, others_so}
+use Rattle.quic_worked.proofs.Steps.{StepsSo, steps_at, steps_so}
 
 -- ---- the machine's run
 
 pub server_tells : IsStep worked_policies both_steady asks_server (gives_bytes 222) (once_ending 1)
 unfolding once_ending
-server_tells = record { answer = inl refl; end = refl; control = refl; heard = counts_so worked_policies both_steady asks_server (gives_bytes 222); openings = tt; others = refl; lacking = tt }
+server_tells =
+    let s : StepsSo worked_policies both_steady asks_server (gives_bytes 222) (once_ending 1) = steps_at worked_policies both_steady ending_events ending_answers 0 asks_server (gives_bytes 222) _ _ refl refl refl in
+    record { answer = inl refl; end = s.end; control = s.control; heard = s.heard; openings = tt; others = s.others; lacking = tt }
 
 seen_0 : server_waits open_view ≡ view_of (once_ending 1)
 unfolding once_ending
@@ -55,7 +57,9 @@ seen_0 = refl
 
 pub client_tells : IsStep worked_policies (once_ending 1) asks_datagram (gives_bytes 222) (once_ending 2)
 unfolding once_ending
-client_tells = record { answer = inl refl; end = refl; control = refl; heard = counts_so worked_policies (once_ending 1) asks_datagram (gives_bytes 222); openings = tt; others = refl; lacking = tt }
+client_tells =
+    let s : StepsSo worked_policies (once_ending 1) asks_datagram (gives_bytes 222) (once_ending 2) = steps_at worked_policies both_steady ending_events ending_answers 1 asks_datagram (gives_bytes 222) _ _ refl refl refl in
+    record { answer = inl refl; end = s.end; control = s.control; heard = s.heard; openings = tt; others = s.others; lacking = tt }
 
 seen_1 : server_waits sent_view ≡ view_of (once_ending 2)
 unfolding once_ending
@@ -63,7 +67,9 @@ seen_1 = refl
 
 pub closes : IsStep worked_policies (once_ending 2) closes_late answers.Close (once_ending 3)
 unfolding once_ending
-closes = record { answer = refl; end = refl; control = refl; heard = counts_so worked_policies (once_ending 2) closes_late answers.Close; openings = tt; others = refl; lacking = tt }
+closes =
+    let s : StepsSo worked_policies (once_ending 2) closes_late answers.Close (once_ending 3) = steps_at worked_policies both_steady ending_events ending_answers 2 closes_late answers.Close _ _ refl refl refl in
+    record { answer = refl; end = s.end; control = s.control; heard = s.heard; openings = tt; others = s.others; lacking = tt }
 
 seen_2 : server_waits (closing_until 4072000000) ≡ view_of (once_ending 3)
 unfolding once_ending
@@ -71,7 +77,9 @@ seen_2 = refl
 
 pub gives_close : IsStep worked_policies (once_ending 3) (asks_at Client 1000000000) (gives_bytes 34) (once_ending 4)
 unfolding once_ending
-gives_close = record { answer = inl refl; end = refl; control = refl; heard = counts_so worked_policies (once_ending 3) (asks_at Client 1000000000) (gives_bytes 34); openings = tt; others = refl; lacking = tt }
+gives_close =
+    let s : StepsSo worked_policies (once_ending 3) (asks_at Client 1000000000) (gives_bytes 34) (once_ending 4) = steps_at worked_policies both_steady ending_events ending_answers 3 (asks_at Client 1000000000) (gives_bytes 34) _ _ refl refl refl in
+    record { answer = inl refl; end = s.end; control = s.control; heard = s.heard; openings = tt; others = s.others; lacking = tt }
 
 seen_3 : server_waits (closing_until 4072000000) ≡ view_of (once_ending 4)
 unfolding once_ending
@@ -79,7 +87,9 @@ seen_3 = refl
 
 pub is_closing : IsStep worked_policies (once_ending 4) (comes_at Client 2000000000) (answers.Deliver (receives.Dropped drops.Closing)) (once_ending 5)
 unfolding once_ending
-is_closing = record { answer = inl refl; end = refl; control = refl; heard = counts_so worked_policies (once_ending 4) (comes_at Client 2000000000) (answers.Deliver (receives.Dropped drops.Closing)); openings = tt; others = refl; lacking = tt }
+is_closing =
+    let s : StepsSo worked_policies (once_ending 4) (comes_at Client 2000000000) (answers.Deliver (receives.Dropped drops.Closing)) (once_ending 5) = steps_at worked_policies both_steady ending_events ending_answers 4 (comes_at Client 2000000000) (answers.Deliver (receives.Dropped drops.Closing)) _ _ refl refl refl in
+    record { answer = inl refl; end = s.end; control = s.control; heard = s.heard; openings = tt; others = s.others; lacking = tt }
 
 seen_4 : server_waits (closing_until 4072000000) ≡ view_of (once_ending 5)
 unfolding once_ending
@@ -87,7 +97,9 @@ seen_4 = refl
 
 pub gives_again : IsStep worked_policies (once_ending 5) (asks_at Client 2000000000) (gives_bytes 34) (once_ending 6)
 unfolding once_ending
-gives_again = record { answer = inl refl; end = refl; control = refl; heard = counts_so worked_policies (once_ending 5) (asks_at Client 2000000000) (gives_bytes 34); openings = tt; others = refl; lacking = tt }
+gives_again =
+    let s : StepsSo worked_policies (once_ending 5) (asks_at Client 2000000000) (gives_bytes 34) (once_ending 6) = steps_at worked_policies both_steady ending_events ending_answers 5 (asks_at Client 2000000000) (gives_bytes 34) _ _ refl refl refl in
+    record { answer = inl refl; end = s.end; control = s.control; heard = s.heard; openings = tt; others = s.others; lacking = tt }
 
 seen_5 : server_waits (closing_until 4072000000) ≡ view_of (once_ending 6)
 unfolding once_ending
@@ -95,7 +107,9 @@ seen_5 = refl
 
 pub server_takes : IsStep worked_policies (once_ending 6) close_comes (answers.Deliver receives.Taken) (once_ending 7)
 unfolding once_ending application_close_at
-server_takes = record { answer = inl refl; end = refl; control = refl; heard = counts_so worked_policies (once_ending 6) close_comes (answers.Deliver receives.Taken); openings = tt; others = refl; lacking = tt }
+server_takes =
+    let s : StepsSo worked_policies (once_ending 6) close_comes (answers.Deliver receives.Taken) (once_ending 7) = steps_at worked_policies both_steady ending_events ending_answers 6 close_comes (answers.Deliver receives.Taken) _ _ refl refl refl in
+    record { answer = inl refl; end = s.end; control = s.control; heard = s.heard; openings = tt; others = s.others; lacking = tt }
 
 seen_6 : server_ended (closing_until 4072000000) ≡ view_of (once_ending 7)
 unfolding once_ending application_close_at
@@ -103,7 +117,9 @@ seen_6 = refl
 
 pub is_drained : IsStep worked_policies (once_ending 7) (serves Client 4072000000) (answers.Timeout (Ok tt)) once_drained
 unfolding once_drained application_close_at
-is_drained = record { answer = inl refl; end = refl; control = refl; heard = counts_so worked_policies (once_ending 7) (serves Client 4072000000) (answers.Timeout (Ok tt)); openings = tt; others = others_so worked_policies (once_ending 7) (serves Client 4072000000) (answers.Timeout (Ok tt)); lacking = tt }
+is_drained =
+    let s : StepsSo worked_policies (once_ending 7) (serves Client 4072000000) (answers.Timeout (Ok tt)) once_drained = steps_so worked_policies (once_ending 7) (serves Client 4072000000) (answers.Timeout (Ok tt)) refl in
+    record { answer = inl refl; end = s.end; control = s.control; heard = s.heard; openings = tt; others = s.others; lacking = tt }
 
 seen_7 : server_ended client_drained ≡ view_of once_drained
 unfolding once_drained application_close_at
@@ -111,7 +127,9 @@ seen_7 = refl
 
 is_silent : IsStep worked_policies once_drained (asks_at Client 4072000000) gives_nothing once_silent
 unfolding once_silent application_close_at
-is_silent = record { answer = inl refl; end = refl; control = refl; heard = counts_so worked_policies once_drained (asks_at Client 4072000000) gives_nothing; openings = tt; others = others_so worked_policies once_drained (asks_at Client 4072000000) gives_nothing; lacking = tt }
+is_silent =
+    let s : StepsSo worked_policies once_drained (asks_at Client 4072000000) gives_nothing once_silent = steps_so worked_policies once_drained (asks_at Client 4072000000) gives_nothing refl in
+    record { answer = inl refl; end = s.end; control = s.control; heard = s.heard; openings = tt; others = s.others; lacking = tt }
 
 seen_8 : server_ended client_drained ≡ view_of once_silent
 unfolding once_silent application_close_at

@@ -50,7 +50,7 @@ use Rattle.quic_worked.proofs.BrokenRuns.{IsRefused, stops, behind, behind_sent}
 use Rattle.quic_worked.proofs.LimitedRun.{limited_started, opens as opens_limited}
 use Rattle.quic_worked.proofs.ReorderedRun as reordered
 use Rattle.quic_worked.proofs.ReorderedRun.{writes_abc, gives_abc, writes_def, gives_def, takes_def}
-use Rattle.quic_worked.proofs.Steps.{counts_so}
+use Rattle.quic_worked.proofs.Steps.{StepsSo, counts_so, steps_so}
 
 -- ---- limits that are the end's own
 
@@ -139,18 +139,26 @@ one_back_started = record {
 }
 
 opens_way : IsStep worked_policies one_back opens_one_way (answers.Open (Some 2)) one_way_opened
-opens_way = record { answer = refl; end = refl; control = refl; heard = counts_so worked_policies one_back opens_one_way (answers.Open (Some 2)); openings = tt; others = refl; lacking = tt }
+opens_way =
+    let s : StepsSo worked_policies one_back opens_one_way (answers.Open (Some 2)) one_way_opened = steps_so worked_policies one_back opens_one_way (answers.Open (Some 2)) refl in
+    record { answer = refl; end = s.end; control = s.control; heard = s.heard; openings = tt; others = s.others; lacking = tt }
 
 writes_way : IsStep worked_policies one_way_opened (writes_on 2 hello) (answers.Write (Ok 5)) one_way_written
-writes_way = record { answer = inl refl; end = refl; control = refl; heard = counts_so worked_policies one_way_opened (writes_on 2 hello) (answers.Write (Ok 5)); openings = tt; others = refl; lacking = λ lacks. cc }
+writes_way =
+    let s : StepsSo worked_policies one_way_opened (writes_on 2 hello) (answers.Write (Ok 5)) one_way_written = steps_so worked_policies one_way_opened (writes_on 2 hello) (answers.Write (Ok 5)) refl in
+    record { answer = inl refl; end = s.end; control = s.control; heard = s.heard; openings = tt; others = s.others; lacking = λ lacks. cc }
 
 gives_way : IsStep worked_policies one_way_written asks_datagram (gives_bytes 230) one_way_sent
 unfolding one_way_sent
-gives_way = record { answer = inl refl; end = refl; control = refl; heard = counts_so worked_policies one_way_written asks_datagram (gives_bytes 230); openings = tt; others = refl; lacking = tt }
+gives_way =
+    let s : StepsSo worked_policies one_way_written asks_datagram (gives_bytes 230) one_way_sent = steps_so worked_policies one_way_written asks_datagram (gives_bytes 230) refl in
+    record { answer = inl refl; end = s.end; control = s.control; heard = s.heard; openings = tt; others = s.others; lacking = tt }
 
 takes_way : IsStep worked_policies one_way_sent delivers (answers.Deliver receives.Taken) one_way_taken
 unfolding one_way_taken
-takes_way = record { answer = inl refl; end = refl; control = refl; heard = counts_so worked_policies one_way_sent delivers (answers.Deliver receives.Taken); openings = tt; others = refl; lacking = tt }
+takes_way =
+    let s : StepsSo worked_policies one_way_sent delivers (answers.Deliver receives.Taken) one_way_taken = steps_so worked_policies one_way_sent delivers (answers.Deliver receives.Taken) refl in
+    record { answer = inl refl; end = s.end; control = s.control; heard = s.heard; openings = tt; others = s.others; lacking = tt }
 
 -- the stream that an answer accepts
 abbrev accepted_in : Answer → ℕ
@@ -196,7 +204,9 @@ instead_is_honest = record { start = one_back_started; keys = are_keys; ids = ow
 
 accepts_none : IsStep worked_policies once_read accepts_stream (answers.Accept None) nothing_to_accept
 unfolding once_taken
-accepts_none = record { answer = refl; end = refl; control = refl; heard = counts_so worked_policies once_read accepts_stream (answers.Accept None); openings = tt; others = refl; lacking = tt }
+accepts_none =
+    let s : StepsSo worked_policies once_read accepts_stream (answers.Accept None) nothing_to_accept = steps_so worked_policies once_read accepts_stream (answers.Accept None) refl in
+    record { answer = refl; end = s.end; control = s.control; heard = s.heard; openings = tt; others = s.others; lacking = tt }
 
 none_seen : record { client = sent_view; server = server_waiting } ≡ view_of nothing_to_accept
 unfolding once_taken

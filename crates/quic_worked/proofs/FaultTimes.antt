@@ -41,7 +41,7 @@ use Rattle.quic_worked.proofs.Named.{ack_of_hello}
 use Rattle.quic_worked.proofs.TimedRun.{moment_in, moment_of}
 use Rattle.quic_worked.proofs.HeldRun as held
 use Rattle.quic_worked.proofs.MessageRuns.{step_0}
-use Rattle.quic_worked.proofs.Steps.{others_so, counts_so}
+use Rattle.quic_worked.proofs.Steps.{StepsSo, counts_so, steps_so}
 
 -- ---- what is dropped moves no clock
 
@@ -118,7 +118,9 @@ quiet_is_run read = record { codes = no_codes (quiet_run read).events refl; foll
 
 nothing_told : IsStep worked_policies once_told asks_event (answers.Event None) nothing_to_tell
 unfolding once_acked
-nothing_told = record { answer = refl; end = refl; control = refl; heard = counts_so worked_policies once_told asks_event (answers.Event None); openings = tt; others = refl; lacking = tt }
+nothing_told =
+    let s : StepsSo worked_policies once_told asks_event (answers.Event None) nothing_to_tell = steps_so worked_policies once_told asks_event (answers.Event None) refl in
+    record { answer = refl; end = s.end; control = s.control; heard = s.heard; openings = tt; others = s.others; lacking = tt }
 
 told_seen : both_open ≡ view_of once_told
 unfolding once_acked
@@ -182,7 +184,7 @@ stays_is_honest = acknowledged_is_honest sent_view
 
 -- the one datagram that the client gave, and the packet that it took
 abbrev hello_sent : Sent
-hello_sent = record { id = server_id; number = 0; reference = 0; frames = behind_ids (stream hello_frame ∷ []); moment = 0; size = 230 }
+hello_sent = record { id = server_id; number = 0; reference = 0; frames = behind_ids (stream hello_frame ∷ []); moment = 0; size = 230; generation = 0 }
 
 abbrev ack_packet : Packet
 ack_packet = record { number = 0; frames = ack ack_of_hello ∷ [] }
@@ -225,7 +227,7 @@ hello_is_told read = refl
 
 -- what the observer reads of the client's datagrams: the second alone
 abbrev ping_sent : Sent
-ping_sent = record { id = server_id; number = 1; reference = 0; frames = frames_of (items ping_payload); moment = 0; size = 29 }
+ping_sent = record { id = server_id; number = 1; reference = 0; frames = frames_of (items ping_payload); moment = 0; size = 29; generation = 0 }
 
 never_opens : opened_there cut_short Client 6 (client_datagram 300 250 hello_whole) ≡ None
 never_opens = refl
@@ -268,11 +270,15 @@ never_short views end is = not_short.never views end is.follows is.from_client
 
 waits_behind : IsStep worked_policies (once_held 3) (sends_message ping_message) is_sent held_message
 unfolding held_message
-waits_behind = record { answer = inl refl; end = refl; control = refl; heard = counts_so worked_policies (once_held 3) (sends_message ping_message) is_sent; openings = tt; others = others_so worked_policies (once_held 3) (sends_message ping_message) is_sent; lacking = λ lacks. cc }
+waits_behind =
+    let s : StepsSo worked_policies (once_held 3) (sends_message ping_message) is_sent held_message = steps_so worked_policies (once_held 3) (sends_message ping_message) is_sent refl in
+    record { answer = inl refl; end = s.end; control = s.control; heard = s.heard; openings = tt; others = s.others; lacking = λ lacks. cc }
 
 holds_it : IsStep worked_policies held_message (asks_at Client 0) gives_nothing message_held
 unfolding message_held
-holds_it = record { answer = inl refl; end = refl; control = refl; heard = counts_so worked_policies held_message (asks_at Client 0) gives_nothing; openings = tt; others = refl; lacking = tt }
+holds_it =
+    let s : StepsSo worked_policies held_message (asks_at Client 0) gives_nothing message_held = steps_so worked_policies held_message (asks_at Client 0) gives_nothing refl in
+    record { answer = inl refl; end = s.end; control = s.control; heard = s.heard; openings = tt; others = s.others; lacking = tt }
 
 waits_seen : full_view ≡ view_of held_message
 unfolding held_message

@@ -1,6 +1,6 @@
 -- A client that forgets a datagram which never came doesn't wait for what is in flight, leaves
 -- bytes that are nowhere, and no run leads to it.
-use Rattle.std.proofs.Common.{take, map, ◌≡◌, [], ◌∷◌, true, refl, ap, ◌∙◌, ◌⊎◌, inl, inr, arith}
+use Rattle.std.proofs.Common.{false, take, map, ◌≡◌, [], ◌∷◌, true, refl, ap, ◌∙◌, ◌⊎◌, inl, inr, arith}
 use Rattle.quic_wire_core.specs.declared.stream_id.Side.TheVariants.{Client, Server}
 use Rattle.quic_machine.specs.declared.answers.State.TheVariants as states
 use Rattle.quic_machine.specs.declared.run.ReadCall.{ReadCall}
@@ -17,6 +17,7 @@ use Rattle.quic_worked.specs.Broken.{NeverLeads, sending_run, answered_run, forg
 use Rattle.quic_machine.specs.RunLaws.{one_run}
 use Rattle.quic_worked.proofs.WorkedRun.{opens, writes, finishes, gives, sent_seen}
 use Rattle.quic_retransmits.specs.Retransmits.{nothing_waits}
+use Rattle.quic_worked.proofs.Unmoved.{client_tells_stays}
 
 -- ---- what is in flight, at each place
 
@@ -67,7 +68,7 @@ nowhere read (inr (inr a)) = a.taken.was_taken
 
 -- the client wrote five bytes, of which none waits, is under way or came
 pub loses : (read : ReadCall) → DutiesAt (sending_run read) 4 forgotten → ⊥
-loses read stands = nowhere read (stands Client (Offset 0 0) (refl, omega arith))
+loses read stands = nowhere read (stands Client (λ n. false) (Offset 0 0) (client_tells_stays (sending_run read) (λ n. false)) (refl, omega arith))
 
 -- the machine gives the datagram, and waits for it
 sends : Follows worked_policies started sending_events sending_answers (take 4 worked_views) once_sent

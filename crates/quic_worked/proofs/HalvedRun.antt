@@ -19,10 +19,11 @@ use Rattle.quic_machine.specs.Machine.{IsStep, Follows, end_at, view_of}
 use Rattle.quic_machine.specs.RunLaws.{one_run}
 use Rattle.quic_headline.specs.Runs.{Packet, In, names, until, and_told}
 use Rattle.quic_headline.specs.Runs as of_runs
-use Rattle.quic_headline.specs.Observer.{Watch, Lens, asks_of, news, has_opened, moment_of, clock_behind, lens_of, watch_from, watch}
+use Rattle.quic_headline.specs.Observer.{Watch, Lens, news, has_opened, moment_of, clock_behind, lens_of, watch_from, watch}
 use Rattle.quic_headline.specs.Observer as observer
 use Rattle.quic_headline.specs.Headline.{IsHonest, IsRun}
-use Rattle.quic_headline.specs.Telling.{Tellings, Judging, judging, told_if, MayProbe, lost_at, but_for_probe, bytes_asking, acked_flight, TellsLosses, TellsAck, TellsNamed, TellsSettled, TellsPackets, TellsCall, TellsCalls, shows_validated, ControllersAreTold}
+use Rattle.quic_headline.specs.Polls.{counts_on, bytes_on}
+use Rattle.quic_headline.specs.Telling.{Tellings, Judging, judging, told_if, MayProbe, lost_at, but_for_probe, acked_flight, TellsLosses, TellsAck, TellsNamed, TellsSettled, TellsPackets, TellsCall, TellsCalls, shows_validated, ControllersAreTold}
 use Rattle.quic_worked.specs.Worked.{worked_policies, asks_datagram, gives_bytes, told_in, server_id, id_frames}
 use Rattle.quic_headline.specs.AppLimited.{CountsAt}
 use Rattle.quic_headline.proofs.AppLimited.Clause.{controllers_are_told}
@@ -230,11 +231,11 @@ clock_is = refl
 
 -- a datagram of PING alone, with two zeros
 abbrev pinged : ℕ → observer.Sent
-pinged n = record { id = server_id; number = n; reference = 0; frames = ping ∷ padding ∷ padding ∷ []; moment = 0; size = 29 }
+pinged n = record { id = server_id; number = n; reference = 0; frames = ping ∷ padding ∷ padding ∷ []; moment = 0; size = 29; generation = 0 }
 
 -- and the first one, which told its ids
 abbrev first_pinged : observer.Sent
-first_pinged = record { id = server_id; number = 0; reference = 0; frames = ping ∷ id_frames; moment = 0; size = 223 }
+first_pinged = record { id = server_id; number = 0; reference = 0; frames = ping ∷ id_frames; moment = 0; size = 223; generation = 0 }
 
 abbrev others : List observer.Sent
 others = filter (λ (s : observer.Sent). not (names third_ack s.number)) seen.flight.flying
@@ -250,19 +251,23 @@ lost_is : lost_at lens.terms 100000000 behind ≡ first_pinged ∷ []
 unfolding client_acked
 lost_is = refl
 
+unmoved : seen.route.generation ≡ 0
+unfolding client_acked
+unmoved = refl
+
 -- it is too small for a probe
 no_probe : MayProbe settings.min_mtu first_pinged → ⊥
 no_probe p = let least : 1200 ≤ 223 = p.sized in omega (arith, least)
 
-one_asks : (probe : Option ℕ) → ((s : observer.Sent) → In s (lost_at lens.terms 100000000 behind) → is_number s.number probe ≡ true → MayProbe settings.min_mtu s) → list_any asks_of (but_for_probe probe (lost_at lens.terms 100000000 behind)) ≡ true
-one_asks probe pings = ap (λ (ss : List observer.Sent). list_any asks_of (but_for_probe probe ss)) lost_is ∙ go (is_number 0 probe) refl
+one_asks : (probe : Option ℕ) → ((s : observer.Sent) → In s (lost_at lens.terms 100000000 behind) → is_number s.number probe ≡ true → MayProbe settings.min_mtu s) → list_any (counts_on 0) (but_for_probe probe (lost_at lens.terms 100000000 behind)) ≡ true
+one_asks probe pings = ap (λ (ss : List observer.Sent). list_any (counts_on 0) (but_for_probe probe ss)) lost_is ∙ go (is_number 0 probe) refl
   where
     among : In first_pinged (lost_at lens.terms 100000000 behind)
     among = subst (λ (ss : List observer.Sent). In first_pinged ss) (sym lost_is) (inl refl)
 
-    go : (b : Bool) → is_number 0 probe ≡ b → list_any asks_of (but_for_probe probe (first_pinged ∷ [])) ≡ true
+    go : (b : Bool) → is_number 0 probe ≡ b → list_any (counts_on 0) (but_for_probe probe (first_pinged ∷ [])) ≡ true
     go true is = absurd (no_probe (pings first_pinged among is))
-    go false is = ap (λ (b : Bool). list_any asks_of (cond (not b) (first_pinged ∷ []) [])) is
+    go false is = ap (λ (b : Bool). list_any (counts_on 0) (cond (not b) (first_pinged ∷ []) [])) is
 
 module _ (validated : Bool) (first : Option ℕ) (limited : Bool) where
   -- by what losses are judged there, where this number went next as a round trip was first measured
@@ -272,11 +277,12 @@ module _ (validated : Bool) (first : Option ℕ) (limited : Bool) where
   losses_congest : (told : Tellings) → TellsLosses j 100000000 true behind told → list_any is_congestion told ≡ true
   losses_congest told x =
       ap (λ (us : Tellings). list_any is_congestion us) x.is
-      ∙ any_right is_congestion (told_if x.falls (Resized settings.min_mtu)) _ (told_one (list_any asks_of (but_for_probe x.probe (lost_at lens.terms 100000000 behind))) 100000000 _ x.persists _ (one_asks x.probe x.pinged))
+      ∙ any_right is_congestion (told_if x.falls (Resized settings.min_mtu)) _ (told_one (list_any (counts_on seen.route.generation) (but_for_probe x.probe (lost_at lens.terms 100000000 behind))) 100000000 _ x.persists _
+      (subst (λ (n : ℕ). list_any (counts_on n) (but_for_probe x.probe (lost_at lens.terms 100000000 behind)) ≡ true) (sym unmoved) (one_asks x.probe x.pinged)))
 
   -- the ACK frame ends so
   abbrev ended : Told
-  ended = AcksEnded 100000000 (min (bytes_asking others) observer.latest) limited (Some (greatest_of seen.flight.named third_ack.largest))
+  ended = AcksEnded 100000000 (min (bytes_on seen.route.generation others) observer.latest) limited (Some (greatest_of seen.flight.named third_ack.largest))
 
   settled_congests : (told : Tellings) → TellsSettled j 100000000 third_ack (pinged 3 ∷ []) others seen.flight told → list_any is_congestion told ≡ true
   settled_congests told x =

@@ -23,6 +23,7 @@ use Rattle.quic_worked.proofs.BrokenRuns.{IsRefused, stops, behind}
 use Rattle.quic_worked.proofs.MessageRuns.{given_bytes}
 use Rattle.quic_worked.proofs.ObeyingRuns.{probing_0, probing_1}
 use Rattle.quic_worked.proofs.OwnIds.{AreOwn, own_ids}
+use Rattle.quic_worked.proofs.Unpolled.{unpolled}
 use Rattle.quic_worked.proofs.WorkedKeys.{are_keys}
 
 -- ---- the machine's run
@@ -51,11 +52,11 @@ is_probe now gave = second_same (first_sent (request 0 10000) 229) probe_sent ga
 pub probe_hastens : ProbesHasten probing_run
 probe_hastens Server i now given some least told = absurd cc
 probe_hastens Client zero now given some least told = (let none : 0 < 0 = some in absurd (omega (arith, none)))
-probe_hastens Client (suc zero) now given some least told = (let event = given.one.poll.event in absurd cc)
+probe_hastens Client (suc zero) now given some least told = absurd (unpolled Client now _ given.one.poll.event refl)
 probe_hastens Client (suc (suc zero)) now given some least told = subst (λ (s : Sent). list_any is_immediate_ack s.frames ≡ true) (sym (is_probe now given.one)) refl
-probe_hastens Client (suc (suc (suc zero))) now given some least told = (let event = given.one.poll.event in absurd cc)
-probe_hastens Client (suc (suc (suc (suc zero)))) now given some least told = (let event = given.one.poll.event in absurd cc)
-probe_hastens Client (suc (suc (suc (suc (suc i))))) now given some least told = (let event = given.one.poll.event in absurd cc)
+probe_hastens Client (suc (suc (suc zero))) now given some least told = absurd (unpolled Client now _ given.one.poll.event refl)
+probe_hastens Client (suc (suc (suc (suc zero)))) now given some least told = absurd (unpolled Client now _ given.one.poll.event refl)
+probe_hastens Client (suc (suc (suc (suc (suc i))))) now given some least told = absurd (unpolled Client now _ given.one.poll.event refl)
 
 -- ---- a client whose probe doesn't ask for an acknowledgement at once
 

@@ -1,6 +1,6 @@
 -- The run in which an ACK frame is due and goes, event by event, and those of servers that let it
 -- wait.
-use Rattle.std.proofs.Common.{◌≡◌, ℕ, Bool, true, false, List, [], ◌∷◌, take, Some, None, Ok, refl, inl, inr, sym, subst}
+use Rattle.std.proofs.Common.{◌≡◌, ℕ, Bool, true, false, List, [], ◌∷◌, drop, Some, None, Ok, refl, inl, inr, sym, subst}
 use Rattle.quic_wire_core.specs.declared.stream_id.Side.{Side}
 use Rattle.quic_wire_core.specs.declared.stream_id.Side.TheVariants.{Client, Server}
 use Rattle.quic_wire.specs.AckReading.{ecn_at}
@@ -13,7 +13,7 @@ use Rattle.quic_headline.specs.Headline.{IsHonest, IsRun}
 use Rattle.quic_headline.specs.Moments.{acknowledges, went}
 use Rattle.quic_headline.specs.Rest.{unanswered, IsUnacknowledged}
 use Rattle.quic_headline.specs.AcksDue.{is_due, AcksAreDue}
-use Rattle.quic_worked.specs.Worked.{ran, worked_policies, started, asks_datagram, gives_bytes}
+use Rattle.quic_worked.specs.Worked.{ran_so_far, ran, worked_policies, started, asks_datagram, gives_bytes}
 use Rattle.quic_worked.specs.Acknowledged.{client_acked}
 use Rattle.quic_worked.specs.Reordered.{delivers_at}
 use Rattle.quic_worked.specs.Losses.{asks_ping, server_waits, server_polled}
@@ -22,20 +22,22 @@ use Rattle.quic_worked.specs.Timed.{seen_with, timed_run}
 use Rattle.quic_worked.specs.Measured.{measured_run}
 use Rattle.quic_worked.specs.Held.{gives_nothing}
 use Rattle.quic_worked.specs.Broken.{IsNoRun}
-use Rattle.quic_worked.specs.Hasty.{once_hasty, hasty_run, ping_packet, many_wait, gap_events, gap_answers, gap_waits, comes_marked, once_marked, marked_run, mark_waits, late_waits, first_packet}
+use Rattle.quic_worked.specs.Hasty.{hasty_events, hasty_answers, marked_events, answers_marked, once_hasty, hasty_run, ping_packet, many_wait, gap_events, gap_answers, gap_waits, comes_marked, once_marked, marked_run, mark_waits, late_waits, first_packet}
 use Rattle.quic_worked.proofs.Codes.{no_codes}
 use Rattle.quic_worked.proofs.OwnIds.{AreOwn, own_ids}
 use Rattle.quic_worked.proofs.BrokenRuns.{IsRefused, stops, behind}
 use Rattle.quic_worked.proofs.WorkedHonest.{are_started}
 use Rattle.quic_worked.proofs.WorkedKeys.{are_keys}
-use Rattle.quic_worked.proofs.Steps.{counts_so}
+use Rattle.quic_worked.proofs.Steps.{steps_so, steps_at, StepsSo}
 use Rattle.quic_worked.proofs.Validated.{unless_limited}
 
 -- ---- the machine's run
 
 pub step_0 : IsStep worked_policies started asks_ping answers.Ping (once_hasty 1)
 unfolding once_hasty
-step_0 = record { answer = refl; end = refl; control = refl; heard = counts_so worked_policies started asks_ping answers.Ping; openings = tt; others = refl; lacking = tt }
+step_0 =
+    let s : StepsSo worked_policies started asks_ping answers.Ping (once_hasty 1) = steps_at worked_policies started hasty_events hasty_answers 0 asks_ping answers.Ping _ _ refl refl refl in
+    record { answer = refl; end = s.end; control = s.control; heard = s.heard; openings = tt; others = s.others; lacking = tt }
 
 pub seen_0 : seen_with None None ≡ view_of (once_hasty 1)
 unfolding once_hasty
@@ -43,7 +45,9 @@ seen_0 = refl
 
 pub step_1 : IsStep worked_policies (once_hasty 1) asks_datagram (gives_bytes 223) (once_hasty 2)
 unfolding once_hasty
-step_1 = record { answer = inl refl; end = refl; control = refl; heard = counts_so worked_policies (once_hasty 1) asks_datagram (gives_bytes 223); openings = tt; others = refl; lacking = tt }
+step_1 =
+    let s : StepsSo worked_policies (once_hasty 1) asks_datagram (gives_bytes 223) (once_hasty 2) = steps_at worked_policies started hasty_events hasty_answers 1 asks_datagram (gives_bytes 223) _ _ refl refl refl in
+    record { answer = inl refl; end = s.end; control = s.control; heard = s.heard; openings = tt; others = s.others; lacking = tt }
 
 pub seen_1 : seen_with (Some 1024000000) None ≡ view_of (once_hasty 2)
 unfolding once_hasty
@@ -51,7 +55,9 @@ seen_1 = refl
 
 pub step_2 : IsStep worked_policies (once_hasty 2) asks_ping answers.Ping (once_hasty 3)
 unfolding once_hasty
-step_2 = record { answer = refl; end = refl; control = refl; heard = counts_so worked_policies (once_hasty 2) asks_ping answers.Ping; openings = tt; others = refl; lacking = tt }
+step_2 =
+    let s : StepsSo worked_policies (once_hasty 2) asks_ping answers.Ping (once_hasty 3) = steps_at worked_policies started hasty_events hasty_answers 2 asks_ping answers.Ping _ _ refl refl refl in
+    record { answer = refl; end = s.end; control = s.control; heard = s.heard; openings = tt; others = s.others; lacking = tt }
 
 pub seen_2 : seen_with (Some 1024000000) None ≡ view_of (once_hasty 3)
 unfolding once_hasty
@@ -59,7 +65,9 @@ seen_2 = refl
 
 pub step_3 : IsStep worked_policies (once_hasty 3) asks_datagram (gives_bytes 29) (once_hasty 4)
 unfolding once_hasty
-step_3 = record { answer = inl refl; end = refl; control = refl; heard = counts_so worked_policies (once_hasty 3) asks_datagram (gives_bytes 29); openings = tt; others = refl; lacking = tt }
+step_3 =
+    let s : StepsSo worked_policies (once_hasty 3) asks_datagram (gives_bytes 29) (once_hasty 4) = steps_at worked_policies started hasty_events hasty_answers 3 asks_datagram (gives_bytes 29) _ _ refl refl refl in
+    record { answer = inl refl; end = s.end; control = s.control; heard = s.heard; openings = tt; others = s.others; lacking = tt }
 
 pub seen_3 : seen_with (Some 1024000000) None ≡ view_of (once_hasty 4)
 unfolding once_hasty
@@ -67,7 +75,9 @@ seen_3 = refl
 
 pub step_4 : IsStep worked_policies (once_hasty 4) (delivers_at 0) (answers.Deliver receives.Taken) (once_hasty 5)
 unfolding once_hasty
-step_4 = record { answer = inl refl; end = refl; control = refl; heard = counts_so worked_policies (once_hasty 4) (delivers_at 0) (answers.Deliver receives.Taken); openings = tt; others = refl; lacking = tt }
+step_4 =
+    let s : StepsSo worked_policies (once_hasty 4) (delivers_at 0) (answers.Deliver receives.Taken) (once_hasty 5) = steps_at worked_policies started hasty_events hasty_answers 4 (delivers_at 0) (answers.Deliver receives.Taken) _ _ refl refl refl in
+    record { answer = inl refl; end = s.end; control = s.control; heard = s.heard; openings = tt; others = s.others; lacking = tt }
 
 pub seen_4 : seen_with (Some 1024000000) (Some 25000000) ≡ view_of (once_hasty 5)
 unfolding once_hasty
@@ -75,7 +85,9 @@ seen_4 = refl
 
 pub step_5 : IsStep worked_policies (once_hasty 5) (delivers_at 1) (answers.Deliver receives.Taken) (once_hasty 6)
 unfolding once_hasty
-step_5 = record { answer = inl refl; end = refl; control = refl; heard = counts_so worked_policies (once_hasty 5) (delivers_at 1) (answers.Deliver receives.Taken); openings = tt; others = refl; lacking = tt }
+step_5 =
+    let s : StepsSo worked_policies (once_hasty 5) (delivers_at 1) (answers.Deliver receives.Taken) (once_hasty 6) = steps_at worked_policies started hasty_events hasty_answers 5 (delivers_at 1) (answers.Deliver receives.Taken) _ _ refl refl refl in
+    record { answer = inl refl; end = s.end; control = s.control; heard = s.heard; openings = tt; others = s.others; lacking = tt }
 
 seen_5 : seen_with (Some 1024000000) (Some 25000000) ≡ view_of (once_hasty 6)
 unfolding once_hasty
@@ -83,7 +95,9 @@ seen_5 = refl
 
 pub step_6 : IsStep worked_policies (once_hasty 6) asks_server (gives_bytes 31) (once_hasty 7)
 unfolding once_hasty
-step_6 = record { answer = inl refl; end = refl; control = refl; heard = counts_so worked_policies (once_hasty 6) asks_server (gives_bytes 31); openings = tt; others = refl; lacking = tt }
+step_6 =
+    let s : StepsSo worked_policies (once_hasty 6) asks_server (gives_bytes 31) (once_hasty 7) = steps_at worked_policies started hasty_events hasty_answers 6 asks_server (gives_bytes 31) _ _ refl refl refl in
+    record { answer = inl refl; end = s.end; control = s.control; heard = s.heard; openings = tt; others = s.others; lacking = tt }
 
 seen_6 : seen_with (Some 1024000000) None ≡ view_of (once_hasty 7)
 unfolding once_hasty
@@ -140,7 +154,9 @@ never_due = refl
 
 pub marked_0 : IsStep worked_policies started asks_ping answers.Ping (once_marked 1)
 unfolding once_marked
-marked_0 = record { answer = refl; end = refl; control = refl; heard = counts_so worked_policies started asks_ping answers.Ping; openings = tt; others = refl; lacking = tt }
+marked_0 =
+    let s : StepsSo worked_policies started asks_ping answers.Ping (once_marked 1) = steps_at worked_policies started marked_events (answers_marked (gives_bytes 34)) 0 asks_ping answers.Ping _ _ refl refl refl in
+    record { answer = refl; end = s.end; control = s.control; heard = s.heard; openings = tt; others = s.others; lacking = tt }
 
 pub marked_seen_0 : seen_with None None ≡ view_of (once_marked 1)
 unfolding once_marked
@@ -148,7 +164,9 @@ marked_seen_0 = refl
 
 pub marked_1 : IsStep worked_policies (once_marked 1) asks_datagram (gives_bytes 223) (once_marked 2)
 unfolding once_marked
-marked_1 = record { answer = inl refl; end = refl; control = refl; heard = counts_so worked_policies (once_marked 1) asks_datagram (gives_bytes 223); openings = tt; others = refl; lacking = tt }
+marked_1 =
+    let s : StepsSo worked_policies (once_marked 1) asks_datagram (gives_bytes 223) (once_marked 2) = steps_at worked_policies started marked_events (answers_marked (gives_bytes 34)) 1 asks_datagram (gives_bytes 223) _ _ refl refl refl in
+    record { answer = inl refl; end = s.end; control = s.control; heard = s.heard; openings = tt; others = s.others; lacking = tt }
 
 pub marked_seen_1 : seen_with (Some 1024000000) None ≡ view_of (once_marked 2)
 unfolding once_marked
@@ -156,7 +174,9 @@ marked_seen_1 = refl
 
 pub marked_2 : IsStep worked_policies (once_marked 2) comes_marked (answers.Deliver receives.Taken) (once_marked 3)
 unfolding once_marked
-marked_2 = record { answer = inl refl; end = refl; control = refl; heard = counts_so worked_policies (once_marked 2) comes_marked (answers.Deliver receives.Taken); openings = tt; others = refl; lacking = tt }
+marked_2 =
+    let s : StepsSo worked_policies (once_marked 2) comes_marked (answers.Deliver receives.Taken) (once_marked 3) = steps_at worked_policies started marked_events (answers_marked (gives_bytes 34)) 2 comes_marked (answers.Deliver receives.Taken) _ _ refl refl refl in
+    record { answer = inl refl; end = s.end; control = s.control; heard = s.heard; openings = tt; others = s.others; lacking = tt }
 
 pub marked_seen_2 : seen_with (Some 1024000000) None ≡ view_of (once_marked 3)
 unfolding once_marked
@@ -164,7 +184,9 @@ marked_seen_2 = refl
 
 pub marked_3 : IsStep worked_policies (once_marked 3) asks_server (gives_bytes 34) (once_marked 4)
 unfolding once_marked
-marked_3 = record { answer = inl refl; end = refl; control = refl; heard = counts_so worked_policies (once_marked 3) asks_server (gives_bytes 34); openings = tt; others = refl; lacking = tt }
+marked_3 =
+    let s : StepsSo worked_policies (once_marked 3) asks_server (gives_bytes 34) (once_marked 4) = steps_at worked_policies started marked_events (answers_marked (gives_bytes 34)) 3 asks_server (gives_bytes 34) _ _ refl refl refl in
+    record { answer = inl refl; end = s.end; control = s.control; heard = s.heard; openings = tt; others = s.others; lacking = tt }
 
 pub marked_seen_3 : seen_with (Some 1024000000) None ≡ view_of (once_marked 4)
 unfolding once_marked
@@ -352,24 +374,30 @@ many_no (inr e) = cc
 pub many_is_none : IsNoRun many_wait
 many_is_none = behind refl step_0 (behind refl step_1 (behind refl step_2 (behind refl step_3 (behind refl step_4 (behind refl step_5 (stops _ _ _ _ _ many_no))))))
 
--- three datagrams, of which the last comes
+-- behind two datagrams a third goes, and comes
 unfoldable once_gapped : ℕ → World
-unfolding client_acked
-once_gapped n = ran worked_policies started (take n gap_events) (take n gap_answers)
+unfolding once_hasty
+once_gapped n = ran_so_far worked_policies (once_hasty 4) (drop 4 gap_events) (drop 4 gap_answers) n
 
-third_ping : IsStep worked_policies (once_hasty 4) asks_ping answers.Ping (once_gapped 5)
-unfolding once_hasty once_gapped
-third_ping = record { answer = refl; end = refl; control = refl; heard = counts_so worked_policies (once_hasty 4) asks_ping answers.Ping; openings = tt; others = refl; lacking = tt }
-
-third_given : IsStep worked_policies (once_gapped 5) asks_datagram (gives_bytes 29) (once_gapped 6)
+third_ping : IsStep worked_policies (once_hasty 4) asks_ping answers.Ping (once_gapped 1)
 unfolding once_gapped
-third_given = record { answer = inl refl; end = refl; control = refl; heard = counts_so worked_policies (once_gapped 5) asks_datagram (gives_bytes 29); openings = tt; others = refl; lacking = tt }
+third_ping =
+    let s : StepsSo worked_policies (once_hasty 4) asks_ping answers.Ping (once_gapped 1) = steps_at worked_policies (once_hasty 4) (drop 4 gap_events) (drop 4 gap_answers) 0 asks_ping answers.Ping _ _ refl refl refl in
+    record { answer = refl; end = s.end; control = s.control; heard = s.heard; openings = tt; others = s.others; lacking = tt }
 
-third_taken : IsStep worked_policies (once_gapped 6) (delivers_at 2) (answers.Deliver receives.Taken) (once_gapped 7)
+third_given : IsStep worked_policies (once_gapped 1) asks_datagram (gives_bytes 29) (once_gapped 2)
 unfolding once_gapped
-third_taken = record { answer = inl refl; end = refl; control = refl; heard = counts_so worked_policies (once_gapped 6) (delivers_at 2) (answers.Deliver receives.Taken); openings = tt; others = refl; lacking = tt }
+third_given =
+    let s : StepsSo worked_policies (once_gapped 1) asks_datagram (gives_bytes 29) (once_gapped 2) = steps_at worked_policies (once_hasty 4) (drop 4 gap_events) (drop 4 gap_answers) 1 asks_datagram (gives_bytes 29) _ _ refl refl refl in
+    record { answer = inl refl; end = s.end; control = s.control; heard = s.heard; openings = tt; others = s.others; lacking = tt }
 
-gap_no : IsRefused (once_gapped 7) asks_server gives_nothing
+third_taken : IsStep worked_policies (once_gapped 2) (delivers_at 2) (answers.Deliver receives.Taken) (once_gapped 3)
+unfolding once_gapped
+third_taken =
+    let s : StepsSo worked_policies (once_gapped 2) (delivers_at 2) (answers.Deliver receives.Taken) (once_gapped 3) = steps_at worked_policies (once_hasty 4) (drop 4 gap_events) (drop 4 gap_answers) 2 (delivers_at 2) (answers.Deliver receives.Taken) _ _ refl refl refl in
+    record { answer = inl refl; end = s.end; control = s.control; heard = s.heard; openings = tt; others = s.others; lacking = tt }
+
+gap_no : IsRefused (once_gapped 3) asks_server gives_nothing
 unfolding once_gapped
 gap_no (inl e) = cc
 gap_no (inr e) = cc
@@ -396,11 +424,15 @@ once_late = ran worked_policies once_alone (server_waits ∷ []) (answers.Timeou
 
 alone_taken : IsStep worked_policies (once_hasty 2) (delivers_at 0) (answers.Deliver receives.Taken) once_alone
 unfolding once_alone
-alone_taken = record { answer = inl refl; end = refl; control = refl; heard = counts_so worked_policies (once_hasty 2) (delivers_at 0) (answers.Deliver receives.Taken); openings = tt; others = refl; lacking = tt }
+alone_taken =
+    let s : StepsSo worked_policies (once_hasty 2) (delivers_at 0) (answers.Deliver receives.Taken) once_alone = steps_so worked_policies (once_hasty 2) (delivers_at 0) (answers.Deliver receives.Taken) refl in
+    record { answer = inl refl; end = s.end; control = s.control; heard = s.heard; openings = tt; others = s.others; lacking = tt }
 
 time_passed : IsStep worked_policies once_alone server_waits (answers.Timeout (Ok tt)) once_late
 unfolding once_late
-time_passed = record { answer = inl refl; end = refl; control = refl; heard = counts_so worked_policies once_alone server_waits (answers.Timeout (Ok tt)); openings = tt; others = refl; lacking = tt }
+time_passed =
+    let s : StepsSo worked_policies once_alone server_waits (answers.Timeout (Ok tt)) once_late = steps_so worked_policies once_alone server_waits (answers.Timeout (Ok tt)) refl in
+    record { answer = inl refl; end = s.end; control = s.control; heard = s.heard; openings = tt; others = s.others; lacking = tt }
 
 late_no : IsRefused once_late server_polled gives_nothing
 unfolding once_late

@@ -177,7 +177,7 @@ abbrev first_frame : StreamValue
 first_frame = record { id = 0; offset = 0; fin = false; bytes = replicate 976 0x61 }
 
 abbrev first_sent : SentAs
-first_sent = record { id = server_id; number = 0; reference = 0; frames = behind_ids (stream first_frame ∷ []); moment = 0; size = 1200 }
+first_sent = record { id = server_id; number = 0; reference = 0; frames = behind_ids (stream first_frame ∷ []); moment = 0; size = 1200; generation = 0 }
 
 it_flies : flying held_run Client 4 ≡ first_sent ∷ []
 unfolding once_held
@@ -241,7 +241,7 @@ full_asks r i now gave none full other h = elim (h Client i now gave none) [ inl
 
 -- the datagram as it was sent
 abbrev next_sent : SentAs
-next_sent = record { id = server_id; number = 1; reference = 0; frames = stream (record { id = 0; offset = 976; fin = false; bytes = replicate 1170 0x61 }) ∷ []; moment = 0; size = 1200 }
+next_sent = record { id = server_id; number = 1; reference = 0; frames = stream (record { id = 0; offset = 976; fin = false; bytes = replicate 1170 0x61 }) ∷ []; moment = 0; size = 1200; generation = 0 }
 
 next_went : sents_until overfull_run Client 4 ≡ sents_until overfull_run Client 3 ++ next_sent ∷ []
 unfolding once_held
@@ -381,6 +381,7 @@ third_sent = record {
   frames = ping ∷ stream (record { id = 0; offset = 2924; fin = false; bytes = replicate 1076 0x61 }) ∷ [];
   moment = 1024000000;
   size = 1107;
+  generation = 0;
 }
 
 third_went : sents_until third_probe_run Client 8 ≡ sents_until third_probe_run Client 7 ++ third_sent ∷ []

@@ -1,5 +1,5 @@
 -- Injections that are answered as the machine does, and as it doesn't.
-use Rattle.std.proofs.Common.{◌≡◌, ℕ, zero, suc, List, [], Some, None, Bool, true, false, refl, sym, ap, ◌∙◌, subst}
+use Rattle.std.proofs.Common.{◌≡◌, ℕ, zero, suc, ◌&&◌, not, List, [], Some, None, Bool, true, false, refl, sym, ap, ◌∙◌, subst}
 use Rattle.std.specs.Prelude.{slice_get, ◌↔◌, if◌then◌else◌}
 use Rattle.std.specs.Option.{is_some}
 use Rattle.quic_wire_core.specs.declared.stream_id.Side.{Side}
@@ -18,7 +18,7 @@ use Rattle.quic_machine.specs.End.{End}
 use Rattle.quic_machine.specs.Machine.{World, IsStep}
 use Rattle.quic_headline.specs.Runs.{In, until, LeadsTo, ids_of, expected_behind}
 use Rattle.quic_headline.specs.Observer.{took}
-use Rattle.quic_headline.specs.Headline.{used, IsAt, IsHonest, IsRun, OpensExactly, would_open_at}
+use Rattle.quic_headline.specs.Headline.{used, IsAt, IsHonest, IsRun, OpensExactly, takes_nothing_from, would_open_at}
 use Rattle.quic_worked.specs.Worked.{worked_policies, started, hello_datagram}
 use Rattle.quic_worked.specs.Broken.{IsNoRun, injects, injected_run, always_opens, never_opens, once_injected}
 use Rattle.quic_worked.proofs.WorkedHonest.{are_started, side_of, call_of, uses}
@@ -70,14 +70,18 @@ exact_at : (b : Bool) (a : Answer) → a ≡ (if b then answers.Opens else answe
 exact_at true a is = (λ opens. refl, λ opens. is)
 exact_at false a is = (λ opens. let clash = sym is ∙ opens in cc, λ never. absurd cc)
 
-judged : (i : ℕ) (side : Side) (w : World) (injection : Injection) (a : Answer) → LeadsTo injected_run i w → IsAt injected_run i side (calls.Inject injection) a → (a ≡ answers.Opens) ↔ (would_open_at injected_run w side i injection.bytes ≡ true)
+never_both : (b c : Bool) → c ≡ false → (b && c) ≡ false
+never_both true c none = none
+never_both false c none = refl
+
+judged : (i : ℕ) (side : Side) (w : World) (injection : Injection) (a : Answer) → LeadsTo injected_run i w → IsAt injected_run i side (calls.Inject injection) a → (a ≡ answers.Opens) ↔ (would_open_at injected_run w side i injection.remote injection.bytes ≡ true)
 judged zero side w injection a leads at =
     let e : RunEvent = injects Server hello_datagram in
     let f : RunEvent = record { side = side; call = calls.Inject injection } in
     let sides : Server ≡ side = side_of e f at.event in
     let bytes : hello_datagram ≡ injection.bytes = ap bytes_in (call_of e f at.event) in
-    let here : would_open_at injected_run w Server 0 hello_datagram ≡ true = subst (λ (v : World). would_open_at injected_run v Server 0 hello_datagram ≡ true) (sym leads) refl in
-    let there : would_open_at injected_run w side 0 injection.bytes ≡ true = subst (λ (s : Side). would_open_at injected_run w s 0 injection.bytes ≡ true) sides (subst (λ (d : List ℕ). would_open_at injected_run w Server 0 d ≡ true) bytes here) in
+    let here : would_open_at injected_run w Server 0 injection.remote hello_datagram ≡ true = subst (λ (v : World). would_open_at injected_run v Server 0 injection.remote hello_datagram ≡ true) (sym leads) refl in
+    let there : would_open_at injected_run w side 0 injection.remote injection.bytes ≡ true = subst (λ (s : Side). would_open_at injected_run w s 0 injection.remote injection.bytes ≡ true) sides (subst (λ (d : List ℕ). would_open_at injected_run w Server 0 injection.remote d ≡ true) bytes here) in
     subst (λ (b : Bool). (a ≡ answers.Opens) ↔ (b ≡ true)) (sym there) (exact_at true a (answer_of answers.Opens a at.answer))
 judged (suc zero) side w injection a leads at =
     let e : RunEvent = injects Client hello_datagram in
@@ -85,8 +89,9 @@ judged (suc zero) side w injection a leads at =
     let sides : Client ≡ side = side_of e f at.event in
     let bytes : hello_datagram ≡ injection.bytes = ap bytes_in (call_of e f at.event) in
     let same : w.client ≡ started.client = ap (λ (v : World). v.client) leads.3 ∙ ap (λ (v : World). v.client) leads.1.others in
-    let here : would_open_at injected_run w Client 1 hello_datagram ≡ false = subst (λ (e : End). opens_to e ≡ false) (sym same) refl in
-    let there : would_open_at injected_run w side 1 injection.bytes ≡ false = subst (λ (s : Side). would_open_at injected_run w s 1 injection.bytes ≡ false) sides (subst (λ (d : List ℕ). would_open_at injected_run w Client 1 d ≡ false) bytes here) in
+    let none : opens_to w.client ≡ false = subst (λ (e : End). opens_to e ≡ false) (sym same) refl in
+    let here : would_open_at injected_run w Client 1 injection.remote hello_datagram ≡ false = never_both (not (takes_nothing_from injected_run Client injection.remote)) (opens_to w.client) none in
+    let there : would_open_at injected_run w side 1 injection.remote injection.bytes ≡ false = subst (λ (s : Side). would_open_at injected_run w s 1 injection.remote injection.bytes ≡ false) sides (subst (λ (d : List ℕ). would_open_at injected_run w Client 1 injection.remote d ≡ false) bytes here) in
     subst (λ (b : Bool). (a ≡ answers.Opens) ↔ (b ≡ true)) (sym there) (exact_at false a (answer_of (answers.Inject (receives.Dropped drops.UnknownId)) a at.answer))
 judged (suc (suc i)) side w injection a leads at = let none = at.event in cc
 

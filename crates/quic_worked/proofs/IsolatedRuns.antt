@@ -30,6 +30,7 @@ use Rattle.quic_worked.proofs.OwnIds.{AreOwn, own_ids}
 use Rattle.quic_worked.proofs.WorkedKeys.{are_keys}
 use Rattle.quic_worked.proofs.EndedRuns.{idle_started, tells_ids}
 use Rattle.quic_worked.proofs.Steps.{counts_so, others_so}
+use Rattle.quic_worked.proofs.AllValidated.{are_validated}
 
 -- ---- the run
 
@@ -170,11 +171,11 @@ fifth_idle side (suc (suc (suc (suc zero)))) call a chosen at = let same = call_
 fifth_idle side (suc (suc (suc (suc (suc i))))) call a chosen at = let clash : ◌≡◌ {A = Bool} false true = chosen in absurd cc
 
 pub noted_isolated : (end : World) → Isolated noted_early end → ⊥
-noted_isolated end any = let less = any (refl, refl) fifth fifth_idle (none_last noted_early.answers refl) in never_noted.never (erased fifth noted_early).views less.0 less.2.follows
+noted_isolated end any = let less = any (are_validated noted_early refl refl refl) fifth fifth_idle (none_last noted_early.answers refl) in never_noted.never (erased fifth noted_early).views less.0 less.2.follows
 
 -- by the lists the injection brings nothing, and the datagram is new
 pub noted_by_lists : IsolatedByLists noted_early → ⊥
-noted_by_lists less = let on = less (refl, refl) 6 refl (none_last noted_early.answers refl) in never_noted.never (erased (listed_idle noted_early) noted_early).views on.world on.follows
+noted_by_lists less = let on = less (are_validated noted_early refl refl refl) 6 refl (none_last noted_early.answers refl) in never_noted.never (erased (listed_idle noted_early) noted_early).views on.world on.follows
 
 pub no_noted : IsNoRun noted_early
 no_noted = behind_sent (behind refl (refused_first 0) (stops _ _ _ _ _ duplicate_no))
@@ -184,7 +185,7 @@ never_ticked : NeverAnswers started (sending_events ++ delivers ∷ asks_wait �
 never_ticked = behind_sent (behind refl takes (stops _ _ _ _ _ wait_no))
 
 pub ticked_by_answers : (end : World) → IsolatedByAnswers ticked_early end → ⊥
-ticked_by_answers end less = let on = less (refl, refl) (none_last ticked_early.answers refl) in never_ticked.never (erased (answered_idle ticked_early) ticked_early).views on.0 on.2.follows
+ticked_by_answers end less = let on = less (are_validated ticked_early refl refl refl) (none_last ticked_early.answers refl) in never_ticked.never (erased (answered_idle ticked_early) ticked_early).views on.0 on.2.follows
 
 pub ticked_isolated : (end : World) → Isolated ticked_early end → ⊥
 ticked_isolated end any = ticked_by_answers end (λ validated below. any validated (answered_idle ticked_early) (chosen_idle ticked_early) below)
@@ -211,13 +212,13 @@ never_anew : NeverAnswers idle_start (asks_datagram ∷ asks_idle ∷ []) (gives
 never_anew = behind refl tells_ids (stops _ _ _ _ _ idle_no)
 
 pub anew_by_answers : (end : World) → IsolatedByAnswers idle_anew end → ⊥
-anew_by_answers end less = let on = less (refl, refl) (none_last idle_anew.answers refl) in never_anew.never (erased (answered_idle idle_anew) idle_anew).views on.0 on.2.follows
+anew_by_answers end less = let on = less (are_validated idle_anew refl refl refl) (none_last idle_anew.answers refl) in never_anew.never (erased (answered_idle idle_anew) idle_anew).views on.0 on.2.follows
 
 pub anew_isolated : (end : World) → Isolated idle_anew end → ⊥
 anew_isolated end any = anew_by_answers end (λ validated below. any validated (answered_idle idle_anew) (chosen_idle idle_anew) below)
 
 pub anew_by_lists : IsolatedByLists idle_anew → ⊥
-anew_by_lists less = let on = less (refl, refl) 3 refl (none_last idle_anew.answers refl) in never_anew.never (erased (listed_idle idle_anew) idle_anew).views on.world on.follows
+anew_by_lists less = let on = less (are_validated idle_anew refl refl refl) 3 refl (none_last idle_anew.answers refl) in never_anew.never (erased (listed_idle idle_anew) idle_anew).views on.world on.follows
 
 anew_own : (side : Side) → AreOwn side [] idle_anew.events idle_anew.answers idle_anew.views
 anew_own Client = (tt, (tt, (tt, tt)))

@@ -1,6 +1,6 @@
 -- The runs in which an end asks for the next id of its peer, event by event, and machines that
 -- refuse one that is there, or forget an id that they told.
-use Rattle.std.proofs.Common.{◌≡◌, ℕ, List, [], ◌∷◌, ◌++◌, length, Option, Some, None, refl, inl, inr, sym, ap, ◌∙◌, subst, lit<, arith}
+use Rattle.std.proofs.Common.{◌≡◌, Bool, false, ℕ, List, [], ◌∷◌, ◌++◌, length, Option, Some, None, refl, inl, inr, sym, ap, ◌∙◌, subst, lit<, arith}
 use Rattle.std.specs.Prelude.{slice_index, slice_get}
 use Rattle.quic_wire_core.specs.declared.stream_id.Side.TheVariants.{Client, Server}
 use Rattle.quic_wire.specs.Value.{new_connection_id}
@@ -28,6 +28,7 @@ use Rattle.quic_worked.proofs.OwnIds.{honest_steady}
 use Rattle.quic_worked.proofs.BrokenRuns.{IsRefused, behind, stops}
 use Rattle.quic_worked.proofs.WrongRuns.{NotToFrom, ends_here, step_on}
 use Rattle.quic_worked.proofs.Steps.{counts_so}
+use Rattle.quic_worked.proofs.Unmoved.{client_tells_stays}
 
 -- ---- the run of two new ends
 
@@ -92,13 +93,13 @@ naming_is_run = record {
 pub naming_is_honest : IsHonest (naming_run both_steady)
 naming_is_honest = honest_steady (naming_run both_steady) (record { start = refl; keys = refl; client = (tt, (tt, (tt, (tt, tt)))); server = (tt, (tt, (tt, (tt, tt)))) })
 
-pub none_used : in_use (naming_run both_steady) Client 2 ≡ 0
+pub none_used : (stays : ℕ → Bool) → in_use (naming_run both_steady) stays Client 2 ≡ 0
 unfolding client_acked
-none_used = refl
+none_used stays = refl
 
-pub first_next : next_id (naming_run both_steady) Client 2 ≡ Some 1
+pub first_next : (stays : ℕ → Bool) → next_id (naming_run both_steady) stays Client 2 ≡ Some 1
 unfolding client_acked
-first_next = refl
+first_next stays = refl
 
 -- no retirement waits before the next id is used
 none_wait : length (once_named both_steady is_used 2).client.waiting.frames.retire_cids ≡ 0
@@ -135,11 +136,11 @@ early_is_run = record { codes = no_codes asking_early.events refl; follows = (as
 pub early_is_honest : IsHonest asking_early
 early_is_honest = honest_steady asking_early (record { start = refl; keys = refl; client = (tt, tt); server = (tt, tt) })
 
-pub early_next : next_id asking_early Client 0 ≡ None
-early_next = refl
+pub early_next : (stays : ℕ → Bool) → next_id asking_early stays Client 0 ≡ None
+early_next stays = refl
 
 pub made_wrong : NoIdIsExact made_up → ⊥
-made_wrong h = let is : is_used ≡ has_none = (h Client 0 is_used refl refl (record { event = refl; answer = refl })).1 refl in cc
+made_wrong h = let is : is_used ≡ has_none = (h Client (λ n. false) 0 is_used (client_tells_stays made_up (λ n. false)) refl refl (record { event = refl; answer = refl })).1 refl in cc
 
 pub made_is_honest : IsHonest made_up
 made_is_honest = honest_steady made_up (record { start = refl; keys = refl; client = (tt, tt); server = (tt, tt) })
@@ -193,34 +194,34 @@ eighty_is_run = record {
   from_server = eighty_gave;
 }
 
-pub eighty_used : in_use (asking_run eighty_wait has_too_many) Client 2 ≡ 0
+pub eighty_used : (stays : ℕ → Bool) → in_use (asking_run eighty_wait has_too_many) stays Client 2 ≡ 0
 unfolding client_acked
-eighty_used = refl
+eighty_used stays = refl
 
-pub eighty_next : next_id (asking_run eighty_wait has_too_many) Client 2 ≡ Some 1
+pub eighty_next : (stays : ℕ → Bool) → next_id (asking_run eighty_wait has_too_many) stays Client 2 ≡ Some 1
 unfolding client_acked
-eighty_next = refl
+eighty_next stays = refl
 
 pub eighty_past : IsPastLimit (once_named eighty_wait has_too_many 2).client 0 1
 unfolding once_named
 eighty_past = lit< tt
 
 -- a client that uses the next id all the same
-all_next : next_id (asking_run eighty_wait is_used) Client 2 ≡ Some 1
+all_next : next_id (asking_run eighty_wait is_used) (λ n. false) Client 2 ≡ Some 1
 unfolding client_acked
 all_next = refl
 
-all_used : in_use (asking_run eighty_wait is_used) Client 2 ≡ 0
+all_used : in_use (asking_run eighty_wait is_used) (λ n. false) Client 2 ≡ 0
 unfolding client_acked
 all_used = refl
 
-all_past : IsPastLimit (once_named eighty_wait has_too_many 2).client (in_use (asking_run eighty_wait is_used) Client 2) 1
+all_past : IsPastLimit (once_named eighty_wait has_too_many 2).client (in_use (asking_run eighty_wait is_used) (λ n. false) Client 2) 1
 all_past = subst (λ (n : ℕ). IsPastLimit (once_named eighty_wait has_too_many 2).client n 1) (sym all_used) eighty_past
 
 pub all_wrong : TooManyIsExact (asking_run eighty_wait is_used) → ⊥
 all_wrong h =
     let leads : LeadsTo (asking_run eighty_wait is_used) 2 (once_named eighty_wait has_too_many 2) = (once_named eighty_wait has_too_many 1, eighty_told, eighty_told_seen, (once_named eighty_wait has_too_many 2, eighty_taken, eighty_taken_seen, refl)) in
-    let is : is_used ≡ has_too_many = (h Client 2 is_used (once_named eighty_wait has_too_many 2) refl leads refl (record { event = refl; answer = refl })).1 (1, all_next, all_past) in
+    let is : is_used ≡ has_too_many = (h Client (λ n. false) 2 is_used (once_named eighty_wait has_too_many 2) (client_tells_stays (asking_run eighty_wait is_used) (λ n. false)) refl leads refl (record { event = refl; answer = refl })).1 (1, all_next, all_past) in
     cc
 
 all_no : IsRefused (once_named eighty_wait has_too_many 2) uses_next is_used
@@ -237,24 +238,24 @@ all_is_none = behind refl eighty_told (behind refl eighty_taken (stops _ _ _ _ _
 told_twice : (a : Answer) → LeadsTo (asking_run both_steady a) 2 (once_named both_steady is_used 2)
 told_twice a = (once_named both_steady is_used 1, server_tells, told_seen, (once_named both_steady is_used 2, client_takes, taken_seen, refl))
 
-none_next : next_id (asking_run both_steady has_none) Client 2 ≡ Some 1
+none_next : next_id (asking_run both_steady has_none) (λ n. false) Client 2 ≡ Some 1
 unfolding client_acked
 none_next = refl
 
 pub none_wrong : NoIdIsExact (asking_run both_steady has_none) → ⊥
-none_wrong h = let clash : ◌≡◌ {A = Option ℕ} (Some 1) None = sym none_next ∙ (h Client 2 has_none refl refl (record { event = refl; answer = refl })).0 refl in cc
+none_wrong h = let clash : ◌≡◌ {A = Option ℕ} (Some 1) None = sym none_next ∙ (h Client (λ n. false) 2 has_none (client_tells_stays (asking_run both_steady has_none) (λ n. false)) refl refl (record { event = refl; answer = refl })).0 refl in cc
 
-many_next : next_id (asking_run both_steady has_too_many) Client 2 ≡ Some 1
+many_next : next_id (asking_run both_steady has_too_many) (λ n. false) Client 2 ≡ Some 1
 unfolding client_acked
 many_next = refl
 
-many_used : in_use (asking_run both_steady has_too_many) Client 2 ≡ 0
+many_used : in_use (asking_run both_steady has_too_many) (λ n. false) Client 2 ≡ 0
 unfolding client_acked
 many_used = refl
 
 pub many_wrong : TooManyIsExact (asking_run both_steady has_too_many) → ⊥
 many_wrong h =
-    let many = (h Client 2 has_too_many (once_named both_steady is_used 2) refl (told_twice has_too_many) refl (record { event = refl; answer = refl })).0 refl in
+    let many = (h Client (λ n. false) 2 has_too_many (once_named both_steady is_used 2) (client_tells_stays (asking_run both_steady has_too_many) (λ n. false)) refl (told_twice has_too_many) refl (record { event = refl; answer = refl })).0 refl in
     let is : Some 1 ≡ Some many.0 = sym many_next ∙ many.1 in
     let first : ◌≡◌ {A = ℕ} 1 many.0 = cc in
     let past = many.2 in

@@ -1,6 +1,9 @@
 pub mod Codes
 mod Steps
+mod Unmoved
+mod AllValidated
 mod Waited
+mod Unpolled
 pub mod Unread
 pub mod WorkedRun
 pub mod WorkedLacks
@@ -70,6 +73,15 @@ mod UntakenRuns
 mod KnownRuns
 mod UnvalidatedRun
 mod AnsweredRun
+pub mod MigratedRun
+mod MigratedMachines
+mod KeptId
+mod StrayedRuns
+mod MovedRuns
+mod LateRun
+mod EarlyRun
+mod PassedRun
+mod CrossedRun
 pub mod Validated
 pub mod AskingRuns
 mod AskingMachines

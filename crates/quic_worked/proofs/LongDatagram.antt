@@ -15,7 +15,7 @@ use Rattle.quic_worked.specs.Faults.{writes_full, full_written, too_long, long_s
 use Rattle.quic_worked.proofs.OwnIds.{honest}
 use Rattle.quic_worked.proofs.BrokenRuns.{IsRefused, stops, behind}
 use Rattle.quic_worked.proofs.MessageRuns.{given_bytes}
-use Rattle.quic_worked.proofs.Steps.{counts_so}
+use Rattle.quic_worked.proofs.Steps.{StepsSo, steps_so}
 use Rattle.quic_worked.proofs.WorkedRun.{opens}
 
 long_went : sents_until too_long Client 3 ≡ sents_until too_long Client 2 ++ long_sent ∷ []
@@ -37,7 +37,9 @@ pub long_is_honest : IsHonest too_long
 long_is_honest = honest too_long (record { start = refl; keys = refl; client = (tt, (inl refl, (tt, tt))); server = (tt, (tt, (tt, tt))) })
 
 writes : IsStep worked_policies once_opened writes_full (answers.Write (Ok 977)) full_written
-writes = record { answer = inl refl; end = refl; control = refl; heard = counts_so worked_policies once_opened writes_full (answers.Write (Ok 977)); openings = tt; others = refl; lacking = λ lacks. cc }
+writes =
+    let s : StepsSo worked_policies once_opened writes_full (answers.Write (Ok 977)) full_written = steps_so worked_policies once_opened writes_full (answers.Write (Ok 977)) refl in
+    record { answer = inl refl; end = s.end; control = s.control; heard = s.heard; openings = tt; others = s.others; lacking = λ lacks. cc }
 
 -- the machine gives a full datagram
 long_no : IsRefused full_written asks_datagram (gives_bytes 1201)

@@ -23,6 +23,7 @@ use Rattle.quic_worked.proofs.WorkedRun.{opens, writes, finishes, gives}
 use Rattle.quic_worked.proofs.BrokenRuns.{IsRefused, stops, behind}
 use Rattle.quic_worked.proofs.WrongRuns.{NeverEnds, ends_here, step_on, NotTo}
 use Rattle.quic_worked.proofs.Steps.{counts_so}
+use Rattle.quic_worked.proofs.Unmoved.{client_tells_stays}
 
 -- ---- the events
 
@@ -206,7 +207,7 @@ gone (inr (inl g)) = nothing_carried g
 gone (inr (inr a)) = (let b : HasArrived (ping_packet ∷ []) 0 0 = subst (λ (ps : List Packet). HasArrived ps 0 0) took_last a in no_stream b.frame b.taken)
 
 pub good_duties : DutiesAt (losing_run [] []) 16 lost_for_good → ⊥
-good_duties stands = gone (stands Client (Offset 0 0) (refl, omega arith))
+good_duties stands = gone (stands Client (λ n. false) (Offset 0 0) (client_tells_stays (losing_run [] []) (λ n. false)) (refl, omega arith))
 
 good_end : lost_for_good ≡ once_lost → ⊥
 good_end e = let clash : false ≡ true = sym good_due ∙ ap (λ (w : World). is_due w.client (Offset 0 0)) e ∙ again_due in cc

@@ -30,7 +30,7 @@ use Rattle.quic_worked.proofs.BrokenRuns.{IsRefused, stops, behind}
 use Rattle.quic_worked.proofs.WrongRuns.{NotTo, step_on, ends_here}
 use Rattle.quic_worked.proofs.Codes.{no_codes}
 use Rattle.quic_worked.proofs.OwnIds.{AreOwn, own_ids}
-use Rattle.quic_worked.proofs.Steps.{counts_so, still_steady, still_shut}
+use Rattle.quic_worked.proofs.Steps.{steps_at, StepsSo}
 use Rattle.quic_worked.proofs.WorkedHonest.{are_started}
 use Rattle.quic_worked.proofs.WorkedKeys.{are_keys}
 
@@ -38,23 +38,33 @@ use Rattle.quic_worked.proofs.WorkedKeys.{are_keys}
 
 calm_0 : IsStep worked_policies (once_marked 4) ack_comes (answers.Deliver receives.Taken) (once_calm 1)
 unfolding once_calm
-calm_0 = record { answer = inl refl; end = refl; control = still_steady; heard = counts_so worked_policies (once_marked 4) ack_comes (answers.Deliver receives.Taken); openings = tt; others = refl; lacking = tt }
+calm_0 =
+    let s : StepsSo worked_policies (once_marked 4) ack_comes (answers.Deliver receives.Taken) (once_calm 1) = steps_at worked_policies (once_marked 4) calm_events calm_answers 0 ack_comes (answers.Deliver receives.Taken) _ _ refl refl refl in
+    record { answer = inl refl; end = s.end; control = s.control; heard = s.heard; openings = tt; others = s.others; lacking = tt }
 
 calm_1 : IsStep worked_policies (once_calm 1) asks_datagram (gives_bytes 34) (once_calm 2)
 unfolding once_calm
-calm_1 = record { answer = inl refl; end = refl; control = still_steady; heard = counts_so worked_policies (once_calm 1) asks_datagram (gives_bytes 34); openings = tt; others = refl; lacking = tt }
+calm_1 =
+    let s : StepsSo worked_policies (once_calm 1) asks_datagram (gives_bytes 34) (once_calm 2) = steps_at worked_policies (once_marked 4) calm_events calm_answers 1 asks_datagram (gives_bytes 34) _ _ refl refl refl in
+    record { answer = inl refl; end = s.end; control = s.control; heard = s.heard; openings = tt; others = s.others; lacking = tt }
 
 calm_2 : IsStep worked_policies (once_calm 2) answer_comes (answers.Deliver receives.Taken) (once_calm 3)
 unfolding once_calm
-calm_2 = record { answer = inl refl; end = refl; control = still_shut; heard = counts_so worked_policies (once_calm 2) answer_comes (answers.Deliver receives.Taken); openings = tt; others = refl; lacking = tt }
+calm_2 =
+    let s : StepsSo worked_policies (once_calm 2) answer_comes (answers.Deliver receives.Taken) (once_calm 3) = steps_at worked_policies (once_marked 4) calm_events calm_answers 2 answer_comes (answers.Deliver receives.Taken) _ _ refl refl refl in
+    record { answer = inl refl; end = s.end; control = s.control; heard = s.heard; openings = tt; others = s.others; lacking = tt }
 
 calm_3 : IsStep worked_policies (once_calm 3) asks_server gives_nothing (once_calm 4)
 unfolding once_calm
-calm_3 = record { answer = inl refl; end = refl; control = still_shut; heard = counts_so worked_policies (once_calm 3) asks_server gives_nothing; openings = tt; others = refl; lacking = tt }
+calm_3 =
+    let s : StepsSo worked_policies (once_calm 3) asks_server gives_nothing (once_calm 4) = steps_at worked_policies (once_marked 4) calm_events calm_answers 3 asks_server gives_nothing _ _ refl refl refl in
+    record { answer = inl refl; end = s.end; control = s.control; heard = s.heard; openings = tt; others = s.others; lacking = tt }
 
 calm_4 : IsStep worked_policies (once_calm 4) asks_datagram gives_nothing (once_calm 5)
 unfolding once_calm
-calm_4 = record { answer = inl refl; end = refl; control = still_steady; heard = counts_so worked_policies (once_calm 4) asks_datagram gives_nothing; openings = tt; others = refl; lacking = tt }
+calm_4 =
+    let s : StepsSo worked_policies (once_calm 4) asks_datagram gives_nothing (once_calm 5) = steps_at worked_policies (once_marked 4) calm_events calm_answers 4 asks_datagram gives_nothing _ _ refl refl refl in
+    record { answer = inl refl; end = s.end; control = s.control; heard = s.heard; openings = tt; others = s.others; lacking = tt }
 
 calm_seen_0 : seen_with None None ≡ view_of (once_calm 1)
 unfolding once_calm

@@ -7,8 +7,6 @@ use Rattle.quic_time.specs.Timers.{timer_at}
 use Rattle.quic_time.specs.declared.timer.Timer.TheVariants.{LossDetection}
 use Rattle.quic_machine.specs.declared.answers.Received.TheVariants as receives
 use Rattle.quic_machine.specs.declared.answers.State.TheVariants as states
-use Rattle.quic_machine.specs.declared.run.RunEvent.{RunEvent}
-use Rattle.quic_machine.specs.declared.run.Answer.{Answer}
 use Rattle.quic_machine.specs.declared.run.Answer.TheVariants as answers
 use Rattle.quic_machine.specs.declared.run.View.{View}
 use Rattle.quic_machine.specs.Machine.{World, IsStep, Follows, view_of}

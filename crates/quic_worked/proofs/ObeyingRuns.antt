@@ -26,12 +26,12 @@ use Rattle.quic_worked.specs.Held.{gives_nothing}
 use Rattle.quic_worked.specs.Losses.{asks_ping}
 use Rattle.quic_worked.specs.Timed.{serves, asks_at, comes_at, seen_with, NeverShows}
 use Rattle.quic_worked.specs.Asking.{comes_there, asks_within, asking_start, request}
-use Rattle.quic_worked.specs.Obeying.{once_stale, stale_until, stale_run, obeys_stale, once_probing, probe_packet, probing_run, probe_waits}
+use Rattle.quic_worked.specs.Obeying.{answers_probing, probing_events, stale_answers, stale_events, once_stale, stale_until, stale_run, obeys_stale, once_probing, probe_packet, probing_run, probe_waits}
 use Rattle.quic_worked.proofs.AskingRuns as asked
 use Rattle.quic_worked.proofs.BrokenRuns.{IsRefused, stops, behind}
 use Rattle.quic_worked.proofs.Codes.{no_codes}
 use Rattle.quic_worked.proofs.OwnIds.{AreOwn, own_ids}
-use Rattle.quic_worked.proofs.Steps.{counts_so, still_steady, still_shut}
+use Rattle.quic_worked.proofs.Steps.{StepsSo, steps_at}
 use Rattle.quic_worked.proofs.TimedRun.{ack_moment_of, moment_in}
 use Rattle.quic_worked.proofs.Validated.{unless_limited}
 use Rattle.quic_worked.proofs.WorkedKeys.{are_keys}
@@ -40,51 +40,75 @@ use Rattle.quic_worked.proofs.WorkedKeys.{are_keys}
 
 stale_0 : IsStep worked_policies (asking_start 100000000) (asks_at Client 0) (gives_bytes 231) (once_stale 1)
 unfolding once_stale
-stale_0 = record { answer = inl refl; end = refl; control = still_steady; heard = counts_so worked_policies (asking_start 100000000) (asks_at Client 0) (gives_bytes 231); openings = tt; others = refl; lacking = tt }
+stale_0 =
+    let s : StepsSo worked_policies (asking_start 100000000) (asks_at Client 0) (gives_bytes 231) (once_stale 1) = steps_at worked_policies (asking_start 100000000) stale_events stale_answers 0 (asks_at Client 0) (gives_bytes 231) _ _ refl refl refl in
+    record { answer = inl refl; end = s.end; control = s.control; heard = s.heard; openings = tt; others = s.others; lacking = tt }
 
 stale_1 : IsStep worked_policies (once_stale 1) asks_ping answers.Ping (once_stale 2)
 unfolding once_stale
-stale_1 = record { answer = refl; end = refl; control = still_steady; heard = counts_so worked_policies (once_stale 1) asks_ping answers.Ping; openings = tt; others = refl; lacking = tt }
+stale_1 =
+    let s : StepsSo worked_policies (once_stale 1) asks_ping answers.Ping (once_stale 2) = steps_at worked_policies (asking_start 100000000) stale_events stale_answers 1 asks_ping answers.Ping _ _ refl refl refl in
+    record { answer = refl; end = s.end; control = s.control; heard = s.heard; openings = tt; others = s.others; lacking = tt }
 
 stale_2 : IsStep worked_policies (once_stale 2) (asks_at Client 0) (gives_bytes 29) (once_stale 3)
 unfolding once_stale
-stale_2 = record { answer = inl refl; end = refl; control = still_steady; heard = counts_so worked_policies (once_stale 2) (asks_at Client 0) (gives_bytes 29); openings = tt; others = refl; lacking = tt }
+stale_2 =
+    let s : StepsSo worked_policies (once_stale 2) (asks_at Client 0) (gives_bytes 29) (once_stale 3) = steps_at worked_policies (asking_start 100000000) stale_events stale_answers 2 (asks_at Client 0) (gives_bytes 29) _ _ refl refl refl in
+    record { answer = inl refl; end = s.end; control = s.control; heard = s.heard; openings = tt; others = s.others; lacking = tt }
 
 stale_3 : IsStep worked_policies (once_stale 3) (comes_there 1 10000000) (answers.Deliver receives.Taken) (once_stale 4)
 unfolding once_stale
-stale_3 = record { answer = inl refl; end = refl; control = still_shut; heard = counts_so worked_policies (once_stale 3) (comes_there 1 10000000) (answers.Deliver receives.Taken); openings = tt; others = refl; lacking = tt }
+stale_3 =
+    let s : StepsSo worked_policies (once_stale 3) (comes_there 1 10000000) (answers.Deliver receives.Taken) (once_stale 4) = steps_at worked_policies (asking_start 100000000) stale_events stale_answers 3 (comes_there 1 10000000) (answers.Deliver receives.Taken) _ _ refl refl refl in
+    record { answer = inl refl; end = s.end; control = s.control; heard = s.heard; openings = tt; others = s.others; lacking = tt }
 
 stale_4 : IsStep worked_policies (once_stale 4) (serves Server 35000000) (answers.Timeout (Ok tt)) (once_stale 5)
 unfolding once_stale
-stale_4 = record { answer = inl refl; end = refl; control = still_shut; heard = counts_so worked_policies (once_stale 4) (serves Server 35000000) (answers.Timeout (Ok tt)); openings = tt; others = refl; lacking = tt }
+stale_4 =
+    let s : StepsSo worked_policies (once_stale 4) (serves Server 35000000) (answers.Timeout (Ok tt)) (once_stale 5) = steps_at worked_policies (asking_start 100000000) stale_events stale_answers 4 (serves Server 35000000) (answers.Timeout (Ok tt)) _ _ refl refl refl in
+    record { answer = inl refl; end = s.end; control = s.control; heard = s.heard; openings = tt; others = s.others; lacking = tt }
 
 stale_5 : IsStep worked_policies (once_stale 5) (asks_at Server 35000000) (gives_bytes 32) (once_stale 6)
 unfolding once_stale
-stale_5 = record { answer = inl refl; end = refl; control = still_shut; heard = counts_so worked_policies (once_stale 5) (asks_at Server 35000000) (gives_bytes 32); openings = tt; others = refl; lacking = tt }
+stale_5 =
+    let s : StepsSo worked_policies (once_stale 5) (asks_at Server 35000000) (gives_bytes 32) (once_stale 6) = steps_at worked_policies (asking_start 100000000) stale_events stale_answers 5 (asks_at Server 35000000) (gives_bytes 32) _ _ refl refl refl in
+    record { answer = inl refl; end = s.end; control = s.control; heard = s.heard; openings = tt; others = s.others; lacking = tt }
 
 stale_6 : IsStep worked_policies (once_stale 6) (comes_at Client 45000000) (answers.Deliver receives.Taken) (once_stale 7)
 unfolding once_stale
-stale_6 = record { answer = inl refl; end = refl; control = still_steady; heard = counts_so worked_policies (once_stale 6) (comes_at Client 45000000) (answers.Deliver receives.Taken); openings = tt; others = refl; lacking = tt }
+stale_6 =
+    let s : StepsSo worked_policies (once_stale 6) (comes_at Client 45000000) (answers.Deliver receives.Taken) (once_stale 7) = steps_at worked_policies (asking_start 100000000) stale_events stale_answers 6 (comes_at Client 45000000) (answers.Deliver receives.Taken) _ _ refl refl refl in
+    record { answer = inl refl; end = s.end; control = s.control; heard = s.heard; openings = tt; others = s.others; lacking = tt }
 
 stale_7 : IsStep worked_policies (once_stale 7) (asks_at Client 45000000) (gives_unmarked 40) (once_stale 8)
 unfolding once_stale
-stale_7 = record { answer = inl refl; end = refl; control = still_steady; heard = counts_so worked_policies (once_stale 7) (asks_at Client 45000000) (gives_unmarked 40); openings = tt; others = refl; lacking = tt }
+stale_7 =
+    let s : StepsSo worked_policies (once_stale 7) (asks_at Client 45000000) (gives_unmarked 40) (once_stale 8) = steps_at worked_policies (asking_start 100000000) stale_events stale_answers 7 (asks_at Client 45000000) (gives_unmarked 40) _ _ refl refl refl in
+    record { answer = inl refl; end = s.end; control = s.control; heard = s.heard; openings = tt; others = s.others; lacking = tt }
 
 stale_8 : IsStep worked_policies (once_stale 8) (comes_there 2 50000000) (answers.Deliver receives.Taken) (once_stale 9)
 unfolding once_stale
-stale_8 = record { answer = inl refl; end = refl; control = still_shut; heard = counts_so worked_policies (once_stale 8) (comes_there 2 50000000) (answers.Deliver receives.Taken); openings = tt; others = refl; lacking = tt }
+stale_8 =
+    let s : StepsSo worked_policies (once_stale 8) (comes_there 2 50000000) (answers.Deliver receives.Taken) (once_stale 9) = steps_at worked_policies (asking_start 100000000) stale_events stale_answers 8 (comes_there 2 50000000) (answers.Deliver receives.Taken) _ _ refl refl refl in
+    record { answer = inl refl; end = s.end; control = s.control; heard = s.heard; openings = tt; others = s.others; lacking = tt }
 
 stale_9 : IsStep worked_policies (once_stale 9) (serves Server 95000000) (answers.Timeout (Ok tt)) (once_stale 10)
 unfolding once_stale
-stale_9 = record { answer = inl refl; end = refl; control = still_shut; heard = counts_so worked_policies (once_stale 9) (serves Server 95000000) (answers.Timeout (Ok tt)); openings = tt; others = refl; lacking = tt }
+stale_9 =
+    let s : StepsSo worked_policies (once_stale 9) (serves Server 95000000) (answers.Timeout (Ok tt)) (once_stale 10) = steps_at worked_policies (asking_start 100000000) stale_events stale_answers 9 (serves Server 95000000) (answers.Timeout (Ok tt)) _ _ refl refl refl in
+    record { answer = inl refl; end = s.end; control = s.control; heard = s.heard; openings = tt; others = s.others; lacking = tt }
 
 stale_10 : IsStep worked_policies (once_stale 10) (asks_at Server 95000000) (gives_unmarked 32) (once_stale 11)
 unfolding once_stale
-stale_10 = record { answer = inl refl; end = refl; control = still_shut; heard = counts_so worked_policies (once_stale 10) (asks_at Server 95000000) (gives_unmarked 32); openings = tt; others = refl; lacking = tt }
+stale_10 =
+    let s : StepsSo worked_policies (once_stale 10) (asks_at Server 95000000) (gives_unmarked 32) (once_stale 11) = steps_at worked_policies (asking_start 100000000) stale_events stale_answers 10 (asks_at Server 95000000) (gives_unmarked 32) _ _ refl refl refl in
+    record { answer = inl refl; end = s.end; control = s.control; heard = s.heard; openings = tt; others = s.others; lacking = tt }
 
 stale_11 : IsStep worked_policies (once_stale 11) (comes_there 0 100000000) (answers.Deliver receives.Taken) (once_stale 12)
 unfolding once_stale
-stale_11 = record { answer = inl refl; end = refl; control = still_shut; heard = counts_so worked_policies (once_stale 11) (comes_there 0 100000000) (answers.Deliver receives.Taken); openings = tt; others = refl; lacking = tt }
+stale_11 =
+    let s : StepsSo worked_policies (once_stale 11) (comes_there 0 100000000) (answers.Deliver receives.Taken) (once_stale 12) = steps_at worked_policies (asking_start 100000000) stale_events stale_answers 11 (comes_there 0 100000000) (answers.Deliver receives.Taken) _ _ refl refl refl in
+    record { answer = inl refl; end = s.end; control = s.control; heard = s.heard; openings = tt; others = s.others; lacking = tt }
 
 stale_seen_0 : seen_with (Some 1099000000) None ≡ view_of (once_stale 1)
 unfolding once_stale
@@ -195,23 +219,33 @@ never_obeys end f =
 
 pub probing_0 : IsStep worked_policies (asking_start 10000000) (asks_at Client 0) (gives_bytes 229) (once_probing 1)
 unfolding once_probing
-probing_0 = record { answer = inl refl; end = refl; control = still_steady; heard = counts_so worked_policies (asking_start 10000000) (asks_at Client 0) (gives_bytes 229); openings = tt; others = refl; lacking = tt }
+probing_0 =
+    let s : StepsSo worked_policies (asking_start 10000000) (asks_at Client 0) (gives_bytes 229) (once_probing 1) = steps_at worked_policies (asking_start 10000000) probing_events (answers_probing (gives_bytes 31)) 0 (asks_at Client 0) (gives_bytes 229) _ _ refl refl refl in
+    record { answer = inl refl; end = s.end; control = s.control; heard = s.heard; openings = tt; others = s.others; lacking = tt }
 
 pub probing_1 : IsStep worked_policies (once_probing 1) (serves Client 1024000000) (answers.Timeout (Ok tt)) (once_probing 2)
 unfolding once_probing
-probing_1 = record { answer = inl refl; end = refl; control = still_steady; heard = counts_so worked_policies (once_probing 1) (serves Client 1024000000) (answers.Timeout (Ok tt)); openings = tt; others = refl; lacking = tt }
+probing_1 =
+    let s : StepsSo worked_policies (once_probing 1) (serves Client 1024000000) (answers.Timeout (Ok tt)) (once_probing 2) = steps_at worked_policies (asking_start 10000000) probing_events (answers_probing (gives_bytes 31)) 1 (serves Client 1024000000) (answers.Timeout (Ok tt)) _ _ refl refl refl in
+    record { answer = inl refl; end = s.end; control = s.control; heard = s.heard; openings = tt; others = s.others; lacking = tt }
 
 probing_2 : IsStep worked_policies (once_probing 2) (asks_at Client 1024000000) (gives_bytes 230) (once_probing 3)
 unfolding once_probing
-probing_2 = record { answer = inl refl; end = refl; control = still_steady; heard = counts_so worked_policies (once_probing 2) (asks_at Client 1024000000) (gives_bytes 230); openings = tt; others = refl; lacking = tt }
+probing_2 =
+    let s : StepsSo worked_policies (once_probing 2) (asks_at Client 1024000000) (gives_bytes 230) (once_probing 3) = steps_at worked_policies (asking_start 10000000) probing_events (answers_probing (gives_bytes 31)) 2 (asks_at Client 1024000000) (gives_bytes 230) _ _ refl refl refl in
+    record { answer = inl refl; end = s.end; control = s.control; heard = s.heard; openings = tt; others = s.others; lacking = tt }
 
 probing_3 : IsStep worked_policies (once_probing 3) (comes_there 1 1030000000) (answers.Deliver receives.Taken) (once_probing 4)
 unfolding once_probing
-probing_3 = record { answer = inl refl; end = refl; control = still_shut; heard = counts_so worked_policies (once_probing 3) (comes_there 1 1030000000) (answers.Deliver receives.Taken); openings = tt; others = refl; lacking = tt }
+probing_3 =
+    let s : StepsSo worked_policies (once_probing 3) (comes_there 1 1030000000) (answers.Deliver receives.Taken) (once_probing 4) = steps_at worked_policies (asking_start 10000000) probing_events (answers_probing (gives_bytes 31)) 3 (comes_there 1 1030000000) (answers.Deliver receives.Taken) _ _ refl refl refl in
+    record { answer = inl refl; end = s.end; control = s.control; heard = s.heard; openings = tt; others = s.others; lacking = tt }
 
 probing_4 : IsStep worked_policies (once_probing 4) (asks_at Server 1030000000) (gives_bytes 31) (once_probing 5)
 unfolding once_probing
-probing_4 = record { answer = inl refl; end = refl; control = still_shut; heard = counts_so worked_policies (once_probing 4) (asks_at Server 1030000000) (gives_bytes 31); openings = tt; others = refl; lacking = tt }
+probing_4 =
+    let s : StepsSo worked_policies (once_probing 4) (asks_at Server 1030000000) (gives_bytes 31) (once_probing 5) = steps_at worked_policies (asking_start 10000000) probing_events (answers_probing (gives_bytes 31)) 4 (asks_at Server 1030000000) (gives_bytes 31) _ _ refl refl refl in
+    record { answer = inl refl; end = s.end; control = s.control; heard = s.heard; openings = tt; others = s.others; lacking = tt }
 
 probing_seen_0 : seen_with (Some 1024000000) None ≡ view_of (once_probing 1)
 unfolding once_probing

@@ -13,14 +13,14 @@ use Rattle.quic_headline.specs.Polls.{GaveNothing, GaveAsking, IsByteToGo, IsPac
 use Rattle.quic_worked.specs.Worked.{worked_policies, hello, opens_stream, writes_hello, gives_bytes, open_view, view_with, once_written, once_sent, once_taken, server_id, sent_view, behind_ids, server_open}
 use Rattle.quic_worked.specs.Timed.{asks_at, serves, seen_with}
 use Rattle.quic_worked.specs.Held.{gives_nothing, once_held, held_run}
-use Rattle.quic_worked.specs.Paced.{full_again, paced_start, once_paced, paced_view, paced_run, needlessly_paced, unheld_run, first_expiry, scarce_start, once_scarce, uncharged_run}
+use Rattle.quic_worked.specs.Paced.{full_again, paced_start, once_paced, paced_view, paced_run, needlessly_paced, unheld_run, first_expiry, scarce_start, once_scarce, uncharged_run, scarce_events, scarce_answers}
 use Rattle.quic_headline.specs.Spread.{pacer_at, named_at, PacerIsOfHistory, SearchesApart}
 use Rattle.quic_headline.proofs.Spread.Clause.{pacer_is_of_history}
 use Rattle.quic_worked.specs.Broken.{IsNoRun}
 use Rattle.quic_worked.proofs.BrokenRuns.{IsRefused, stops, behind}
 use Rattle.quic_worked.proofs.Codes.{no_codes}
 use Rattle.quic_worked.proofs.HeldRun.{held_is_honest, held_is_run}
-use Rattle.quic_worked.proofs.Steps.{counts_so}
+use Rattle.quic_worked.proofs.Steps.{counts_so, steps_at, StepsSo}
 
 -- ---- the events
 
@@ -110,6 +110,7 @@ word_sent = record {
   frames = behind_ids (stream (record { id = 0; offset = 0; fin = false; bytes = hello }) ∷ []);
   moment = full_again;
   size = 230;
+  generation = 0;
 }
 
 word_went : sents_until paced_run Client 4 ≡ sents_until paced_run Client 3 ++ word_sent ∷ []
@@ -243,7 +244,7 @@ again_named = refl
 
 -- the word as it was sent again
 abbrev again_sent : Sent
-again_sent = record { id = server_id; number = 3; reference = 0; frames = stream (record { id = 0; offset = 5; fin = false; bytes = hello }) ∷ []; moment = first_expiry; size = 35 }
+again_sent = record { id = server_id; number = 3; reference = 0; frames = stream (record { id = 0; offset = 5; fin = false; bytes = hello }) ∷ []; moment = first_expiry; size = 35; generation = 0 }
 
 again_went : sents_until uncharged_run Client 8 ≡ sents_until uncharged_run Client 7 ++ again_sent ∷ []
 unfolding once_scarce
@@ -265,31 +266,45 @@ uncharged_paces h = not_let uncharged_run 7 first_expiry later again_gave again_
 
 scarce_opens : IsStep worked_policies scarce_start opens_stream (answers.Open (Some 0)) (once_scarce 1)
 unfolding once_scarce
-scarce_opens = record { answer = refl; end = refl; control = refl; heard = counts_so worked_policies scarce_start opens_stream (answers.Open (Some 0)); openings = tt; others = refl; lacking = tt }
+scarce_opens =
+    let s : StepsSo worked_policies scarce_start opens_stream (answers.Open (Some 0)) (once_scarce 1) = steps_at worked_policies scarce_start scarce_events scarce_answers 0 opens_stream (answers.Open (Some 0)) _ _ refl refl refl in
+    record { answer = refl; end = s.end; control = s.control; heard = s.heard; openings = tt; others = s.others; lacking = tt }
 
 scarce_writes : IsStep worked_policies (once_scarce 1) writes_hello (answers.Write (Ok 5)) (once_scarce 2)
 unfolding once_scarce
-scarce_writes = record { answer = inl refl; end = refl; control = refl; heard = counts_so worked_policies (once_scarce 1) writes_hello (answers.Write (Ok 5)); openings = tt; others = refl; lacking = λ lacks. cc }
+scarce_writes =
+    let s : StepsSo worked_policies (once_scarce 1) writes_hello (answers.Write (Ok 5)) (once_scarce 2) = steps_at worked_policies scarce_start scarce_events scarce_answers 1 writes_hello (answers.Write (Ok 5)) _ _ refl refl refl in
+    record { answer = inl refl; end = s.end; control = s.control; heard = s.heard; openings = tt; others = s.others; lacking = λ lacks. cc }
 
 scarce_gives : IsStep worked_policies (once_scarce 2) (asks_at Client 0) (gives_bytes 230) (once_scarce 3)
 unfolding once_scarce
-scarce_gives = record { answer = inl refl; end = refl; control = refl; heard = counts_so worked_policies (once_scarce 2) (asks_at Client 0) (gives_bytes 230); openings = tt; others = refl; lacking = tt }
+scarce_gives =
+    let s : StepsSo worked_policies (once_scarce 2) (asks_at Client 0) (gives_bytes 230) (once_scarce 3) = steps_at worked_policies scarce_start scarce_events scarce_answers 2 (asks_at Client 0) (gives_bytes 230) _ _ refl refl refl in
+    record { answer = inl refl; end = s.end; control = s.control; heard = s.heard; openings = tt; others = s.others; lacking = tt }
 
 scarce_expires : IsStep worked_policies (once_scarce 3) (serves Client first_expiry) (answers.Timeout (Ok tt)) (once_scarce 4)
 unfolding once_scarce
-scarce_expires = record { answer = inl refl; end = refl; control = refl; heard = counts_so worked_policies (once_scarce 3) (serves Client first_expiry) (answers.Timeout (Ok tt)); openings = tt; others = refl; lacking = tt }
+scarce_expires =
+    let s : StepsSo worked_policies (once_scarce 3) (serves Client first_expiry) (answers.Timeout (Ok tt)) (once_scarce 4) = steps_at worked_policies scarce_start scarce_events scarce_answers 3 (serves Client first_expiry) (answers.Timeout (Ok tt)) _ _ refl refl refl in
+    record { answer = inl refl; end = s.end; control = s.control; heard = s.heard; openings = tt; others = s.others; lacking = tt }
 
 scarce_probes : IsStep worked_policies (once_scarce 4) (asks_at Client first_expiry) (gives_bytes 222) (once_scarce 5)
 unfolding once_scarce
-scarce_probes = record { answer = inl refl; end = refl; control = refl; heard = counts_so worked_policies (once_scarce 4) (asks_at Client first_expiry) (gives_bytes 222); openings = tt; others = refl; lacking = tt }
+scarce_probes =
+    let s : StepsSo worked_policies (once_scarce 4) (asks_at Client first_expiry) (gives_bytes 222) (once_scarce 5) = steps_at worked_policies scarce_start scarce_events scarce_answers 4 (asks_at Client first_expiry) (gives_bytes 222) _ _ refl refl refl in
+    record { answer = inl refl; end = s.end; control = s.control; heard = s.heard; openings = tt; others = s.others; lacking = tt }
 
 scarce_probes_again : IsStep worked_policies (once_scarce 5) (asks_at Client first_expiry) (gives_bytes 222) (once_scarce 6)
 unfolding once_scarce
-scarce_probes_again = record { answer = inl refl; end = refl; control = refl; heard = counts_so worked_policies (once_scarce 5) (asks_at Client first_expiry) (gives_bytes 222); openings = tt; others = refl; lacking = tt }
+scarce_probes_again =
+    let s : StepsSo worked_policies (once_scarce 5) (asks_at Client first_expiry) (gives_bytes 222) (once_scarce 6) = steps_at worked_policies scarce_start scarce_events scarce_answers 5 (asks_at Client first_expiry) (gives_bytes 222) _ _ refl refl refl in
+    record { answer = inl refl; end = s.end; control = s.control; heard = s.heard; openings = tt; others = s.others; lacking = tt }
 
 scarce_writes_again : IsStep worked_policies (once_scarce 6) writes_hello (answers.Write (Ok 5)) (once_scarce 7)
 unfolding once_scarce
-scarce_writes_again = record { answer = inl refl; end = refl; control = refl; heard = counts_so worked_policies (once_scarce 6) writes_hello (answers.Write (Ok 5)); openings = tt; others = refl; lacking = λ lacks. cc }
+scarce_writes_again =
+    let s : StepsSo worked_policies (once_scarce 6) writes_hello (answers.Write (Ok 5)) (once_scarce 7) = steps_at worked_policies scarce_start scarce_events scarce_answers 6 writes_hello (answers.Write (Ok 5)) _ _ refl refl refl in
+    record { answer = inl refl; end = s.end; control = s.control; heard = s.heard; openings = tt; others = s.others; lacking = λ lacks. cc }
 
 uncharged_refused : IsRefused (once_scarce 7) (asks_at Client first_expiry) (gives_bytes 35)
 unfolding once_scarce

@@ -35,6 +35,7 @@ use Rattle.quic_worked.proofs.OwnIds.{honest_steady}
 use Rattle.quic_worked.proofs.BrokenRuns.{IsRefused, stops, behind, read_of, not_next}
 use Rattle.quic_worked.proofs.WrongRuns.{ends_here, step_on, NotToFrom}
 use Rattle.quic_worked.proofs.PairedRun as paired
+use Rattle.quic_worked.proofs.Unmoved.{client_tells_stays}
 
 -- ---- the premises
 
@@ -110,7 +111,7 @@ nowhere read (inr (inl g)) = flies_not g
 nowhere read (inr (inr a)) = a.was_taken
 
 pub reset_duties : (read : ReadCall) → DutiesAt (pair_giving read) 6 reset_forgotten → ⊥
-reset_duties read stands = nowhere read (stands Client (Reset 0) refl)
+reset_duties read stands = nowhere read (stands Client (λ n. false) (Reset 0) (client_tells_stays (pair_giving read) (λ n. false)) refl)
 
 -- whether the first datagram of a table has the reset of stream 0
 abbrev has_it : Table TrackedPacket → Bool

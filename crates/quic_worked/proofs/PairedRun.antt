@@ -18,46 +18,66 @@ use Rattle.quic_worked.specs.Reordered.{abc, def}
 use Rattle.quic_worked.specs.Paired.{writes_on, resets_with, asks_reset, stops_second, asks_server, client_hears, client_asks, ReadsSecond, paired_events, second_nexts, second_bounds, tells_stopped, paired_answers, paired_payload, stop_payload, paired_frames, first_open, both_open, first_written, both_written, first_reset, pair_sent, pair_taken, first_accepted, both_accepted, reset_told, second_read, second_stopped, stop_sent, stop_taken, stop_told, nothing_told, write_refused, reset_refused, paired_views, paired_run}
 use Rattle.quic_worked.proofs.WorkedRun.{ReadsSo, reads_at}
 use Rattle.quic_worked.proofs.Codes.{AllSmall, small_codes}
-use Rattle.quic_worked.proofs.Steps.{counts_so}
+use Rattle.quic_worked.proofs.Steps.{steps_so, StepsSo}
 
 -- ---- the events
 
 pub opens_first : IsStep worked_policies both_steady opens_stream (answers.Open (Some 0)) first_open
-opens_first = record { answer = refl; end = refl; control = refl; heard = counts_so worked_policies both_steady opens_stream (answers.Open (Some 0)); openings = tt; others = refl; lacking = tt }
+opens_first =
+    let s : StepsSo worked_policies both_steady opens_stream (answers.Open (Some 0)) first_open = steps_so worked_policies both_steady opens_stream (answers.Open (Some 0)) refl in
+    record { answer = refl; end = s.end; control = s.control; heard = s.heard; openings = tt; others = s.others; lacking = tt }
 
 pub opens_both : IsStep worked_policies first_open opens_stream (answers.Open (Some 4)) both_open
-opens_both = record { answer = refl; end = refl; control = refl; heard = counts_so worked_policies first_open opens_stream (answers.Open (Some 4)); openings = tt; others = refl; lacking = tt }
+opens_both =
+    let s : StepsSo worked_policies first_open opens_stream (answers.Open (Some 4)) both_open = steps_so worked_policies first_open opens_stream (answers.Open (Some 4)) refl in
+    record { answer = refl; end = s.end; control = s.control; heard = s.heard; openings = tt; others = s.others; lacking = tt }
 
 pub writes_first : IsStep worked_policies both_open (writes_on 0 abc) (answers.Write (Ok 3)) first_written
-writes_first = record { answer = inl refl; end = refl; control = refl; heard = counts_so worked_policies both_open (writes_on 0 abc) (answers.Write (Ok 3)); openings = tt; others = refl; lacking = λ lacks. cc }
+writes_first =
+    let s : StepsSo worked_policies both_open (writes_on 0 abc) (answers.Write (Ok 3)) first_written = steps_so worked_policies both_open (writes_on 0 abc) (answers.Write (Ok 3)) refl in
+    record { answer = inl refl; end = s.end; control = s.control; heard = s.heard; openings = tt; others = s.others; lacking = λ lacks. cc }
 
 pub writes_both : IsStep worked_policies first_written (writes_on 4 def) (answers.Write (Ok 3)) both_written
 unfolding with_offsets with_range joining
-writes_both = record { answer = inl refl; end = refl; control = refl; heard = counts_so worked_policies first_written (writes_on 4 def) (answers.Write (Ok 3)); openings = tt; others = refl; lacking = λ lacks. cc }
+writes_both =
+    let s : StepsSo worked_policies first_written (writes_on 4 def) (answers.Write (Ok 3)) both_written = steps_so worked_policies first_written (writes_on 4 def) (answers.Write (Ok 3)) refl in
+    record { answer = inl refl; end = s.end; control = s.control; heard = s.heard; openings = tt; others = s.others; lacking = λ lacks. cc }
 
 pub resets : IsStep worked_policies both_written (resets_with 7) (answers.Reset (Ok tt)) first_reset
 unfolding first_reset
-resets = record { answer = inl refl; end = refl; control = refl; heard = counts_so worked_policies both_written (resets_with 7) (answers.Reset (Ok tt)); openings = tt; others = refl; lacking = λ lacks. cc }
+resets =
+    let s : StepsSo worked_policies both_written (resets_with 7) (answers.Reset (Ok tt)) first_reset = steps_so worked_policies both_written (resets_with 7) (answers.Reset (Ok tt)) refl in
+    record { answer = inl refl; end = s.end; control = s.control; heard = s.heard; openings = tt; others = s.others; lacking = λ lacks. cc }
 
 pub gives : IsStep worked_policies first_reset asks_datagram (gives_bytes 232) pair_sent
 unfolding pair_sent
-gives = record { answer = inl refl; end = refl; control = refl; heard = counts_so worked_policies first_reset asks_datagram (gives_bytes 232); openings = tt; others = refl; lacking = tt }
+gives =
+    let s : StepsSo worked_policies first_reset asks_datagram (gives_bytes 232) pair_sent = steps_so worked_policies first_reset asks_datagram (gives_bytes 232) refl in
+    record { answer = inl refl; end = s.end; control = s.control; heard = s.heard; openings = tt; others = s.others; lacking = tt }
 
 pub takes : IsStep worked_policies pair_sent delivers (answers.Deliver receives.Taken) pair_taken
 unfolding pair_taken
-takes = record { answer = inl refl; end = refl; control = refl; heard = counts_so worked_policies pair_sent delivers (answers.Deliver receives.Taken); openings = tt; others = refl; lacking = tt }
+takes =
+    let s : StepsSo worked_policies pair_sent delivers (answers.Deliver receives.Taken) pair_taken = steps_so worked_policies pair_sent delivers (answers.Deliver receives.Taken) refl in
+    record { answer = inl refl; end = s.end; control = s.control; heard = s.heard; openings = tt; others = s.others; lacking = tt }
 
 pub accepts_first : IsStep worked_policies pair_taken accepts_stream (answers.Accept (Some 0)) first_accepted
 unfolding pair_taken
-accepts_first = record { answer = refl; end = refl; control = refl; heard = counts_so worked_policies pair_taken accepts_stream (answers.Accept (Some 0)); openings = tt; others = refl; lacking = tt }
+accepts_first =
+    let s : StepsSo worked_policies pair_taken accepts_stream (answers.Accept (Some 0)) first_accepted = steps_so worked_policies pair_taken accepts_stream (answers.Accept (Some 0)) refl in
+    record { answer = refl; end = s.end; control = s.control; heard = s.heard; openings = tt; others = s.others; lacking = tt }
 
 pub accepts_both : IsStep worked_policies first_accepted accepts_stream (answers.Accept (Some 4)) both_accepted
 unfolding pair_taken
-accepts_both = record { answer = refl; end = refl; control = refl; heard = counts_so worked_policies first_accepted accepts_stream (answers.Accept (Some 4)); openings = tt; others = refl; lacking = tt }
+accepts_both =
+    let s : StepsSo worked_policies first_accepted accepts_stream (answers.Accept (Some 4)) both_accepted = steps_so worked_policies first_accepted accepts_stream (answers.Accept (Some 4)) refl in
+    record { answer = refl; end = s.end; control = s.control; heard = s.heard; openings = tt; others = s.others; lacking = tt }
 
 pub tells_reset : IsStep worked_policies both_accepted asks_reset (answers.ReceivedReset (Ok (Some 7))) reset_told
 unfolding reset_told
-tells_reset = record { answer = refl; end = refl; control = refl; heard = counts_so worked_policies both_accepted asks_reset (answers.ReceivedReset (Ok (Some 7))); openings = tt; others = refl; lacking = tt }
+tells_reset =
+    let s : StepsSo worked_policies both_accepted asks_reset (answers.ReceivedReset (Ok (Some 7))) reset_told = steps_so worked_policies both_accepted asks_reset (answers.ReceivedReset (Ok (Some 7))) refl in
+    record { answer = refl; end = s.end; control = s.control; heard = s.heard; openings = tt; others = s.others; lacking = tt }
 
 -- ---- the read
 
@@ -75,31 +95,45 @@ reads = reads_at reset_told second_read 4 true second_bounds second_nexts reads_
 
 pub stops : IsStep worked_policies second_read stops_second (answers.Stop (Ok tt)) second_stopped
 unfolding second_stopped
-stops = record { answer = inl refl; end = refl; control = refl; heard = counts_so worked_policies second_read stops_second (answers.Stop (Ok tt)); openings = tt; others = refl; lacking = λ lacks. cc }
+stops =
+    let s : StepsSo worked_policies second_read stops_second (answers.Stop (Ok tt)) second_stopped = steps_so worked_policies second_read stops_second (answers.Stop (Ok tt)) refl in
+    record { answer = inl refl; end = s.end; control = s.control; heard = s.heard; openings = tt; others = s.others; lacking = λ lacks. cc }
 
 pub gives_stop : IsStep worked_policies second_stopped asks_server (gives_bytes 230) stop_sent
 unfolding stop_sent
-gives_stop = record { answer = inl refl; end = refl; control = refl; heard = counts_so worked_policies second_stopped asks_server (gives_bytes 230); openings = tt; others = refl; lacking = tt }
+gives_stop =
+    let s : StepsSo worked_policies second_stopped asks_server (gives_bytes 230) stop_sent = steps_so worked_policies second_stopped asks_server (gives_bytes 230) refl in
+    record { answer = inl refl; end = s.end; control = s.control; heard = s.heard; openings = tt; others = s.others; lacking = tt }
 
 pub takes_stop : IsStep worked_policies stop_sent client_hears (answers.Deliver receives.Taken) stop_taken
 unfolding stop_taken
-takes_stop = record { answer = inl refl; end = refl; control = refl; heard = counts_so worked_policies stop_sent client_hears (answers.Deliver receives.Taken); openings = tt; others = refl; lacking = tt }
+takes_stop =
+    let s : StepsSo worked_policies stop_sent client_hears (answers.Deliver receives.Taken) stop_taken = steps_so worked_policies stop_sent client_hears (answers.Deliver receives.Taken) refl in
+    record { answer = inl refl; end = s.end; control = s.control; heard = s.heard; openings = tt; others = s.others; lacking = tt }
 
 pub tells_stop : IsStep worked_policies stop_taken client_asks tells_stopped stop_told
 unfolding stop_taken
-tells_stop = record { answer = refl; end = refl; control = refl; heard = counts_so worked_policies stop_taken client_asks tells_stopped; openings = tt; others = refl; lacking = tt }
+tells_stop =
+    let s : StepsSo worked_policies stop_taken client_asks tells_stopped stop_told = steps_so worked_policies stop_taken client_asks tells_stopped refl in
+    record { answer = refl; end = s.end; control = s.control; heard = s.heard; openings = tt; others = s.others; lacking = tt }
 
 pub tells_nothing : IsStep worked_policies stop_told client_asks (answers.Event None) nothing_told
 unfolding stop_taken
-tells_nothing = record { answer = refl; end = refl; control = refl; heard = counts_so worked_policies stop_told client_asks (answers.Event None); openings = tt; others = refl; lacking = tt }
+tells_nothing =
+    let s : StepsSo worked_policies stop_told client_asks (answers.Event None) nothing_told = steps_so worked_policies stop_told client_asks (answers.Event None) refl in
+    record { answer = refl; end = s.end; control = s.control; heard = s.heard; openings = tt; others = s.others; lacking = tt }
 
 pub writes_no_more : IsStep worked_policies nothing_told (writes_on 4 abc) (answers.Write (Err (write_errors.Stopped 9))) write_refused
 unfolding stop_taken
-writes_no_more = record { answer = inl refl; end = refl; control = refl; heard = counts_so worked_policies nothing_told (writes_on 4 abc) (answers.Write (Err (write_errors.Stopped 9))); openings = tt; others = refl; lacking = λ lacks. cc }
+writes_no_more =
+    let s : StepsSo worked_policies nothing_told (writes_on 4 abc) (answers.Write (Err (write_errors.Stopped 9))) write_refused = steps_so worked_policies nothing_told (writes_on 4 abc) (answers.Write (Err (write_errors.Stopped 9))) refl in
+    record { answer = inl refl; end = s.end; control = s.control; heard = s.heard; openings = tt; others = s.others; lacking = λ lacks. cc }
 
 pub resets_no_more : IsStep worked_policies write_refused (resets_with 8) (answers.Reset (Err update_errors.ClosedStream)) reset_refused
 unfolding stop_taken
-resets_no_more = record { answer = inl refl; end = refl; control = refl; heard = counts_so worked_policies write_refused (resets_with 8) (answers.Reset (Err update_errors.ClosedStream)); openings = tt; others = refl; lacking = λ lacks. cc }
+resets_no_more =
+    let s : StepsSo worked_policies write_refused (resets_with 8) (answers.Reset (Err update_errors.ClosedStream)) reset_refused = steps_so worked_policies write_refused (resets_with 8) (answers.Reset (Err update_errors.ClosedStream)) refl in
+    record { answer = inl refl; end = s.end; control = s.control; heard = s.heard; openings = tt; others = s.others; lacking = λ lacks. cc }
 
 -- ---- what is seen
 

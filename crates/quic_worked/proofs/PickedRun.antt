@@ -26,7 +26,7 @@ use Rattle.quic_worked.proofs.ReorderedRun as reordered
 use Rattle.quic_worked.proofs.Codes.{no_codes}
 use Rattle.quic_worked.proofs.OwnIds.{honest}
 use Rattle.quic_worked.proofs.BrokenRuns.{stops, behind, read_of, not_next}
-use Rattle.quic_worked.proofs.Steps.{counts_so}
+use Rattle.quic_worked.proofs.Steps.{steps_so, StepsSo}
 
 -- ---- the reads
 
@@ -43,7 +43,9 @@ reads_first = reads_at second_accepted picked_once 0 false picked_bounds (picks_
 
 takes_abc : IsStep worked_policies picked_once (delivers_at 0) (answers.Deliver receives.Taken) picked_taken
 unfolding picked_taken
-takes_abc = record { answer = inl refl; end = refl; control = refl; heard = counts_so worked_policies picked_once (delivers_at 0) (answers.Deliver receives.Taken); openings = tt; others = refl; lacking = tt }
+takes_abc =
+    let s : StepsSo worked_policies picked_once (delivers_at 0) (answers.Deliver receives.Taken) picked_taken = steps_so worked_policies picked_once (delivers_at 0) (answers.Deliver receives.Taken) refl in
+    record { answer = inl refl; end = s.end; control = s.control; heard = s.heard; openings = tt; others = s.others; lacking = tt }
 
 -- then what lacked
 second_so : ReadsSo picked_taken 0 false picked_bounds (picks_at 0 abc) picked_twice.server

@@ -20,7 +20,7 @@ use Rattle.quic_worked.specs.Worked.{worked_policies, gives_bytes, both_steady}
 use Rattle.quic_worked.specs.Acknowledged.{client_acked}
 use Rattle.quic_worked.specs.Broken.{NeverLeadsFrom}
 use Rattle.quic_worked.specs.Paired.{giving_events, giving_answers, first_open, both_open, first_written, both_written, first_reset, pair_sent}
-use Rattle.quic_worked.specs.Timed.{serves, asks_at, seen_with, due_at}
+use Rattle.quic_worked.specs.Timed.{serves, asks_at, due_at}
 use Rattle.quic_worked.specs.Probed.{shown_with, later_events, later_answers, once_probed, probed_run, the_reset, both_with, record_dropped, datagram_dropped}
 use Rattle.quic_worked.proofs.Codes.{AllSmall, small_codes}
 use Rattle.quic_worked.proofs.Waited.{as_many}
@@ -28,7 +28,8 @@ use Rattle.quic_worked.proofs.OwnIds.{honest_steady}
 use Rattle.quic_worked.proofs.WrongRuns.{ends_here, step_on, NotToFrom}
 use Rattle.quic_worked.proofs.PairedRun as paired
 use Rattle.quic_worked.proofs.TimedRun.{shows}
-use Rattle.quic_worked.proofs.Steps.{counts_so}
+use Rattle.quic_worked.proofs.Steps.{steps_at, StepsSo}
+use Rattle.quic_worked.proofs.Unmoved.{client_tells_stays}
 
 pub probed_is_honest : IsHonest probed_run
 probed_is_honest = honest_steady probed_run (record { start = refl; keys = refl; client = (tt, (tt, (inl refl, (inr (inl refl), (inl refl, (tt, (tt, (tt, tt)))))))); server = (tt, (tt, (tt, (tt, (tt, (tt, (tt, (tt, tt)))))))) })
@@ -37,11 +38,15 @@ probed_is_honest = honest_steady probed_run (record { start = refl; keys = refl;
 
 expires : IsStep worked_policies pair_sent (serves Client 1024000000) (answers.Timeout (Ok tt)) (once_probed 1)
 unfolding once_probed
-expires = record { answer = inl refl; end = refl; control = refl; heard = counts_so worked_policies pair_sent (serves Client 1024000000) (answers.Timeout (Ok tt)); openings = tt; others = refl; lacking = tt }
+expires =
+    let s : StepsSo worked_policies pair_sent (serves Client 1024000000) (answers.Timeout (Ok tt)) (once_probed 1) = steps_at worked_policies pair_sent later_events later_answers 0 (serves Client 1024000000) (answers.Timeout (Ok tt)) _ _ refl refl refl in
+    record { answer = inl refl; end = s.end; control = s.control; heard = s.heard; openings = tt; others = s.others; lacking = tt }
 
 probes : IsStep worked_policies (once_probed 1) (asks_at Client 1024000000) (gives_bytes 226) (once_probed 2)
 unfolding once_probed
-probes = record { answer = inl refl; end = refl; control = refl; heard = counts_so worked_policies (once_probed 1) (asks_at Client 1024000000) (gives_bytes 226); openings = tt; others = refl; lacking = tt }
+probes =
+    let s : StepsSo worked_policies (once_probed 1) (asks_at Client 1024000000) (gives_bytes 226) (once_probed 2) = steps_at worked_policies pair_sent later_events later_answers 1 (asks_at Client 1024000000) (gives_bytes 226) _ _ refl refl refl in
+    record { answer = inl refl; end = s.end; control = s.control; heard = s.heard; openings = tt; others = s.others; lacking = tt }
 
 expired_seen : shown_with (Some 2048000000) ≡ view_of (once_probed 1)
 unfolding once_probed
@@ -216,7 +221,7 @@ nowhere (inr (inl g)) = carries_not g
 nowhere (inr (inr a)) = a.was_taken
 
 pub dropped_duties : DutiesAt probed_run 8 record_dropped → ⊥
-dropped_duties stands = nowhere (stands Client (Reset 0) refl)
+dropped_duties stands = nowhere (stands Client (λ n. false) (Reset 0) (client_tells_stays probed_run (λ n. false)) refl)
 
 -- whether a datagram among some has the reset
 abbrev one_has : Table TrackedPacket → Bool

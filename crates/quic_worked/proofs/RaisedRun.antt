@@ -1,6 +1,6 @@
 -- The run in which a limit is lost and goes again, event by event; where the limit is at each
 -- place; and what machines leave that forget it.
-use Rattle.std.proofs.Common.{◌≡◌, ℕ, map, List, [], ◌∷◌, ◌++◌, take, Ok, true, false, refl, inl, inr, sym, ap, ◌∙◌, subst, arith, ◌⊎◌}
+use Rattle.std.proofs.Common.{◌≡◌, Bool, ℕ, map, List, [], ◌∷◌, ◌++◌, take, Ok, true, false, refl, inl, inr, sym, ap, ◌∙◌, subst, arith, ◌⊎◌}
 use Rattle.quic_wire_core.specs.declared.stream_id.Side.TheVariants.{Client, Server}
 use Rattle.quic_wire_core.specs.declared.stream_id.Dir.TheVariants.{Uni}
 use Rattle.quic_wire.specs.Value.{FrameValue, max_data}
@@ -28,6 +28,7 @@ use Rattle.quic_worked.proofs.Codes.{no_codes}
 use Rattle.quic_worked.proofs.CreditRuns as credit
 use Rattle.quic_worked.proofs.WrongRuns.{NeverEnds, ends_here, step_on}
 use Rattle.quic_worked.proofs.Steps.{counts_so}
+use Rattle.quic_worked.proofs.Unmoved.{none_to_tell}
 
 -- ---- the events
 
@@ -405,8 +406,8 @@ first_said read =
     let said = from_by 0 16 (sents_until (raised_run read) Server 17) (subst (λ (xs : List (ℕ × ℕ)). In {X = ℕ × ℕ} (0, 16) xs) (sym (one_said read)) (inl refl)) in
     record { sent = said.0; among = said.1; carried = said.3 }
 
-pub is_owed : (read : ReadCall) → IsOwed (in_use (raised_run read) Server 17) limit_forgotten.server (sents_until (raised_run read) Server 17) (until (raised_run read) Server 17) (Limit AllData 16)
-is_owed read = record {
+pub is_owed : (read : ReadCall) (stays : ℕ → Bool) → IsOwed (in_use (raised_run read) stays Server 17) limit_forgotten.server (sents_until (raised_run read) Server 17) (until (raised_run read) Server 17) (Limit AllData 16)
+is_owed read stays = record {
   said = first_said read;
   greatest = λ other given. (let one = only_one read other given.sent given.among given.carried in let same = one.1 in omega arith);
   matters = tt;
@@ -426,7 +427,7 @@ nowhere read (inr (inl f)) = go (subst (λ (xs : List ℕ). In f.sent.number xs)
 nowhere read (inr (inr c)) = subst (λ (xs : List ℕ). In c.limit xs) (none_taken read) (taken_of c.limit c.packet (took (raised_run read) Client 17) c.was_taken c.carried)
 
 pub forgets : (read : ReadCall) → DutiesAt (raised_run read) 17 limit_forgotten → ⊥
-forgets read stands = nowhere read (stands Server (Limit AllData 16) (is_owed read))
+forgets read stands = nowhere read (stands Server (λ n. false) (Limit AllData 16) (none_to_tell (raised_run read) Server (λ n. false) refl) (is_owed read (λ n. false)))
 
 still_due : limit_lost.server.waiting.frames.max_data ≡ true
 unfolding limit_lost

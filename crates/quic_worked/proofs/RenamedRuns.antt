@@ -1,6 +1,6 @@
 -- The run in which an end uses the next id of its peer, event by event, and machines that take one
 -- id for another.
-use Rattle.std.proofs.Common.{◌≡◌, ℕ, zero, suc, List, [], ◌∷◌, ◌++◌, Some, None, Ok, refl, inl, inr, sym, ap, ◌∙◌, subst, arith}
+use Rattle.std.proofs.Common.{◌≡◌, Bool, ℕ, zero, suc, List, [], ◌∷◌, ◌++◌, Some, None, Ok, refl, inl, inr, sym, ap, ◌∙◌, subst, arith}
 use Rattle.std.specs.Prelude.{slice_index, false}
 use Rattle.quic_wire_core.specs.TransportError.{plain_error}
 use Rattle.quic_wire_core.specs.declared.stream_id.Side.{Side}
@@ -36,37 +36,52 @@ use Rattle.quic_worked.proofs.Codes.{no_codes}
 use Rattle.quic_worked.proofs.OwnIds.{honest_steady}
 use Rattle.quic_worked.proofs.BrokenRuns.{IsRefused, behind, stops}
 use Rattle.quic_worked.proofs.WrongRuns.{NeverEnds, ends_here, step_on}
-use Rattle.quic_worked.proofs.Steps.{counts_so}
+use Rattle.quic_worked.proofs.Steps.{steps_at, StepsSo}
+use Rattle.quic_worked.proofs.Unmoved.{client_tells_stays}
 
 -- ---- the machine's run
 
 pub client_tells : IsStep worked_policies both_steady asks_datagram (gives_bytes 222) (once_renamed 1)
 unfolding once_renamed
-client_tells = record { answer = inl refl; end = refl; control = refl; heard = counts_so worked_policies both_steady asks_datagram (gives_bytes 222); openings = tt; others = refl; lacking = tt }
+client_tells =
+    let s : StepsSo worked_policies both_steady asks_datagram (gives_bytes 222) (once_renamed 1) = steps_at worked_policies both_steady renaming_events renaming_answers 0 asks_datagram (gives_bytes 222) _ _ refl refl refl in
+    record { answer = inl refl; end = s.end; control = s.control; heard = s.heard; openings = tt; others = s.others; lacking = tt }
 
 pub server_tells : IsStep worked_policies (once_renamed 1) asks_server (gives_bytes 222) (once_renamed 2)
 unfolding once_renamed
-server_tells = record { answer = inl refl; end = refl; control = refl; heard = counts_so worked_policies (once_renamed 1) asks_server (gives_bytes 222); openings = tt; others = refl; lacking = tt }
+server_tells =
+    let s : StepsSo worked_policies (once_renamed 1) asks_server (gives_bytes 222) (once_renamed 2) = steps_at worked_policies both_steady renaming_events renaming_answers 1 asks_server (gives_bytes 222) _ _ refl refl refl in
+    record { answer = inl refl; end = s.end; control = s.control; heard = s.heard; openings = tt; others = s.others; lacking = tt }
 
 pub client_takes : IsStep worked_policies (once_renamed 2) client_hears (answers.Deliver receives.Taken) (once_renamed 3)
 unfolding once_renamed
-client_takes = record { answer = inl refl; end = refl; control = refl; heard = counts_so worked_policies (once_renamed 2) client_hears (answers.Deliver receives.Taken); openings = tt; others = refl; lacking = tt }
+client_takes =
+    let s : StepsSo worked_policies (once_renamed 2) client_hears (answers.Deliver receives.Taken) (once_renamed 3) = steps_at worked_policies both_steady renaming_events renaming_answers 2 client_hears (answers.Deliver receives.Taken) _ _ refl refl refl in
+    record { answer = inl refl; end = s.end; control = s.control; heard = s.heard; openings = tt; others = s.others; lacking = tt }
 
 pub client_uses : IsStep worked_policies (once_renamed 3) uses_next (answers.UseNextId (Ok tt)) (once_renamed 4)
 unfolding once_renamed
-client_uses = record { answer = inl refl; end = refl; control = refl; heard = counts_so worked_policies (once_renamed 3) uses_next (answers.UseNextId (Ok tt)); openings = tt; others = refl; lacking = λ lacks. cc }
+client_uses =
+    let s : StepsSo worked_policies (once_renamed 3) uses_next (answers.UseNextId (Ok tt)) (once_renamed 4) = steps_at worked_policies both_steady renaming_events renaming_answers 3 uses_next (answers.UseNextId (Ok tt)) _ _ refl refl refl in
+    record { answer = inl refl; end = s.end; control = s.control; heard = s.heard; openings = tt; others = s.others; lacking = λ lacks. cc }
 
 client_gives : IsStep worked_policies (once_renamed 4) asks_datagram (gives_bytes 33) (once_renamed 5)
 unfolding once_renamed
-client_gives = record { answer = inl refl; end = refl; control = refl; heard = counts_so worked_policies (once_renamed 4) asks_datagram (gives_bytes 33); openings = tt; others = refl; lacking = tt }
+client_gives =
+    let s : StepsSo worked_policies (once_renamed 4) asks_datagram (gives_bytes 33) (once_renamed 5) = steps_at worked_policies both_steady renaming_events renaming_answers 4 asks_datagram (gives_bytes 33) _ _ refl refl refl in
+    record { answer = inl refl; end = s.end; control = s.control; heard = s.heard; openings = tt; others = s.others; lacking = tt }
 
 server_takes : IsStep worked_policies (once_renamed 5) (delivers_at 1) (answers.Deliver receives.Taken) (once_renamed 6)
 unfolding once_renamed
-server_takes = record { answer = inl refl; end = refl; control = refl; heard = counts_so worked_policies (once_renamed 5) (delivers_at 1) (answers.Deliver receives.Taken); openings = tt; others = refl; lacking = tt }
+server_takes =
+    let s : StepsSo worked_policies (once_renamed 5) (delivers_at 1) (answers.Deliver receives.Taken) (once_renamed 6) = steps_at worked_policies both_steady renaming_events renaming_answers 5 (delivers_at 1) (answers.Deliver receives.Taken) _ _ refl refl refl in
+    record { answer = inl refl; end = s.end; control = s.control; heard = s.heard; openings = tt; others = s.others; lacking = tt }
 
 server_drops : IsStep worked_policies (once_renamed 6) (delivers_at 0) (answers.Deliver (receives.Dropped drops.UnknownId)) (once_renamed 7)
 unfolding once_renamed
-server_drops = record { answer = inl refl; end = refl; control = refl; heard = counts_so worked_policies (once_renamed 6) (delivers_at 0) (answers.Deliver (receives.Dropped drops.UnknownId)); openings = tt; others = refl; lacking = tt }
+server_drops =
+    let s : StepsSo worked_policies (once_renamed 6) (delivers_at 0) (answers.Deliver (receives.Dropped drops.UnknownId)) (once_renamed 7) = steps_at worked_policies both_steady renaming_events renaming_answers 6 (delivers_at 0) (answers.Deliver (receives.Dropped drops.UnknownId)) _ _ refl refl refl in
+    record { answer = inl refl; end = s.end; control = s.control; heard = s.heard; openings = tt; others = s.others; lacking = tt }
 
 -- what is seen behind the first so many events
 seen_first : (record { client = sent_view; server = open_view }) ≡ view_of (once_renamed 1)
@@ -170,20 +185,20 @@ is_issued = subst (λ (ps : List Packet). IsIssued (first_id_of_peer renaming_ru
 
 -- ---- it is in use
 
-pub none_used : in_use renaming_run Client 3 ≡ 0
+pub none_used : (stays : ℕ → Bool) → in_use renaming_run stays Client 3 ≡ 0
 unfolding client_acked
-none_used = refl
+none_used stays = refl
 
-pub next_used : in_use renaming_run Client 4 ≡ 1
+pub next_used : (stays : ℕ → Bool) → in_use renaming_run stays Client 4 ≡ 1
 unfolding client_acked
-next_used = refl
+next_used stays = refl
 
 ids_taken_then : took renaming_run Client 4 ≡ ids_packet ∷ []
 unfolding client_acked
 ids_taken_then = refl
 
-pub told_is_used : IsToldId (first_id_of_peer renaming_run Client) (took renaming_run Client 4) (in_use renaming_run Client 4) id_word
-told_is_used = inr (subst (λ (n : ℕ). WasToldId (took renaming_run Client 4) n id_word) (sym next_used) (subst (λ (ps : List Packet). WasToldId ps 1 id_word) (sym ids_taken_then) told_first))
+pub told_is_used : (stays : ℕ → Bool) → IsToldId (first_id_of_peer renaming_run Client) (took renaming_run Client 4) (in_use renaming_run stays Client 4) id_word
+told_is_used stays = inr (subst (λ (n : ℕ). WasToldId (took renaming_run Client 4) n id_word) (sym (next_used stays)) (subst (λ (ps : List Packet). WasToldId ps 1 id_word) (sym ids_taken_then) told_first))
 
 -- ---- the id that was retired is unknown
 
@@ -270,7 +285,7 @@ old_taken : took old_used Client 4 ≡ ids_packet ∷ []
 unfolding client_acked
 old_taken = refl
 
-next_asked : in_use old_used Client 4 ≡ 1
+next_asked : in_use old_used (λ n. false) Client 4 ≡ 1
 unfolding client_acked
 next_asked = refl
 
@@ -279,11 +294,11 @@ gave_old = record { transmit = record { size = 31; ecn = Some Ect0; remote = 0 }
 
 pub old_shows : IdsAreInUse old_used → ⊥
 unfolding gave_old
-old_shows h = go (h Client 4 0 gave_old refl)
+old_shows h = go (h Client (λ n. false) 4 0 gave_old (client_tells_stays old_used (λ n. false)) refl)
   where
-    go : IsToldId (first_id_of_peer old_used Client) (took old_used Client 4) (in_use old_used Client 4) server_id → ⊥
+    go : IsToldId (first_id_of_peer old_used Client) (took old_used Client 4) (in_use old_used (λ n. false) Client 4) server_id → ⊥
     go (inl first) = let one = next_asked in let zero = first.0 in omega (arith, one, zero)
-    go (inr told) = not_told (in_use old_used Client 4) (subst (λ (ps : List Packet). WasToldId ps (in_use old_used Client 4) server_id) old_taken told)
+    go (inr told) = not_told (in_use old_used (λ n. false) Client 4) (subst (λ (ps : List Packet). WasToldId ps (in_use old_used (λ n. false) Client 4) server_id) old_taken told)
 
 -- a datagram goes to this id, and doesn't retire number 0
 abbrev Plain : List ℕ → Sent → Type 0

@@ -1,6 +1,6 @@
 -- The run in which an application is told that a stream was reset, event by event; and a machine
 -- that tells it nothing.
-use Rattle.std.proofs.Common.{◌≡◌, true, false, Some, None, Ok, refl, sym, ◌∙◌, inl, arith}
+use Rattle.std.proofs.Common.{◌≡◌, true, false, None, Ok, refl, sym, ◌∙◌, inl, arith}
 use Rattle.quic_wire_core.specs.declared.stream_id.Side.TheVariants.{Server}
 use Rattle.quic_machine.specs.declared.answers.Received.TheVariants as receives
 use Rattle.quic_machine.specs.declared.run.Answer.TheVariants as answers
@@ -16,47 +16,61 @@ use Rattle.quic_worked.specs.Messages.{server_asks}
 use Rattle.quic_worked.specs.Told.{tells_opened, tells_readable}
 use Rattle.quic_worked.specs.Reset.{reset_run, reset_untold, once_reset, reset_sent, bytes_taken, bytes_told, reset_taken, reset_told, reset_end}
 use Rattle.quic_worked.proofs.Codes.{AllSmall, small_codes}
-use Rattle.quic_worked.proofs.Steps.{others_so, counts_so, still_shut}
+use Rattle.quic_worked.proofs.Steps.{steps_so, StepsSo}
 use Rattle.quic_worked.proofs.OwnIds.{honest}
 use Rattle.quic_worked.proofs.BrokenRuns.{IsRefused, stops, behind}
 use Rattle.quic_worked.proofs.ReorderedRun.{opened, first_written, opens as opens_first, writes_abc, gives_abc, one_waits, both_wait, sees_first}
 
 resets : IsStep worked_policies first_sent (resets_with 7) (answers.Reset (Ok tt)) once_reset
 unfolding once_reset
-resets = record { answer = inl refl; end = refl; control = refl; heard = counts_so worked_policies first_sent (resets_with 7) (answers.Reset (Ok tt)); openings = tt; others = others_so worked_policies first_sent (resets_with 7) (answers.Reset (Ok tt)); lacking = λ lacks. cc }
+resets =
+    let s : StepsSo worked_policies first_sent (resets_with 7) (answers.Reset (Ok tt)) once_reset = steps_so worked_policies first_sent (resets_with 7) (answers.Reset (Ok tt)) refl in
+    record { answer = inl refl; end = s.end; control = s.control; heard = s.heard; openings = tt; others = s.others; lacking = λ lacks. cc }
 
 gives_reset : IsStep worked_policies once_reset asks_datagram (gives_bytes 30) reset_sent
 unfolding reset_sent
-gives_reset = record { answer = inl refl; end = refl; control = refl; heard = counts_so worked_policies once_reset asks_datagram (gives_bytes 30); openings = tt; others = refl; lacking = tt }
+gives_reset =
+    let s : StepsSo worked_policies once_reset asks_datagram (gives_bytes 30) reset_sent = steps_so worked_policies once_reset asks_datagram (gives_bytes 30) refl in
+    record { answer = inl refl; end = s.end; control = s.control; heard = s.heard; openings = tt; others = s.others; lacking = tt }
 
 takes_bytes : IsStep worked_policies reset_sent (delivers_at 0) (answers.Deliver receives.Taken) bytes_taken
 unfolding bytes_taken
-takes_bytes = record { answer = inl refl; end = refl; control = still_shut; heard = counts_so worked_policies reset_sent (delivers_at 0) (answers.Deliver receives.Taken); openings = tt; others = refl; lacking = tt }
+takes_bytes =
+    let s : StepsSo worked_policies reset_sent (delivers_at 0) (answers.Deliver receives.Taken) bytes_taken = steps_so worked_policies reset_sent (delivers_at 0) (answers.Deliver receives.Taken) refl in
+    record { answer = inl refl; end = s.end; control = s.control; heard = s.heard; openings = tt; others = s.others; lacking = tt }
 
 bytes_opened : tells_opened ≡ answers.Event (end_tells bytes_taken.server)
 unfolding bytes_taken
 bytes_opened = refl
 
 tells_bytes : IsStep worked_policies bytes_taken server_asks tells_opened bytes_told
-tells_bytes = record { answer = bytes_opened; end = refl; control = refl; heard = counts_so worked_policies bytes_taken server_asks tells_opened; openings = tt; others = refl; lacking = tt }
+tells_bytes =
+    let s : StepsSo worked_policies bytes_taken server_asks tells_opened bytes_told = steps_so worked_policies bytes_taken server_asks tells_opened refl in
+    record { answer = bytes_opened; end = s.end; control = s.control; heard = s.heard; openings = tt; others = s.others; lacking = tt }
 
 takes_reset : IsStep worked_policies bytes_told (delivers_at 1) (answers.Deliver receives.Taken) reset_taken
 unfolding reset_taken
-takes_reset = record { answer = inl refl; end = refl; control = still_shut; heard = counts_so worked_policies bytes_told (delivers_at 1) (answers.Deliver receives.Taken); openings = tt; others = refl; lacking = tt }
+takes_reset =
+    let s : StepsSo worked_policies bytes_told (delivers_at 1) (answers.Deliver receives.Taken) reset_taken = steps_so worked_policies bytes_told (delivers_at 1) (answers.Deliver receives.Taken) refl in
+    record { answer = inl refl; end = s.end; control = s.control; heard = s.heard; openings = tt; others = s.others; lacking = tt }
 
 reset_readable : tells_readable ≡ answers.Event (end_tells reset_taken.server)
 unfolding reset_taken
 reset_readable = refl
 
 tells_reset : IsStep worked_policies reset_taken server_asks tells_readable reset_told
-tells_reset = record { answer = reset_readable; end = refl; control = refl; heard = counts_so worked_policies reset_taken server_asks tells_readable; openings = tt; others = refl; lacking = tt }
+tells_reset =
+    let s : StepsSo worked_policies reset_taken server_asks tells_readable reset_told = steps_so worked_policies reset_taken server_asks tells_readable refl in
+    record { answer = reset_readable; end = s.end; control = s.control; heard = s.heard; openings = tt; others = s.others; lacking = tt }
 
 no_more : answers.Event None ≡ answers.Event (end_tells reset_told.server)
 unfolding reset_taken
 no_more = refl
 
 tells_no_more : IsStep worked_policies reset_told server_asks (answers.Event None) reset_end
-tells_no_more = record { answer = no_more; end = refl; control = refl; heard = counts_so worked_policies reset_told server_asks (answers.Event None); openings = tt; others = refl; lacking = tt }
+tells_no_more =
+    let s : StepsSo worked_policies reset_told server_asks (answers.Event None) reset_end = steps_so worked_policies reset_told server_asks (answers.Event None) refl in
+    record { answer = no_more; end = s.end; control = s.control; heard = s.heard; openings = tt; others = s.others; lacking = tt }
 
 -- ---- what is seen
 

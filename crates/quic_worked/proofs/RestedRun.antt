@@ -1,6 +1,6 @@
 -- The run in which both ends come to rest, event by event, and those of machines that rest too
 -- early or not at all.
-use Rattle.std.proofs.Common.{◌≡◌, ℕ, ◌^◌, ◌<◌, List, [], ◌∷◌, ◌++◌, replicate, take, true, Option, Some, None, Ok, refl, ◌⊎◌, inl, inr, sym, ap, ◌∙◌, subst, lit<, lit≤, arith}
+use Rattle.std.proofs.Common.{◌≡◌, ℕ, ◌^◌, ◌<◌, List, [], ◌∷◌, ◌++◌, take, true, Option, Some, None, Ok, refl, ◌⊎◌, inl, inr, sym, ap, ◌∙◌, subst, lit<, lit≤, arith}
 use Rattle.std.specs.Prelude.{slice_get}
 use Rattle.std.proofs.lemmas.List.Elements.{All-head, All-tail}
 use Rattle.quic_wire_core.specs.declared.stream_id.Side.{Side}
@@ -20,7 +20,7 @@ use Rattle.quic_machine.specs.Machine.{World, IsStep, Follows, view_of}
 use Rattle.quic_machine.specs.RunLaws.{one_run}
 use Rattle.quic_headline.specs.Runs.{Packet, In, IsNamed, HasArrived, EndHasArrived, until}
 use Rattle.quic_headline.specs.Observer.{Sent as SentAs, took, sents_until}
-use Rattle.quic_headline.specs.Moments.{loss_timer, ack_timer, AllNamed, LossTimerQuiet}
+use Rattle.quic_headline.specs.Moments.{loss_timer, AllNamed, LossTimerQuiet}
 use Rattle.quic_headline.specs.Polls.{pacing_timer, IsPaced}
 use Rattle.quic_headline.specs.Headline.{IsHonest, IsRun}
 use Rattle.quic_headline.specs.Spread.{named_at, PacerIsOfHistory, SearchesApart}
@@ -37,7 +37,7 @@ use Rattle.quic_worked.proofs.BrokenRuns.{IsRefused, stops, behind}
 use Rattle.quic_worked.proofs.WorkedKeys.{are_keys}
 use Rattle.quic_worked.proofs.WorkedHonest.{in_range, making}
 use Rattle.quic_worked.proofs.WorkedRun.{parameters_say}
-use Rattle.quic_worked.proofs.Steps.{counts_so, others_so}
+use Rattle.quic_worked.proofs.Steps.{StepsSo, others_so, steps_at}
 
 -- ---- the premises
 
@@ -90,58 +90,84 @@ have_room = record { controlled = record { client = roomy; server = roomy }; cli
 
 opens : IsStep worked_policies rested_start opens_stream (answers.Open (Some 0)) (once_rested 1)
 unfolding once_rested
-opens = record { answer = refl; end = refl; control = refl; heard = counts_so worked_policies rested_start opens_stream (answers.Open (Some 0)); openings = tt; others = refl; lacking = tt }
+opens =
+    let s : StepsSo worked_policies rested_start opens_stream (answers.Open (Some 0)) (once_rested 1) = steps_at worked_policies rested_start rested_events rested_answers 0 opens_stream (answers.Open (Some 0)) _ _ refl refl refl in
+    record { answer = refl; end = s.end; control = s.control; heard = s.heard; openings = tt; others = s.others; lacking = tt }
 
 writes : IsStep worked_policies (once_rested 1) writes_hello (answers.Write (Ok 5)) (once_rested 2)
 unfolding once_rested
-writes = record { answer = inl refl; end = refl; control = refl; heard = counts_so worked_policies (once_rested 1) writes_hello (answers.Write (Ok 5)); openings = tt; others = refl; lacking = λ lacks. cc }
+writes =
+    let s : StepsSo worked_policies (once_rested 1) writes_hello (answers.Write (Ok 5)) (once_rested 2) = steps_at worked_policies rested_start rested_events rested_answers 1 writes_hello (answers.Write (Ok 5)) _ _ refl refl refl in
+    record { answer = inl refl; end = s.end; control = s.control; heard = s.heard; openings = tt; others = s.others; lacking = λ lacks. cc }
 
 finishes : IsStep worked_policies (once_rested 2) finishes_stream (answers.Finish (Ok tt)) (once_rested 3)
 unfolding once_rested
-finishes = record { answer = inl refl; end = refl; control = refl; heard = counts_so worked_policies (once_rested 2) finishes_stream (answers.Finish (Ok tt)); openings = tt; others = refl; lacking = λ lacks. cc }
+finishes =
+    let s : StepsSo worked_policies (once_rested 2) finishes_stream (answers.Finish (Ok tt)) (once_rested 3) = steps_at worked_policies rested_start rested_events rested_answers 2 finishes_stream (answers.Finish (Ok tt)) _ _ refl refl refl in
+    record { answer = inl refl; end = s.end; control = s.control; heard = s.heard; openings = tt; others = s.others; lacking = λ lacks. cc }
 
 gives : IsStep worked_policies (once_rested 3) asks_datagram (gives_bytes 230) (once_rested 4)
 unfolding once_rested
-gives = record { answer = inl refl; end = refl; control = refl; heard = counts_so worked_policies (once_rested 3) asks_datagram (gives_bytes 230); openings = tt; others = refl; lacking = tt }
+gives =
+    let s : StepsSo worked_policies (once_rested 3) asks_datagram (gives_bytes 230) (once_rested 4) = steps_at worked_policies rested_start rested_events rested_answers 3 asks_datagram (gives_bytes 230) _ _ refl refl refl in
+    record { answer = inl refl; end = s.end; control = s.control; heard = s.heard; openings = tt; others = s.others; lacking = tt }
 
 takes : IsStep worked_policies (once_rested 4) (comes_at Server 10000000) (answers.Deliver receives.Taken) (once_rested 5)
 unfolding once_rested
-takes = record { answer = inl refl; end = refl; control = refl; heard = counts_so worked_policies (once_rested 4) (comes_at Server 10000000) (answers.Deliver receives.Taken); openings = tt; others = refl; lacking = tt }
+takes =
+    let s : StepsSo worked_policies (once_rested 4) (comes_at Server 10000000) (answers.Deliver receives.Taken) (once_rested 5) = steps_at worked_policies rested_start rested_events rested_answers 4 (comes_at Server 10000000) (answers.Deliver receives.Taken) _ _ refl refl refl in
+    record { answer = inl refl; end = s.end; control = s.control; heard = s.heard; openings = tt; others = s.others; lacking = tt }
 
 is_due : IsStep worked_policies (once_rested 5) (serves Server 35000000) (answers.Timeout (Ok tt)) (once_rested 6)
 unfolding once_rested
-is_due = record { answer = inl refl; end = refl; control = refl; heard = counts_so worked_policies (once_rested 5) (serves Server 35000000) (answers.Timeout (Ok tt)); openings = tt; others = refl; lacking = tt }
+is_due =
+    let s : StepsSo worked_policies (once_rested 5) (serves Server 35000000) (answers.Timeout (Ok tt)) (once_rested 6) = steps_at worked_policies rested_start rested_events rested_answers 5 (serves Server 35000000) (answers.Timeout (Ok tt)) _ _ refl refl refl in
+    record { answer = inl refl; end = s.end; control = s.control; heard = s.heard; openings = tt; others = s.others; lacking = tt }
 
 pub still_roomy : roomy_control ≡ roomy_control
 still_roomy = refl
 
 answers_it : IsStep worked_policies (once_rested 6) (asks_at Server 35000000) (gives_bytes 228) (once_rested 7)
 unfolding once_rested
-answers_it = record { answer = inl refl; end = refl; control = still_roomy; heard = counts_so worked_policies (once_rested 6) (asks_at Server 35000000) (gives_bytes 228); openings = tt; others = refl; lacking = tt }
+answers_it =
+    let s : StepsSo worked_policies (once_rested 6) (asks_at Server 35000000) (gives_bytes 228) (once_rested 7) = steps_at worked_policies rested_start rested_events rested_answers 6 (asks_at Server 35000000) (gives_bytes 228) _ _ refl refl refl in
+    record { answer = inl refl; end = s.end; control = s.control; heard = s.heard; openings = tt; others = s.others; lacking = tt }
 
 is_answered : IsStep worked_policies (once_rested 7) (comes_at Client 40000000) (answers.Deliver receives.Taken) (once_rested 8)
 unfolding once_rested
-is_answered = record { answer = inl refl; end = refl; control = still_roomy; heard = counts_so worked_policies (once_rested 7) (comes_at Client 40000000) (answers.Deliver receives.Taken); openings = tt; others = refl; lacking = tt }
+is_answered =
+    let s : StepsSo worked_policies (once_rested 7) (comes_at Client 40000000) (answers.Deliver receives.Taken) (once_rested 8) = steps_at worked_policies rested_start rested_events rested_answers 7 (comes_at Client 40000000) (answers.Deliver receives.Taken) _ _ refl refl refl in
+    record { answer = inl refl; end = s.end; control = s.control; heard = s.heard; openings = tt; others = s.others; lacking = tt }
 
 client_due : IsStep worked_policies (once_rested 8) (serves Client 65000000) (answers.Timeout (Ok tt)) (once_rested 9)
 unfolding once_rested
-client_due = record { answer = inl refl; end = refl; control = still_roomy; heard = counts_so worked_policies (once_rested 8) (serves Client 65000000) (answers.Timeout (Ok tt)); openings = tt; others = refl; lacking = tt }
+client_due =
+    let s : StepsSo worked_policies (once_rested 8) (serves Client 65000000) (answers.Timeout (Ok tt)) (once_rested 9) = steps_at worked_policies rested_start rested_events rested_answers 8 (serves Client 65000000) (answers.Timeout (Ok tt)) _ _ refl refl refl in
+    record { answer = inl refl; end = s.end; control = s.control; heard = s.heard; openings = tt; others = s.others; lacking = tt }
 
 client_answers : IsStep worked_policies (once_rested 9) (asks_at Client 65000000) (gives_unmarked 32) (once_rested 10)
 unfolding once_rested
-client_answers = record { answer = inl refl; end = refl; control = still_roomy; heard = counts_so worked_policies (once_rested 9) (asks_at Client 65000000) (gives_unmarked 32); openings = tt; others = refl; lacking = tt }
+client_answers =
+    let s : StepsSo worked_policies (once_rested 9) (asks_at Client 65000000) (gives_unmarked 32) (once_rested 10) = steps_at worked_policies rested_start rested_events rested_answers 9 (asks_at Client 65000000) (gives_unmarked 32) _ _ refl refl refl in
+    record { answer = inl refl; end = s.end; control = s.control; heard = s.heard; openings = tt; others = s.others; lacking = tt }
 
 all_answered : IsStep worked_policies (once_rested 10) (second_comes 70000000) (answers.Deliver receives.Taken) (once_rested 11)
 unfolding once_rested
-all_answered = record { answer = inl refl; end = refl; control = still_roomy; heard = counts_so worked_policies (once_rested 10) (second_comes 70000000) (answers.Deliver receives.Taken); openings = tt; others = refl; lacking = tt }
+all_answered =
+    let s : StepsSo worked_policies (once_rested 10) (second_comes 70000000) (answers.Deliver receives.Taken) (once_rested 11) = steps_at worked_policies rested_start rested_events rested_answers 10 (second_comes 70000000) (answers.Deliver receives.Taken) _ _ refl refl refl in
+    record { answer = inl refl; end = s.end; control = s.control; heard = s.heard; openings = tt; others = s.others; lacking = tt }
 
 client_rests : IsStep worked_policies (once_rested 11) (asks_at Client 70000000) gives_nothing (once_rested 12)
 unfolding once_rested
-client_rests = record { answer = inl refl; end = refl; control = still_roomy; heard = counts_so worked_policies (once_rested 11) (asks_at Client 70000000) gives_nothing; openings = tt; others = refl; lacking = tt }
+client_rests =
+    let s : StepsSo worked_policies (once_rested 11) (asks_at Client 70000000) gives_nothing (once_rested 12) = steps_at worked_policies rested_start rested_events rested_answers 11 (asks_at Client 70000000) gives_nothing _ _ refl refl refl in
+    record { answer = inl refl; end = s.end; control = s.control; heard = s.heard; openings = tt; others = s.others; lacking = tt }
 
 server_rests : IsStep worked_policies (once_rested 12) (asks_at Server 70000000) gives_nothing (once_rested 13)
 unfolding once_rested
-server_rests = record { answer = inl refl; end = refl; control = still_roomy; heard = counts_so worked_policies (once_rested 12) (asks_at Server 70000000) gives_nothing; openings = tt; others = refl; lacking = tt }
+server_rests =
+    let s : StepsSo worked_policies (once_rested 12) (asks_at Server 70000000) gives_nothing (once_rested 13) = steps_at worked_policies rested_start rested_events rested_answers 12 (asks_at Server 70000000) gives_nothing _ _ refl refl refl in
+    record { answer = inl refl; end = s.end; control = s.control; heard = s.heard; openings = tt; others = s.others; lacking = tt }
 
 opened_seen : still_view ≡ view_of (once_rested 1)
 unfolding once_rested
@@ -394,7 +420,7 @@ loss_moment (Some v) = moment_in (loss_timer v Client)
 
 -- the client's datagram, as it was sent
 abbrev hello_sent : SentAs
-hello_sent = record { id = server_id; number = 0; reference = 0; frames = behind_ids (stream hello_frame ∷ []); moment = 0; size = 230 }
+hello_sent = record { id = server_id; number = 0; reference = 0; frames = behind_ids (stream hello_frame ∷ []); moment = 0; size = 230; generation = 0 }
 
 sent_one : sents_until timed_on Client 8 ≡ hello_sent ∷ []
 unfolding client_acked

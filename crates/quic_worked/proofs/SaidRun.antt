@@ -18,18 +18,19 @@ use Rattle.quic_worked.specs.Said.{in_vain, said_events, said_answers, once_said
 use Rattle.quic_worked.proofs.Codes.{no_codes}
 use Rattle.quic_worked.proofs.OwnIds.{AreOwn, own_ids}
 use Rattle.quic_worked.proofs.WorkedKeys.{are_keys}
-use Rattle.quic_worked.proofs.RestedRun.{still_roomy}
 use Rattle.quic_worked.proofs.BlockedRun.{left_started}
 use Rattle.quic_worked.proofs.LimitedRun.{limited_started, both_open, one_sent}
 use Rattle.quic_worked.proofs.BegunRuns.{control_unasked}
 use Rattle.quic_worked.proofs.WrongRuns.{NeverEnds, ends_here, step_on}
-use Rattle.quic_worked.proofs.Steps.{counts_so, still_steady}
+use Rattle.quic_worked.proofs.Steps.{steps_at, StepsSo}
 
 -- ---- all data
 
 all_0 : IsStep worked_policies (small_start 8) opens_stream (answers.Open (Some 0)) (once_said 1)
 unfolding once_said
-all_0 = record { answer = refl; end = refl; control = refl; heard = counts_so worked_policies (small_start 8) opens_stream (answers.Open (Some 0)); openings = tt; others = refl; lacking = tt }
+all_0 =
+    let s : StepsSo worked_policies (small_start 8) opens_stream (answers.Open (Some 0)) (once_said 1) = steps_at worked_policies (small_start 8) said_events (said_answers 8 233) 0 opens_stream (answers.Open (Some 0)) _ _ refl refl refl in
+    record { answer = refl; end = s.end; control = s.control; heard = s.heard; openings = tt; others = s.others; lacking = tt }
 
 all_0_seen : still_view ≡ view_of (once_said 1)
 unfolding once_said
@@ -37,7 +38,9 @@ all_0_seen = refl
 
 all_1 : IsStep worked_policies (once_said 1) (writes_on 0 sixteen) (answers.Write (Ok 8)) (once_said 2)
 unfolding once_said
-all_1 = record { answer = inl refl; end = refl; control = refl; heard = counts_so worked_policies (once_said 1) (writes_on 0 sixteen) (answers.Write (Ok 8)); openings = tt; others = refl; lacking = λ lacks. cc }
+all_1 =
+    let s : StepsSo worked_policies (once_said 1) (writes_on 0 sixteen) (answers.Write (Ok 8)) (once_said 2) = steps_at worked_policies (small_start 8) said_events (said_answers 8 233) 1 (writes_on 0 sixteen) (answers.Write (Ok 8)) _ _ refl refl refl in
+    record { answer = inl refl; end = s.end; control = s.control; heard = s.heard; openings = tt; others = s.others; lacking = λ lacks. cc }
 
 all_1_seen : still_view ≡ view_of (once_said 2)
 unfolding once_said
@@ -45,7 +48,9 @@ all_1_seen = refl
 
 all_2 : IsStep worked_policies (once_said 2) asks_datagram (gives_bytes 233) (once_said 3)
 unfolding once_said
-all_2 = record { answer = inl refl; end = refl; control = still_roomy; heard = counts_so worked_policies (once_said 2) asks_datagram (gives_bytes 233); openings = tt; others = refl; lacking = tt }
+all_2 =
+    let s : StepsSo worked_policies (once_said 2) asks_datagram (gives_bytes 233) (once_said 3) = steps_at worked_policies (small_start 8) said_events (said_answers 8 233) 2 asks_datagram (gives_bytes 233) _ _ refl refl refl in
+    record { answer = inl refl; end = s.end; control = s.control; heard = s.heard; openings = tt; others = s.others; lacking = tt }
 
 all_2_seen : given_view ≡ view_of (once_said 3)
 unfolding once_said
@@ -53,7 +58,9 @@ all_2_seen = refl
 
 all_3 : IsStep worked_policies (once_said 3) (writes_on 0 eight) in_vain (once_said 4)
 unfolding once_said
-all_3 = record { answer = inl refl; end = refl; control = refl; heard = counts_so worked_policies (once_said 3) (writes_on 0 eight) in_vain; openings = tt; others = refl; lacking = λ lacks. cc }
+all_3 =
+    let s : StepsSo worked_policies (once_said 3) (writes_on 0 eight) in_vain (once_said 4) = steps_at worked_policies (small_start 8) said_events (said_answers 8 233) 3 (writes_on 0 eight) in_vain _ _ refl refl refl in
+    record { answer = inl refl; end = s.end; control = s.control; heard = s.heard; openings = tt; others = s.others; lacking = λ lacks. cc }
 
 all_3_seen : given_view ≡ view_of (once_said 4)
 unfolding once_said
@@ -61,7 +68,9 @@ all_3_seen = refl
 
 all_4 : IsStep worked_policies (once_said 4) asks_datagram (gives_bytes 29) (once_said 5)
 unfolding once_said
-all_4 = record { answer = inl refl; end = refl; control = still_roomy; heard = counts_so worked_policies (once_said 4) asks_datagram (gives_bytes 29); openings = tt; others = refl; lacking = tt }
+all_4 =
+    let s : StepsSo worked_policies (once_said 4) asks_datagram (gives_bytes 29) (once_said 5) = steps_at worked_policies (small_start 8) said_events (said_answers 8 233) 4 asks_datagram (gives_bytes 29) _ _ refl refl refl in
+    record { answer = inl refl; end = s.end; control = s.control; heard = s.heard; openings = tt; others = s.others; lacking = tt }
 
 all_4_seen : given_view ≡ view_of (once_said 5)
 unfolding once_said
@@ -69,7 +78,9 @@ all_4_seen = refl
 
 all_5 : IsStep worked_policies (once_said 5) (writes_on 0 eight) in_vain (once_said 6)
 unfolding once_said
-all_5 = record { answer = inl refl; end = refl; control = refl; heard = counts_so worked_policies (once_said 5) (writes_on 0 eight) in_vain; openings = tt; others = refl; lacking = λ lacks. cc }
+all_5 =
+    let s : StepsSo worked_policies (once_said 5) (writes_on 0 eight) in_vain (once_said 6) = steps_at worked_policies (small_start 8) said_events (said_answers 8 233) 5 (writes_on 0 eight) in_vain _ _ refl refl refl in
+    record { answer = inl refl; end = s.end; control = s.control; heard = s.heard; openings = tt; others = s.others; lacking = λ lacks. cc }
 
 all_5_seen : given_view ≡ view_of (once_said 6)
 unfolding once_said
@@ -77,7 +88,9 @@ all_5_seen = refl
 
 all_6 : IsStep worked_policies (once_said 6) (writes_on 0 eight) in_vain (once_said 7)
 unfolding once_said
-all_6 = record { answer = inl refl; end = refl; control = refl; heard = counts_so worked_policies (once_said 6) (writes_on 0 eight) in_vain; openings = tt; others = refl; lacking = λ lacks. cc }
+all_6 =
+    let s : StepsSo worked_policies (once_said 6) (writes_on 0 eight) in_vain (once_said 7) = steps_at worked_policies (small_start 8) said_events (said_answers 8 233) 6 (writes_on 0 eight) in_vain _ _ refl refl refl in
+    record { answer = inl refl; end = s.end; control = s.control; heard = s.heard; openings = tt; others = s.others; lacking = λ lacks. cc }
 
 all_6_seen : given_view ≡ view_of (once_said 7)
 unfolding once_said
@@ -85,7 +98,9 @@ all_6_seen = refl
 
 all_7 : IsStep worked_policies (once_said 7) (writes_on 0 eight) in_vain (once_said 8)
 unfolding once_said
-all_7 = record { answer = inl refl; end = refl; control = refl; heard = counts_so worked_policies (once_said 7) (writes_on 0 eight) in_vain; openings = tt; others = refl; lacking = λ lacks. cc }
+all_7 =
+    let s : StepsSo worked_policies (once_said 7) (writes_on 0 eight) in_vain (once_said 8) = steps_at worked_policies (small_start 8) said_events (said_answers 8 233) 7 (writes_on 0 eight) in_vain _ _ refl refl refl in
+    record { answer = inl refl; end = s.end; control = s.control; heard = s.heard; openings = tt; others = s.others; lacking = λ lacks. cc }
 
 all_7_seen : given_view ≡ view_of (once_said 8)
 unfolding once_said
@@ -93,7 +108,9 @@ all_7_seen = refl
 
 all_8 : IsStep worked_policies (once_said 8) (writes_on 0 eight) in_vain (once_said 9)
 unfolding once_said
-all_8 = record { answer = inl refl; end = refl; control = refl; heard = counts_so worked_policies (once_said 8) (writes_on 0 eight) in_vain; openings = tt; others = refl; lacking = λ lacks. cc }
+all_8 =
+    let s : StepsSo worked_policies (once_said 8) (writes_on 0 eight) in_vain (once_said 9) = steps_at worked_policies (small_start 8) said_events (said_answers 8 233) 8 (writes_on 0 eight) in_vain _ _ refl refl refl in
+    record { answer = inl refl; end = s.end; control = s.control; heard = s.heard; openings = tt; others = s.others; lacking = λ lacks. cc }
 
 all_8_seen : given_view ≡ view_of (once_said 9)
 unfolding once_said
@@ -101,7 +118,9 @@ all_8_seen = refl
 
 all_9 : IsStep worked_policies (once_said 9) asks_datagram gives_nothing (once_said 10)
 unfolding once_said
-all_9 = record { answer = inl refl; end = refl; control = still_roomy; heard = counts_so worked_policies (once_said 9) asks_datagram gives_nothing; openings = tt; others = refl; lacking = tt }
+all_9 =
+    let s : StepsSo worked_policies (once_said 9) asks_datagram gives_nothing (once_said 10) = steps_at worked_policies (small_start 8) said_events (said_answers 8 233) 9 asks_datagram gives_nothing _ _ refl refl refl in
+    record { answer = inl refl; end = s.end; control = s.control; heard = s.heard; openings = tt; others = s.others; lacking = tt }
 
 all_9_seen : given_view ≡ view_of (once_said 10)
 unfolding once_said
@@ -164,7 +183,9 @@ all_never views f = all_not.never views says_again f refl
 
 one_0 : IsStep worked_policies limited_start opens_stream (answers.Open (Some 0)) (once_said_on 1)
 unfolding once_said_on
-one_0 = record { answer = refl; end = refl; control = refl; heard = counts_so worked_policies limited_start opens_stream (answers.Open (Some 0)); openings = tt; others = refl; lacking = tt }
+one_0 =
+    let s : StepsSo worked_policies limited_start opens_stream (answers.Open (Some 0)) (once_said_on 1) = steps_at worked_policies limited_start said_events (said_answers 5 230) 0 opens_stream (answers.Open (Some 0)) _ _ refl refl refl in
+    record { answer = refl; end = s.end; control = s.control; heard = s.heard; openings = tt; others = s.others; lacking = tt }
 
 one_0_seen : both_open ≡ view_of (once_said_on 1)
 unfolding once_said_on
@@ -172,7 +193,9 @@ one_0_seen = refl
 
 one_1 : IsStep worked_policies (once_said_on 1) (writes_on 0 sixteen) (answers.Write (Ok 5)) (once_said_on 2)
 unfolding once_said_on
-one_1 = record { answer = inl refl; end = refl; control = refl; heard = counts_so worked_policies (once_said_on 1) (writes_on 0 sixteen) (answers.Write (Ok 5)); openings = tt; others = refl; lacking = λ lacks. cc }
+one_1 =
+    let s : StepsSo worked_policies (once_said_on 1) (writes_on 0 sixteen) (answers.Write (Ok 5)) (once_said_on 2) = steps_at worked_policies limited_start said_events (said_answers 5 230) 1 (writes_on 0 sixteen) (answers.Write (Ok 5)) _ _ refl refl refl in
+    record { answer = inl refl; end = s.end; control = s.control; heard = s.heard; openings = tt; others = s.others; lacking = λ lacks. cc }
 
 one_1_seen : both_open ≡ view_of (once_said_on 2)
 unfolding once_said_on
@@ -180,7 +203,9 @@ one_1_seen = refl
 
 one_2 : IsStep worked_policies (once_said_on 2) asks_datagram (gives_bytes 230) (once_said_on 3)
 unfolding once_said_on
-one_2 = record { answer = inl refl; end = refl; control = still_steady; heard = counts_so worked_policies (once_said_on 2) asks_datagram (gives_bytes 230); openings = tt; others = refl; lacking = tt }
+one_2 =
+    let s : StepsSo worked_policies (once_said_on 2) asks_datagram (gives_bytes 230) (once_said_on 3) = steps_at worked_policies limited_start said_events (said_answers 5 230) 2 asks_datagram (gives_bytes 230) _ _ refl refl refl in
+    record { answer = inl refl; end = s.end; control = s.control; heard = s.heard; openings = tt; others = s.others; lacking = tt }
 
 one_2_seen : one_sent ≡ view_of (once_said_on 3)
 unfolding once_said_on
@@ -188,7 +213,9 @@ one_2_seen = refl
 
 one_3 : IsStep worked_policies (once_said_on 3) (writes_on 0 eight) in_vain (once_said_on 4)
 unfolding once_said_on
-one_3 = record { answer = inl refl; end = refl; control = refl; heard = counts_so worked_policies (once_said_on 3) (writes_on 0 eight) in_vain; openings = tt; others = refl; lacking = λ lacks. cc }
+one_3 =
+    let s : StepsSo worked_policies (once_said_on 3) (writes_on 0 eight) in_vain (once_said_on 4) = steps_at worked_policies limited_start said_events (said_answers 5 230) 3 (writes_on 0 eight) in_vain _ _ refl refl refl in
+    record { answer = inl refl; end = s.end; control = s.control; heard = s.heard; openings = tt; others = s.others; lacking = λ lacks. cc }
 
 one_3_seen : one_sent ≡ view_of (once_said_on 4)
 unfolding once_said_on
@@ -196,7 +223,9 @@ one_3_seen = refl
 
 one_4 : IsStep worked_policies (once_said_on 4) asks_datagram (gives_bytes 29) (once_said_on 5)
 unfolding once_said_on
-one_4 = record { answer = inl refl; end = refl; control = still_steady; heard = counts_so worked_policies (once_said_on 4) asks_datagram (gives_bytes 29); openings = tt; others = refl; lacking = tt }
+one_4 =
+    let s : StepsSo worked_policies (once_said_on 4) asks_datagram (gives_bytes 29) (once_said_on 5) = steps_at worked_policies limited_start said_events (said_answers 5 230) 4 asks_datagram (gives_bytes 29) _ _ refl refl refl in
+    record { answer = inl refl; end = s.end; control = s.control; heard = s.heard; openings = tt; others = s.others; lacking = tt }
 
 one_4_seen : one_sent ≡ view_of (once_said_on 5)
 unfolding once_said_on
@@ -204,7 +233,9 @@ one_4_seen = refl
 
 one_5 : IsStep worked_policies (once_said_on 5) (writes_on 0 eight) in_vain (once_said_on 6)
 unfolding once_said_on
-one_5 = record { answer = inl refl; end = refl; control = refl; heard = counts_so worked_policies (once_said_on 5) (writes_on 0 eight) in_vain; openings = tt; others = refl; lacking = λ lacks. cc }
+one_5 =
+    let s : StepsSo worked_policies (once_said_on 5) (writes_on 0 eight) in_vain (once_said_on 6) = steps_at worked_policies limited_start said_events (said_answers 5 230) 5 (writes_on 0 eight) in_vain _ _ refl refl refl in
+    record { answer = inl refl; end = s.end; control = s.control; heard = s.heard; openings = tt; others = s.others; lacking = λ lacks. cc }
 
 one_5_seen : one_sent ≡ view_of (once_said_on 6)
 unfolding once_said_on
@@ -212,7 +243,9 @@ one_5_seen = refl
 
 one_6 : IsStep worked_policies (once_said_on 6) (writes_on 0 eight) in_vain (once_said_on 7)
 unfolding once_said_on
-one_6 = record { answer = inl refl; end = refl; control = refl; heard = counts_so worked_policies (once_said_on 6) (writes_on 0 eight) in_vain; openings = tt; others = refl; lacking = λ lacks. cc }
+one_6 =
+    let s : StepsSo worked_policies (once_said_on 6) (writes_on 0 eight) in_vain (once_said_on 7) = steps_at worked_policies limited_start said_events (said_answers 5 230) 6 (writes_on 0 eight) in_vain _ _ refl refl refl in
+    record { answer = inl refl; end = s.end; control = s.control; heard = s.heard; openings = tt; others = s.others; lacking = λ lacks. cc }
 
 one_6_seen : one_sent ≡ view_of (once_said_on 7)
 unfolding once_said_on
@@ -220,7 +253,9 @@ one_6_seen = refl
 
 one_7 : IsStep worked_policies (once_said_on 7) (writes_on 0 eight) in_vain (once_said_on 8)
 unfolding once_said_on
-one_7 = record { answer = inl refl; end = refl; control = refl; heard = counts_so worked_policies (once_said_on 7) (writes_on 0 eight) in_vain; openings = tt; others = refl; lacking = λ lacks. cc }
+one_7 =
+    let s : StepsSo worked_policies (once_said_on 7) (writes_on 0 eight) in_vain (once_said_on 8) = steps_at worked_policies limited_start said_events (said_answers 5 230) 7 (writes_on 0 eight) in_vain _ _ refl refl refl in
+    record { answer = inl refl; end = s.end; control = s.control; heard = s.heard; openings = tt; others = s.others; lacking = λ lacks. cc }
 
 one_7_seen : one_sent ≡ view_of (once_said_on 8)
 unfolding once_said_on
@@ -228,7 +263,9 @@ one_7_seen = refl
 
 one_8 : IsStep worked_policies (once_said_on 8) (writes_on 0 eight) in_vain (once_said_on 9)
 unfolding once_said_on
-one_8 = record { answer = inl refl; end = refl; control = refl; heard = counts_so worked_policies (once_said_on 8) (writes_on 0 eight) in_vain; openings = tt; others = refl; lacking = λ lacks. cc }
+one_8 =
+    let s : StepsSo worked_policies (once_said_on 8) (writes_on 0 eight) in_vain (once_said_on 9) = steps_at worked_policies limited_start said_events (said_answers 5 230) 8 (writes_on 0 eight) in_vain _ _ refl refl refl in
+    record { answer = inl refl; end = s.end; control = s.control; heard = s.heard; openings = tt; others = s.others; lacking = λ lacks. cc }
 
 one_8_seen : one_sent ≡ view_of (once_said_on 9)
 unfolding once_said_on
@@ -236,7 +273,9 @@ one_8_seen = refl
 
 one_9 : IsStep worked_policies (once_said_on 9) asks_datagram gives_nothing (once_said_on 10)
 unfolding once_said_on
-one_9 = record { answer = inl refl; end = refl; control = still_steady; heard = counts_so worked_policies (once_said_on 9) asks_datagram gives_nothing; openings = tt; others = refl; lacking = tt }
+one_9 =
+    let s : StepsSo worked_policies (once_said_on 9) asks_datagram gives_nothing (once_said_on 10) = steps_at worked_policies limited_start said_events (said_answers 5 230) 9 asks_datagram gives_nothing _ _ refl refl refl in
+    record { answer = inl refl; end = s.end; control = s.control; heard = s.heard; openings = tt; others = s.others; lacking = tt }
 
 one_9_seen : one_sent ≡ view_of (once_said_on 10)
 unfolding once_said_on

@@ -21,9 +21,9 @@ use Rattle.quic_headline.specs.Sizes.{WasProbed}
 use Rattle.quic_headline.proofs.Steps.Made.{one_behind}
 use Rattle.quic_worked.specs.Worked.{steady, worked_policies, client_id, server_id, gives_bytes, shut, id_frames}
 use Rattle.quic_worked.specs.Timed.{serves, asks_at, comes_at, seen_with}
-use Rattle.quic_worked.specs.Searched.{searched_start, once_searched, size_sent, told_of_size, found_view, searched_run}
+use Rattle.quic_worked.specs.Searched.{searched_start, searched_events, searched_answers, once_searched, size_sent, told_of_size, found_view, searched_run}
 use Rattle.quic_worked.proofs.Codes.{no_codes}
-use Rattle.quic_worked.proofs.Steps.{counts_so, still_steady, still_shut}
+use Rattle.quic_worked.proofs.Steps.{steps_at, StepsSo}
 use Rattle.quic_worked.proofs.OwnIds.{AreOwn, own_ids}
 use Rattle.quic_worked.proofs.WorkedKeys.{are_keys}
 use Rattle.quic_worked.proofs.WorkedHonest.{in_range, making}
@@ -62,27 +62,39 @@ searched_is_honest = record { start = searched_started; keys = are_keys; ids = o
 
 tells_ids : IsStep worked_policies searched_start (asks_at Client 0) (gives_bytes 222) (once_searched 1)
 unfolding once_searched
-tells_ids = record { answer = inl refl; end = refl; control = still_steady; heard = counts_so worked_policies searched_start (asks_at Client 0) (gives_bytes 222); openings = tt; others = refl; lacking = tt }
+tells_ids =
+    let s : StepsSo worked_policies searched_start (asks_at Client 0) (gives_bytes 222) (once_searched 1) = steps_at worked_policies searched_start searched_events searched_answers 0 (asks_at Client 0) (gives_bytes 222) _ _ refl refl refl in
+    record { answer = inl refl; end = s.end; control = s.control; heard = s.heard; openings = tt; others = s.others; lacking = tt }
 
 probes : IsStep worked_policies (once_searched 1) (asks_at Client 0) (gives_bytes 1326) (once_searched 2)
 unfolding once_searched
-probes = record { answer = inl refl; end = refl; control = still_steady; heard = counts_so worked_policies (once_searched 1) (asks_at Client 0) (gives_bytes 1326); openings = tt; others = refl; lacking = tt }
+probes =
+    let s : StepsSo worked_policies (once_searched 1) (asks_at Client 0) (gives_bytes 1326) (once_searched 2) = steps_at worked_policies searched_start searched_events searched_answers 1 (asks_at Client 0) (gives_bytes 1326) _ _ refl refl refl in
+    record { answer = inl refl; end = s.end; control = s.control; heard = s.heard; openings = tt; others = s.others; lacking = tt }
 
 takes : IsStep worked_policies (once_searched 2) (comes_to_server 10000000 1) (answers.Deliver receives.Taken) (once_searched 3)
 unfolding once_searched
-takes = record { answer = inl refl; end = refl; control = still_shut; heard = counts_so worked_policies (once_searched 2) (comes_to_server 10000000 1) (answers.Deliver receives.Taken); openings = tt; others = refl; lacking = tt }
+takes =
+    let s : StepsSo worked_policies (once_searched 2) (comes_to_server 10000000 1) (answers.Deliver receives.Taken) (once_searched 3) = steps_at worked_policies searched_start searched_events searched_answers 2 (comes_to_server 10000000 1) (answers.Deliver receives.Taken) _ _ refl refl refl in
+    record { answer = inl refl; end = s.end; control = s.control; heard = s.heard; openings = tt; others = s.others; lacking = tt }
 
 is_due : IsStep worked_policies (once_searched 3) (serves Server 35000000) (answers.Timeout (Ok tt)) (once_searched 4)
 unfolding once_searched
-is_due = record { answer = inl refl; end = refl; control = still_shut; heard = counts_so worked_policies (once_searched 3) (serves Server 35000000) (answers.Timeout (Ok tt)); openings = tt; others = refl; lacking = tt }
+is_due =
+    let s : StepsSo worked_policies (once_searched 3) (serves Server 35000000) (answers.Timeout (Ok tt)) (once_searched 4) = steps_at worked_policies searched_start searched_events searched_answers 3 (serves Server 35000000) (answers.Timeout (Ok tt)) _ _ refl refl refl in
+    record { answer = inl refl; end = s.end; control = s.control; heard = s.heard; openings = tt; others = s.others; lacking = tt }
 
 answers_it : IsStep worked_policies (once_searched 4) (asks_at Server 35000000) (gives_bytes 32) (once_searched 5)
 unfolding once_searched
-answers_it = record { answer = inl refl; end = refl; control = still_shut; heard = counts_so worked_policies (once_searched 4) (asks_at Server 35000000) (gives_bytes 32); openings = tt; others = refl; lacking = tt }
+answers_it =
+    let s : StepsSo worked_policies (once_searched 4) (asks_at Server 35000000) (gives_bytes 32) (once_searched 5) = steps_at worked_policies searched_start searched_events searched_answers 4 (asks_at Server 35000000) (gives_bytes 32) _ _ refl refl refl in
+    record { answer = inl refl; end = s.end; control = s.control; heard = s.heard; openings = tt; others = s.others; lacking = tt }
 
 finds : IsStep worked_policies (once_searched 5) (comes_at Client 40000000) (answers.Deliver receives.Taken) (once_searched 6)
 unfolding once_searched
-finds = record { answer = inl refl; end = refl; control = still_steady; heard = counts_so worked_policies (once_searched 5) (comes_at Client 40000000) (answers.Deliver receives.Taken); openings = tt; others = refl; lacking = tt }
+finds =
+    let s : StepsSo worked_policies (once_searched 5) (comes_at Client 40000000) (answers.Deliver receives.Taken) (once_searched 6) = steps_at worked_policies searched_start searched_events searched_answers 5 (comes_at Client 40000000) (answers.Deliver receives.Taken) _ _ refl refl refl in
+    record { answer = inl refl; end = s.end; control = s.control; heard = s.heard; openings = tt; others = s.others; lacking = tt }
 
 told_seen : seen_with (Some 1024000000) None ≡ view_of (once_searched 1)
 unfolding once_searched
@@ -216,6 +228,7 @@ ack_sent = record {
   frames = ack (record { largest = 1; delay = 3125; ranges = (1, 1) ∷ []; ecn = None }) ∷ [];
   moment = 35000000;
   size = 32;
+  generation = 0;
 }
 
 ack_went : sents_until searched_run Server 5 ≡ sents_until searched_run Server 4 ++ ack_sent ∷ []
@@ -238,7 +251,7 @@ ack_is_small = (
 
 -- what told the ids, as it was sent
 abbrev ids_sent : Sent
-ids_sent = record { id = server_id; number = 0; reference = 0; frames = id_frames; moment = 0; size = 222 }
+ids_sent = record { id = server_id; number = 0; reference = 0; frames = id_frames; moment = 0; size = 222; generation = 0 }
 
 they_fly : flying searched_run Client 5 ≡ ids_sent ∷ size_sent ∷ []
 unfolding once_searched

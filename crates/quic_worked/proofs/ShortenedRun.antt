@@ -24,7 +24,7 @@ use Rattle.quic_worked.specs.Losses.{asks_ping}
 use Rattle.quic_worked.specs.Timed.{serves, asks_at, comes_at, seen_with}
 use Rattle.quic_worked.specs.Messages.{comes_to_server}
 use Rattle.quic_worked.specs.Searched.{size_sent}
-use Rattle.quic_worked.specs.Shortened.{filling_settings, filling_start, once_shortened, larger_with, shortened_run, full_sent, probe_sent, long_probe_run, long_probe_sent}
+use Rattle.quic_worked.specs.Shortened.{filling_settings, filling_start, shortened_events, shortened_answers, once_shortened, larger_with, shortened_run, full_sent, probe_sent, long_probe_run, long_probe_sent}
 use Rattle.quic_worked.proofs.Codes.{no_codes}
 use Rattle.quic_worked.proofs.OwnIds.{AreOwn, own_ids}
 use Rattle.quic_worked.proofs.BrokenRuns.{IsRefused, stops, behind}
@@ -32,7 +32,7 @@ use Rattle.quic_worked.proofs.WorkedKeys.{are_keys}
 use Rattle.quic_worked.proofs.WorkedHonest.{in_range, making}
 use Rattle.quic_worked.proofs.WorkedRun.{parameters_say, server_is_made}
 use Rattle.quic_worked.proofs.MessageRuns.{given_bytes}
-use Rattle.quic_worked.proofs.Steps.{counts_so, still_steady, still_shut}
+use Rattle.quic_worked.proofs.Steps.{steps_at, StepsSo}
 
 -- ---- the premises
 
@@ -69,7 +69,9 @@ second_comes = record { side = Client; call = calls.Deliver (record delivery { n
 
 step_0 : IsStep worked_policies filling_start (asks_at Client 0) (gives_bytes 1200) (once_shortened 1)
 unfolding once_shortened
-step_0 = record { answer = inl refl; end = refl; control = still_steady; heard = counts_so worked_policies filling_start (asks_at Client 0) (gives_bytes 1200); openings = tt; others = refl; lacking = tt }
+step_0 =
+    let s : StepsSo worked_policies filling_start (asks_at Client 0) (gives_bytes 1200) (once_shortened 1) = steps_at worked_policies filling_start shortened_events shortened_answers 0 (asks_at Client 0) (gives_bytes 1200) _ _ refl refl refl in
+    record { answer = inl refl; end = s.end; control = s.control; heard = s.heard; openings = tt; others = s.others; lacking = tt }
 
 seen_0 : seen_with (Some 1024000000) None ≡ view_of (once_shortened 1)
 unfolding once_shortened
@@ -77,7 +79,9 @@ seen_0 = refl
 
 step_1 : IsStep worked_policies (once_shortened 1) (asks_at Client 0) (gives_bytes 1326) (once_shortened 2)
 unfolding once_shortened
-step_1 = record { answer = inl refl; end = refl; control = still_steady; heard = counts_so worked_policies (once_shortened 1) (asks_at Client 0) (gives_bytes 1326); openings = tt; others = refl; lacking = tt }
+step_1 =
+    let s : StepsSo worked_policies (once_shortened 1) (asks_at Client 0) (gives_bytes 1326) (once_shortened 2) = steps_at worked_policies filling_start shortened_events shortened_answers 1 (asks_at Client 0) (gives_bytes 1326) _ _ refl refl refl in
+    record { answer = inl refl; end = s.end; control = s.control; heard = s.heard; openings = tt; others = s.others; lacking = tt }
 
 seen_1 : seen_with (Some 1024000000) None ≡ view_of (once_shortened 2)
 unfolding once_shortened
@@ -85,7 +89,9 @@ seen_1 = refl
 
 step_2 : IsStep worked_policies (once_shortened 2) (comes_to_server 10000000 0) (answers.Deliver receives.Taken) (once_shortened 3)
 unfolding once_shortened
-step_2 = record { answer = inl refl; end = refl; control = still_shut; heard = counts_so worked_policies (once_shortened 2) (comes_to_server 10000000 0) (answers.Deliver receives.Taken); openings = tt; others = refl; lacking = tt }
+step_2 =
+    let s : StepsSo worked_policies (once_shortened 2) (comes_to_server 10000000 0) (answers.Deliver receives.Taken) (once_shortened 3) = steps_at worked_policies filling_start shortened_events shortened_answers 2 (comes_to_server 10000000 0) (answers.Deliver receives.Taken) _ _ refl refl refl in
+    record { answer = inl refl; end = s.end; control = s.control; heard = s.heard; openings = tt; others = s.others; lacking = tt }
 
 seen_2 : seen_with (Some 1024000000) (Some 35000000) ≡ view_of (once_shortened 3)
 unfolding once_shortened
@@ -93,7 +99,9 @@ seen_2 = refl
 
 step_3 : IsStep worked_policies (once_shortened 3) (comes_to_server 10000000 1) (answers.Deliver receives.Taken) (once_shortened 4)
 unfolding once_shortened
-step_3 = record { answer = inl refl; end = refl; control = still_shut; heard = counts_so worked_policies (once_shortened 3) (comes_to_server 10000000 1) (answers.Deliver receives.Taken); openings = tt; others = refl; lacking = tt }
+step_3 =
+    let s : StepsSo worked_policies (once_shortened 3) (comes_to_server 10000000 1) (answers.Deliver receives.Taken) (once_shortened 4) = steps_at worked_policies filling_start shortened_events shortened_answers 3 (comes_to_server 10000000 1) (answers.Deliver receives.Taken) _ _ refl refl refl in
+    record { answer = inl refl; end = s.end; control = s.control; heard = s.heard; openings = tt; others = s.others; lacking = tt }
 
 seen_3 : seen_with (Some 1024000000) (Some 35000000) ≡ view_of (once_shortened 4)
 unfolding once_shortened
@@ -101,7 +109,9 @@ seen_3 = refl
 
 step_4 : IsStep worked_policies (once_shortened 4) (asks_at Server 10000000) (gives_bytes 31) (once_shortened 5)
 unfolding once_shortened
-step_4 = record { answer = inl refl; end = refl; control = still_shut; heard = counts_so worked_policies (once_shortened 4) (asks_at Server 10000000) (gives_bytes 31); openings = tt; others = refl; lacking = tt }
+step_4 =
+    let s : StepsSo worked_policies (once_shortened 4) (asks_at Server 10000000) (gives_bytes 31) (once_shortened 5) = steps_at worked_policies filling_start shortened_events shortened_answers 4 (asks_at Server 10000000) (gives_bytes 31) _ _ refl refl refl in
+    record { answer = inl refl; end = s.end; control = s.control; heard = s.heard; openings = tt; others = s.others; lacking = tt }
 
 seen_4 : seen_with (Some 1024000000) None ≡ view_of (once_shortened 5)
 unfolding once_shortened
@@ -109,7 +119,9 @@ seen_4 = refl
 
 step_5 : IsStep worked_policies (once_shortened 5) (comes_at Client 20000000) (answers.Deliver receives.Taken) (once_shortened 6)
 unfolding once_shortened
-step_5 = record { answer = inl refl; end = refl; control = still_steady; heard = counts_so worked_policies (once_shortened 5) (comes_at Client 20000000) (answers.Deliver receives.Taken); openings = tt; others = refl; lacking = tt }
+step_5 =
+    let s : StepsSo worked_policies (once_shortened 5) (comes_at Client 20000000) (answers.Deliver receives.Taken) (once_shortened 6) = steps_at worked_policies filling_start shortened_events shortened_answers 5 (comes_at Client 20000000) (answers.Deliver receives.Taken) _ _ refl refl refl in
+    record { answer = inl refl; end = s.end; control = s.control; heard = s.heard; openings = tt; others = s.others; lacking = tt }
 
 seen_5 : larger_with None ≡ view_of (once_shortened 6)
 unfolding once_shortened
@@ -117,7 +129,9 @@ seen_5 = refl
 
 step_6 : IsStep worked_policies (once_shortened 6) asks_ping answers.Ping (once_shortened 7)
 unfolding once_shortened
-step_6 = record { answer = refl; end = refl; control = still_steady; heard = counts_so worked_policies (once_shortened 6) asks_ping answers.Ping; openings = tt; others = refl; lacking = tt }
+step_6 =
+    let s : StepsSo worked_policies (once_shortened 6) asks_ping answers.Ping (once_shortened 7) = steps_at worked_policies filling_start shortened_events shortened_answers 6 asks_ping answers.Ping _ _ refl refl refl in
+    record { answer = refl; end = s.end; control = s.control; heard = s.heard; openings = tt; others = s.others; lacking = tt }
 
 seen_6 : larger_with None ≡ view_of (once_shortened 7)
 unfolding once_shortened
@@ -125,7 +139,9 @@ seen_6 = refl
 
 step_7 : IsStep worked_policies (once_shortened 7) (asks_at Client 20000000) (gives_unmarked 1326) (once_shortened 8)
 unfolding once_shortened
-step_7 = record { answer = inl refl; end = refl; control = still_steady; heard = counts_so worked_policies (once_shortened 7) (asks_at Client 20000000) (gives_unmarked 1326); openings = tt; others = refl; lacking = tt }
+step_7 =
+    let s : StepsSo worked_policies (once_shortened 7) (asks_at Client 20000000) (gives_unmarked 1326) (once_shortened 8) = steps_at worked_policies filling_start shortened_events shortened_answers 7 (asks_at Client 20000000) (gives_unmarked 1326) _ _ refl refl refl in
+    record { answer = inl refl; end = s.end; control = s.control; heard = s.heard; openings = tt; others = s.others; lacking = tt }
 
 seen_7 : larger_with (Some 105000000) ≡ view_of (once_shortened 8)
 unfolding once_shortened
@@ -133,7 +149,9 @@ seen_7 = refl
 
 step_8 : IsStep worked_policies (once_shortened 8) (serves Client 105000000) (answers.Timeout (Ok tt)) (once_shortened 9)
 unfolding once_shortened
-step_8 = record { answer = inl refl; end = refl; control = still_steady; heard = counts_so worked_policies (once_shortened 8) (serves Client 105000000) (answers.Timeout (Ok tt)); openings = tt; others = refl; lacking = tt }
+step_8 =
+    let s : StepsSo worked_policies (once_shortened 8) (serves Client 105000000) (answers.Timeout (Ok tt)) (once_shortened 9) = steps_at worked_policies filling_start shortened_events shortened_answers 8 (serves Client 105000000) (answers.Timeout (Ok tt)) _ _ refl refl refl in
+    record { answer = inl refl; end = s.end; control = s.control; heard = s.heard; openings = tt; others = s.others; lacking = tt }
 
 seen_8 : larger_with (Some 190000000) ≡ view_of (once_shortened 9)
 unfolding once_shortened
@@ -141,7 +159,9 @@ seen_8 = refl
 
 step_9 : IsStep worked_policies (once_shortened 9) (asks_at Client 105000000) (gives_unmarked 1200) (once_shortened 10)
 unfolding once_shortened
-step_9 = record { answer = inl refl; end = refl; control = still_steady; heard = counts_so worked_policies (once_shortened 9) (asks_at Client 105000000) (gives_unmarked 1200); openings = tt; others = refl; lacking = tt }
+step_9 =
+    let s : StepsSo worked_policies (once_shortened 9) (asks_at Client 105000000) (gives_unmarked 1200) (once_shortened 10) = steps_at worked_policies filling_start shortened_events shortened_answers 9 (asks_at Client 105000000) (gives_unmarked 1200) _ _ refl refl refl in
+    record { answer = inl refl; end = s.end; control = s.control; heard = s.heard; openings = tt; others = s.others; lacking = tt }
 
 seen_9 : larger_with (Some 275000000) ≡ view_of (once_shortened 10)
 unfolding once_shortened
@@ -149,7 +169,9 @@ seen_9 = refl
 
 step_10 : IsStep worked_policies (once_shortened 10) (asks_at Client 105000000) (gives_unmarked 1200) (once_shortened 11)
 unfolding once_shortened
-step_10 = record { answer = inl refl; end = refl; control = still_steady; heard = counts_so worked_policies (once_shortened 10) (asks_at Client 105000000) (gives_unmarked 1200); openings = tt; others = refl; lacking = tt }
+step_10 =
+    let s : StepsSo worked_policies (once_shortened 10) (asks_at Client 105000000) (gives_unmarked 1200) (once_shortened 11) = steps_at worked_policies filling_start shortened_events shortened_answers 10 (asks_at Client 105000000) (gives_unmarked 1200) _ _ refl refl refl in
+    record { answer = inl refl; end = s.end; control = s.control; heard = s.heard; openings = tt; others = s.others; lacking = tt }
 
 seen_10 : larger_with (Some 275000000) ≡ view_of (once_shortened 11)
 unfolding once_shortened
@@ -157,7 +179,9 @@ seen_10 = refl
 
 step_11 : IsStep worked_policies (once_shortened 11) (comes_to_server 115000000 3) (answers.Deliver receives.Taken) (once_shortened 12)
 unfolding once_shortened
-step_11 = record { answer = inl refl; end = refl; control = still_shut; heard = counts_so worked_policies (once_shortened 11) (comes_to_server 115000000 3) (answers.Deliver receives.Taken); openings = tt; others = refl; lacking = tt }
+step_11 =
+    let s : StepsSo worked_policies (once_shortened 11) (comes_to_server 115000000 3) (answers.Deliver receives.Taken) (once_shortened 12) = steps_at worked_policies filling_start shortened_events shortened_answers 11 (comes_to_server 115000000 3) (answers.Deliver receives.Taken) _ _ refl refl refl in
+    record { answer = inl refl; end = s.end; control = s.control; heard = s.heard; openings = tt; others = s.others; lacking = tt }
 
 seen_11 : larger_with (Some 275000000) ≡ view_of (once_shortened 12)
 unfolding once_shortened
@@ -165,7 +189,9 @@ seen_11 = refl
 
 step_12 : IsStep worked_policies (once_shortened 12) (asks_at Server 115000000) (gives_unmarked 31) (once_shortened 13)
 unfolding once_shortened
-step_12 = record { answer = inl refl; end = refl; control = still_shut; heard = counts_so worked_policies (once_shortened 12) (asks_at Server 115000000) (gives_unmarked 31); openings = tt; others = refl; lacking = tt }
+step_12 =
+    let s : StepsSo worked_policies (once_shortened 12) (asks_at Server 115000000) (gives_unmarked 31) (once_shortened 13) = steps_at worked_policies filling_start shortened_events shortened_answers 12 (asks_at Server 115000000) (gives_unmarked 31) _ _ refl refl refl in
+    record { answer = inl refl; end = s.end; control = s.control; heard = s.heard; openings = tt; others = s.others; lacking = tt }
 
 seen_12 : larger_with (Some 275000000) ≡ view_of (once_shortened 13)
 unfolding once_shortened
@@ -173,7 +199,9 @@ seen_12 = refl
 
 step_13 : IsStep worked_policies (once_shortened 13) second_comes (answers.Deliver receives.Taken) (once_shortened 14)
 unfolding once_shortened
-step_13 = record { answer = inl refl; end = refl; control = still_steady; heard = counts_so worked_policies (once_shortened 13) second_comes (answers.Deliver receives.Taken); openings = tt; others = refl; lacking = tt }
+step_13 =
+    let s : StepsSo worked_policies (once_shortened 13) second_comes (answers.Deliver receives.Taken) (once_shortened 14) = steps_at worked_policies filling_start shortened_events shortened_answers 13 second_comes (answers.Deliver receives.Taken) _ _ refl refl refl in
+    record { answer = inl refl; end = s.end; control = s.control; heard = s.heard; openings = tt; others = s.others; lacking = tt }
 
 seen_13 : larger_with (Some 180000000) ≡ view_of (once_shortened 14)
 unfolding once_shortened
@@ -233,7 +261,7 @@ second_goes = (record { one = record { transmit = record { size = 1200; ecn = No
 
 -- what told the ids, as it was sent
 abbrev ids_sent : Sent
-ids_sent = record { id = server_id; number = 0; reference = 0; frames = id_frames ++ replicate 978 padding; moment = 0; size = 1200 }
+ids_sent = record { id = server_id; number = 0; reference = 0; frames = id_frames ++ replicate 978 padding; moment = 0; size = 1200; generation = 0 }
 
 all_acked : acked_until shortened_run Client 14 ≡ ids_sent ∷ size_sent ∷ probe_sent 3 ∷ []
 unfolding once_shortened

@@ -29,15 +29,16 @@ pub server_alone : (w : World) (e : End) → with_server w e ≡ changed Server 
 server_alone w e = ap (λ (ds : List (List ℕ)). record w { server = e; from_server = ds }) (sym (append-nil w.from_server))
 
 -- what the end of an event has counted behind it: no world is computed for that
-pub counts_so : (k : Policies) (w : World) (event : RunEvent) (a : Answer) → heard_at event.side (after_event k w event a) ≡ heard_by (given_by (other_side event.side) w) event.call a (heard_at event.side w)
+pub counts_so : (k : Policies) (w : World) (event : RunEvent) (a : Answer) → heard_at event.side (after_event k w event a) ≡ heard_by (end_at event.side w) (end_at event.side (after_event k w event a)) (given_by (other_side event.side) w) event.call a (heard_at event.side w)
 counts_so k w event a = go event.side event.call
   where
-    go : (side : Side) (call : Call) → heard_at side (after_event k w (record { side = side; call = call }) a) ≡ heard_by (given_by (other_side side) w) call a (heard_at side w)
+    go : (side : Side) (call : Call) → heard_at side (after_event k w (record { side = side; call = call }) a)
+        ≡ heard_by (end_at side w) (end_at side (after_event k w (record { side = side; call = call }) a)) (given_by (other_side side) w) call a (heard_at side w)
     go Client call = refl
     go Server call = refl
 
 -- the same behind events of which there is one
-pub counts_ran : (k : Policies) (w : World) (event : RunEvent) (a : Answer) → heard_at event.side (ran k w (event ∷ []) (a ∷ [])) ≡ heard_by (given_by (other_side event.side) w) event.call a (heard_at event.side w)
+pub counts_ran : (k : Policies) (w : World) (event : RunEvent) (a : Answer) → heard_at event.side (ran k w (event ∷ []) (a ∷ [])) ≡ heard_by (end_at event.side w) (end_at event.side (ran k w (event ∷ []) (a ∷ []))) (given_by (other_side event.side) w) event.call a (heard_at event.side w)
 counts_ran k w event a = counts_so k w event a
 
 -- so are the other end and what it has given as they were: no world is computed for that
@@ -70,15 +71,15 @@ tells_so k w event a = go event.side event.call
 pub record StepsSo (k : Policies) (w : World) (event : RunEvent) (a : Answer) (next : World) : Type 0 where
   pub end : IsLeft (fails a) (policy_at event.side k) (control_at event.side w) (heard_at event.side w) (end_at event.side w) (given_by (other_side event.side) w) event.call a (end_at event.side next)
   pub control : IsTold (fails a) (policy_at event.side k) (control_at event.side w) (heard_at event.side w) (end_at event.side w) (given_by (other_side event.side) w) event.call (control_at event.side next)
-  pub heard : IsHeard (fails a) (given_by (other_side event.side) w) event.call a (heard_at event.side w) (heard_at event.side next)
+  pub heard : IsHeard (fails a) (end_at event.side w) (end_at event.side next) (given_by (other_side event.side) w) event.call a (heard_at event.side w) (heard_at event.side next)
   pub others : next ≡ changed event.side w (end_at event.side next) (gives (policy_at event.side k) (end_met w event) event.call a) (control_at event.side next) (heard_at event.side next)
 
 -- no world is computed for that
-steps_so : (k : Policies) (w : World) (event : RunEvent) (a : Answer) → fails a ≡ false → StepsSo k w event a (after_event k w event a)
+pub steps_so : (k : Policies) (w : World) (event : RunEvent) (a : Answer) → fails a ≡ false → StepsSo k w event a (after_event k w event a)
 steps_so k w event a served = record {
   end = subst (λ (b : Bool). IsLeft b (policy_at event.side k) (control_at event.side w) (heard_at event.side w) (end_at event.side w) (given_by (other_side event.side) w) event.call a (end_at event.side (after_event k w event a))) (sym served) (leaves_so k w event a);
   control = subst (λ (b : Bool). IsTold b (policy_at event.side k) (control_at event.side w) (heard_at event.side w) (end_at event.side w) (given_by (other_side event.side) w) event.call (control_at event.side (after_event k w event a))) (sym served) (tells_so k w event a);
-  heard = subst (λ (b : Bool). IsHeard b (given_by (other_side event.side) w) event.call a (heard_at event.side w) (heard_at event.side (after_event k w event a))) (sym served) (counts_so k w event a);
+  heard = subst (λ (b : Bool). IsHeard b (end_at event.side w) (end_at event.side (after_event k w event a)) (given_by (other_side event.side) w) event.call a (heard_at event.side w) (heard_at event.side (after_event k w event a))) (sym served) (counts_so k w event a);
   others = others_so k w event a;
 }
 

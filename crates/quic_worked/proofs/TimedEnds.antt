@@ -1,5 +1,5 @@
 -- No run of the machine leads to ends whose timers don't follow what they wait for.
-use Rattle.std.proofs.Common.{List, refl}
+use Rattle.std.proofs.Common.{List}
 use Rattle.quic_machine.specs.declared.run.RunEvent.{RunEvent}
 use Rattle.quic_machine.specs.declared.run.Answer.{Answer}
 use Rattle.quic_headline.specs.Headline.{AckTimersFollow}

@@ -20,7 +20,7 @@ use Rattle.quic_worked.specs.Reordered.{delivers_at, first_sent, second_written,
 use Rattle.quic_worked.specs.Messages.{server_asks, once_messaged, message_run}
 use Rattle.quic_worked.specs.Told.{tells_opened, opening_run, hello_packet, opening_told, opening_end, opening_untold, tells_readable, abc_nexts, readable_run, readable_untold, front_taken, front_told, front_accepted, front_read, rest_taken, rest_told, readable_end, message_untold}
 use Rattle.quic_worked.proofs.Codes.{no_codes}
-use Rattle.quic_worked.proofs.Steps.{others_so, still_shut, counts_so}
+use Rattle.quic_worked.proofs.Steps.{steps_so, StepsSo}
 use Rattle.quic_worked.proofs.OwnIds.{honest}
 use Rattle.quic_worked.proofs.BrokenRuns.{IsRefused, stops, behind}
 use Rattle.quic_worked.proofs.WorkedRun.{ReadsSo, reads_at, opens, writes, finishes, gives, takes, sent_seen, taken_seen}
@@ -34,7 +34,9 @@ unfolding once_taken
 answer_opened = refl
 
 told : IsStep worked_policies once_taken server_asks tells_opened opening_told
-told = record { answer = answer_opened; end = refl; control = refl; heard = counts_so worked_policies once_taken server_asks tells_opened; openings = tt; others = refl; lacking = tt }
+told =
+    let s : StepsSo worked_policies once_taken server_asks tells_opened opening_told = steps_so worked_policies once_taken server_asks tells_opened refl in
+    record { answer = answer_opened; end = s.end; control = s.control; heard = s.heard; openings = tt; others = s.others; lacking = tt }
 
 told_seen : record { client = sent_view; server = server_waiting } ≡ view_of opening_told
 unfolding once_taken
@@ -45,7 +47,9 @@ unfolding once_taken
 answer_nothing = refl
 
 nothing : IsStep worked_policies opening_told server_asks (answers.Event None) opening_end
-nothing = record { answer = answer_nothing; end = refl; control = refl; heard = counts_so worked_policies opening_told server_asks (answers.Event None); openings = tt; others = refl; lacking = tt }
+nothing =
+    let s : StepsSo worked_policies opening_told server_asks (answers.Event None) opening_end = steps_so worked_policies opening_told server_asks (answers.Event None) refl in
+    record { answer = answer_nothing; end = s.end; control = s.control; heard = s.heard; openings = tt; others = s.others; lacking = tt }
 
 nothing_seen : record { client = sent_view; server = server_waiting } ≡ view_of opening_end
 unfolding once_taken
@@ -109,18 +113,24 @@ no_opening_untold = behind refl opens (behind refl writes (behind refl finishes 
 
 takes_front : IsStep worked_policies both_sent (delivers_at 0) (answers.Deliver receives.Taken) front_taken
 unfolding front_taken
-takes_front = record { answer = inl refl; end = refl; control = still_shut; heard = counts_so worked_policies both_sent (delivers_at 0) (answers.Deliver receives.Taken); openings = tt; others = refl; lacking = tt }
+takes_front =
+    let s : StepsSo worked_policies both_sent (delivers_at 0) (answers.Deliver receives.Taken) front_taken = steps_so worked_policies both_sent (delivers_at 0) (answers.Deliver receives.Taken) refl in
+    record { answer = inl refl; end = s.end; control = s.control; heard = s.heard; openings = tt; others = s.others; lacking = tt }
 
 front_opened : tells_opened ≡ answers.Event (end_tells front_taken.server)
 unfolding front_taken
 front_opened = refl
 
 tells_front : IsStep worked_policies front_taken server_asks tells_opened front_told
-tells_front = record { answer = front_opened; end = refl; control = refl; heard = counts_so worked_policies front_taken server_asks tells_opened; openings = tt; others = refl; lacking = tt }
+tells_front =
+    let s : StepsSo worked_policies front_taken server_asks tells_opened front_told = steps_so worked_policies front_taken server_asks tells_opened refl in
+    record { answer = front_opened; end = s.end; control = s.control; heard = s.heard; openings = tt; others = s.others; lacking = tt }
 
 accepts_front : IsStep worked_policies front_told accepts_stream (answers.Accept (Some 0)) front_accepted
 unfolding front_taken
-accepts_front = record { answer = refl; end = refl; control = refl; heard = counts_so worked_policies front_told accepts_stream (answers.Accept (Some 0)); openings = tt; others = others_so worked_policies front_told accepts_stream (answers.Accept (Some 0)); lacking = tt }
+accepts_front =
+    let s : StepsSo worked_policies front_told accepts_stream (answers.Accept (Some 0)) front_accepted = steps_so worked_policies front_told accepts_stream (answers.Accept (Some 0)) refl in
+    record { answer = refl; end = s.end; control = s.control; heard = s.heard; openings = tt; others = s.others; lacking = tt }
 
 front_so : ReadsSo front_accepted 0 true two_chunks abc_nexts front_read.server
 unfolding front_taken
@@ -134,21 +144,27 @@ reads_front = reads_at front_accepted front_read 0 true two_chunks abc_nexts fro
 
 takes_rest : IsStep worked_policies front_read (delivers_at 1) (answers.Deliver receives.Taken) rest_taken
 unfolding rest_taken
-takes_rest = record { answer = inl refl; end = refl; control = still_shut; heard = counts_so worked_policies front_read (delivers_at 1) (answers.Deliver receives.Taken); openings = tt; others = refl; lacking = tt }
+takes_rest =
+    let s : StepsSo worked_policies front_read (delivers_at 1) (answers.Deliver receives.Taken) rest_taken = steps_so worked_policies front_read (delivers_at 1) (answers.Deliver receives.Taken) refl in
+    record { answer = inl refl; end = s.end; control = s.control; heard = s.heard; openings = tt; others = s.others; lacking = tt }
 
 rest_readable : tells_readable ≡ answers.Event (end_tells rest_taken.server)
 unfolding rest_taken
 rest_readable = refl
 
 tells_rest : IsStep worked_policies rest_taken server_asks tells_readable rest_told
-tells_rest = record { answer = rest_readable; end = refl; control = refl; heard = counts_so worked_policies rest_taken server_asks tells_readable; openings = tt; others = refl; lacking = tt }
+tells_rest =
+    let s : StepsSo worked_policies rest_taken server_asks tells_readable rest_told = steps_so worked_policies rest_taken server_asks tells_readable refl in
+    record { answer = rest_readable; end = s.end; control = s.control; heard = s.heard; openings = tt; others = s.others; lacking = tt }
 
 no_more : answers.Event None ≡ answers.Event (end_tells rest_told.server)
 unfolding rest_taken
 no_more = refl
 
 tells_no_more : IsStep worked_policies rest_told server_asks (answers.Event None) readable_end
-tells_no_more = record { answer = no_more; end = refl; control = refl; heard = counts_so worked_policies rest_told server_asks (answers.Event None); openings = tt; others = refl; lacking = tt }
+tells_no_more =
+    let s : StepsSo worked_policies rest_told server_asks (answers.Event None) readable_end = steps_so worked_policies rest_told server_asks (answers.Event None) refl in
+    record { answer = no_more; end = s.end; control = s.control; heard = s.heard; openings = tt; others = s.others; lacking = tt }
 
 front_seen : both_wait ≡ view_of front_taken
 unfolding front_taken

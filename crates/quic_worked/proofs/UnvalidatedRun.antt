@@ -8,7 +8,7 @@ use Rattle.quic_machine.specs.declared.run.Answer.TheVariants as answers
 use Rattle.quic_machine.specs.End.{IsMade}
 use Rattle.quic_machine.specs.Start.{AreStarted}
 use Rattle.quic_machine.specs.Machine.{World, IsStep, view_of}
-use Rattle.quic_headline.specs.Runs.{bytes_handed, bytes_given}
+use Rattle.quic_headline.specs.Allowance.{bytes_handed, bytes_given}
 use Rattle.quic_headline.specs.Polls.{seen_at}
 use Rattle.quic_headline.specs.Threefold.{Threefold}
 use Rattle.quic_headline.specs.Headline.{IsHonest, IsRun}

@@ -21,28 +21,40 @@ use Rattle.quic_worked.specs.Broken.{IsNoRun}
 use Rattle.quic_worked.proofs.BrokenRuns.{IsRefused, behind, stops}
 use Rattle.quic_worked.proofs.Codes.{no_codes}
 use Rattle.quic_worked.proofs.MessageRuns.{given_bytes}
-use Rattle.quic_worked.proofs.Steps.{counts_so}
+use Rattle.quic_worked.proofs.Steps.{StepsSo, steps_so}
 
 opens : IsStep worked_policies two_left opens_stream (answers.Open (Some 0)) (ran worked_policies two_left (take 1 last_events) (take 1 last_answers))
-opens = record { answer = refl; end = refl; control = refl; heard = counts_so worked_policies two_left opens_stream (answers.Open (Some 0)); openings = tt; others = refl; lacking = tt }
+opens =
+    let s : StepsSo worked_policies two_left opens_stream (answers.Open (Some 0)) (ran worked_policies two_left (take 1 last_events) (take 1 last_answers)) = steps_so worked_policies two_left opens_stream (answers.Open (Some 0)) refl in
+    record { answer = refl; end = s.end; control = s.control; heard = s.heard; openings = tt; others = s.others; lacking = tt }
 
 writes : IsStep worked_policies (ran worked_policies two_left (take 1 last_events) (take 1 last_answers)) writes_hello (answers.Write (Ok 5)) (ran worked_policies two_left (take 2 last_events) (take 2 last_answers))
-writes = record { answer = inl refl; end = refl; control = refl; heard = counts_so worked_policies (ran worked_policies two_left (take 1 last_events) (take 1 last_answers)) writes_hello (answers.Write (Ok 5)); openings = tt; others = refl; lacking = λ lacks. cc }
+writes =
+    let s : StepsSo worked_policies (ran worked_policies two_left (take 1 last_events) (take 1 last_answers)) writes_hello (answers.Write (Ok 5)) (ran worked_policies two_left (take 2 last_events) (take 2 last_answers)) = steps_so worked_policies (ran worked_policies two_left (take 1 last_events) (take 1 last_answers)) writes_hello (answers.Write (Ok 5)) refl in
+    record { answer = inl refl; end = s.end; control = s.control; heard = s.heard; openings = tt; others = s.others; lacking = λ lacks. cc }
 
 finishes : IsStep worked_policies (ran worked_policies two_left (take 2 last_events) (take 2 last_answers)) finishes_stream (answers.Finish (Ok tt)) last_ended
-finishes = record { answer = inl refl; end = refl; control = refl; heard = counts_so worked_policies (ran worked_policies two_left (take 2 last_events) (take 2 last_answers)) finishes_stream (answers.Finish (Ok tt)); openings = tt; others = refl; lacking = λ lacks. cc }
+finishes =
+    let s : StepsSo worked_policies (ran worked_policies two_left (take 2 last_events) (take 2 last_answers)) finishes_stream (answers.Finish (Ok tt)) last_ended = steps_so worked_policies (ran worked_policies two_left (take 2 last_events) (take 2 last_answers)) finishes_stream (answers.Finish (Ok tt)) refl in
+    record { answer = inl refl; end = s.end; control = s.control; heard = s.heard; openings = tt; others = s.others; lacking = λ lacks. cc }
 
 gives : IsStep worked_policies last_ended asks_datagram (gives_bytes 233) last_given
 unfolding last_given
-gives = record { answer = inl refl; end = refl; control = refl; heard = counts_so worked_policies last_ended asks_datagram (gives_bytes 233); openings = tt; others = refl; lacking = tt }
+gives =
+    let s : StepsSo worked_policies last_ended asks_datagram (gives_bytes 233) last_given = steps_so worked_policies last_ended asks_datagram (gives_bytes 233) refl in
+    record { answer = inl refl; end = s.end; control = s.control; heard = s.heard; openings = tt; others = s.others; lacking = tt }
 
 pings : IsStep worked_policies last_given asks_ping answers.Ping last_pinged
 unfolding last_given
-pings = record { answer = refl; end = refl; control = refl; heard = counts_so worked_policies last_given asks_ping answers.Ping; openings = tt; others = refl; lacking = tt }
+pings =
+    let s : StepsSo worked_policies last_given asks_ping answers.Ping last_pinged = steps_so worked_policies last_given asks_ping answers.Ping refl in
+    record { answer = refl; end = s.end; control = s.control; heard = s.heard; openings = tt; others = s.others; lacking = tt }
 
 closes : IsStep worked_policies last_pinged asks_datagram (gives_bytes 33) last_closed
 unfolding last_closed
-closes = record { answer = inl refl; end = refl; control = refl; heard = counts_so worked_policies last_pinged asks_datagram (gives_bytes 33); openings = tt; others = refl; lacking = tt }
+closes =
+    let s : StepsSo worked_policies last_pinged asks_datagram (gives_bytes 33) last_closed = steps_so worked_policies last_pinged asks_datagram (gives_bytes 33) refl in
+    record { answer = inl refl; end = s.end; control = s.control; heard = s.heard; openings = tt; others = s.others; lacking = tt }
 
 abbrev one_sent : View
 one_sent = record { client = sent_view; server = server_open }
@@ -153,11 +165,15 @@ early_wrong h = go (subst (λ (n : ℕ). AreUsedUp (2 ^ 31 - 17) n) early_named 
 
 gives_ids : IsStep worked_policies three_left asks_datagram (gives_bytes 225) ids_given
 unfolding ids_given
-gives_ids = record { answer = inl refl; end = refl; control = refl; heard = counts_so worked_policies three_left asks_datagram (gives_bytes 225); openings = tt; others = refl; lacking = tt }
+gives_ids =
+    let s : StepsSo worked_policies three_left asks_datagram (gives_bytes 225) ids_given = steps_so worked_policies three_left asks_datagram (gives_bytes 225) refl in
+    record { answer = inl refl; end = s.end; control = s.control; heard = s.heard; openings = tt; others = s.others; lacking = tt }
 
 pings_behind : IsStep worked_policies ids_given asks_ping answers.Ping ids_pinged
 unfolding ids_given
-pings_behind = record { answer = refl; end = refl; control = refl; heard = counts_so worked_policies ids_given asks_ping answers.Ping; openings = tt; others = refl; lacking = tt }
+pings_behind =
+    let s : StepsSo worked_policies ids_given asks_ping answers.Ping ids_pinged = steps_so worked_policies ids_given asks_ping answers.Ping refl in
+    record { answer = refl; end = s.end; control = s.control; heard = s.heard; openings = tt; others = s.others; lacking = tt }
 
 -- the machine gives the PING
 early_no : IsRefused ids_pinged asks_datagram (gives_bytes 33)

@@ -22,8 +22,8 @@ use Rattle.quic_headline.specs.Runs as of_runs
 use Rattle.quic_headline.specs.Observer.{Watch, Lens, news, has_opened, moment_of, clock_behind, lens_of, watch_from, watch}
 use Rattle.quic_headline.specs.Observer as observer
 use Rattle.quic_headline.specs.Headline.{IsHonest, IsRun}
-use Rattle.quic_headline.specs.Polls.{seen_at}
-use Rattle.quic_headline.specs.Telling.{Tellings, Judging, judging, told_if, bytes_asking, TellsAcked, TellsAck, TellsNamed, TellsSettled, TellsPackets, TellsCall, TellsCalls, shows_validated, ControllersAreTold}
+use Rattle.quic_headline.specs.Polls.{seen_at, bytes_on}
+use Rattle.quic_headline.specs.Telling.{Tellings, Judging, judging, told_if, TellsAcked, TellsAck, TellsNamed, TellsSettled, TellsPackets, TellsCall, TellsCalls, shows_validated, ControllersAreTold}
 use Rattle.quic_headline.specs.AppLimited.{CountsAt}
 use Rattle.quic_headline.proofs.AppLimited.Clause.{controllers_are_told}
 use Rattle.quic_worked.specs.Worked.{worked_policies, opens_stream, asks_datagram, delivers, gives_bytes, gives_unmarked, told_in, client_id, open_view, sent_view, view_within}
@@ -253,7 +253,7 @@ clock_is = refl
 
 -- the datagram with PING that the server gave
 abbrev pinged : observer.Sent
-pinged = record { id = client_id; number = 1; reference = 0; frames = ping ∷ ack acks_second ∷ []; moment = 0; size = 32 }
+pinged = record { id = client_id; number = 1; reference = 0; frames = ping ∷ ack acks_second ∷ []; moment = 0; size = 32; generation = 0 }
 
 abbrev others : List observer.Sent
 others = filter (λ (s : observer.Sent). not (names acks_second s.number)) seen.flight.flying
@@ -284,7 +284,7 @@ module _ (validated : Bool) (is : validated ≡ true) (first : Option ℕ) (limi
 
   -- the ACK frame ends so
   abbrev ended : Told
-  ended = AcksEnded 0 (min (bytes_asking others) observer.latest) limited (Some (greatest_of seen.flight.named acks_second.largest))
+  ended = AcksEnded 0 (min (bytes_on seen.route.generation others) observer.latest) limited (Some (greatest_of seen.flight.named acks_second.largest))
 
   settled_tells : (told : Tellings) → TellsSettled j 0 acks_second (pinged ∷ []) others seen.flight told → list_any is_acknowledged told ≡ true
   settled_tells told x =

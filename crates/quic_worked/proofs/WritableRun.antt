@@ -19,13 +19,13 @@ use Rattle.quic_worked.specs.Paired.{writes_on, asks_server, client_hears, clien
 use Rattle.quic_worked.specs.Broken.{IsNoRun}
 use Rattle.quic_worked.specs.Credit.{eight_bounds, ReadsEight}
 use Rattle.quic_worked.specs.Limited.{limited_start, sixteen, hello_nexts, limited_payload, raised_payload, limited_opened, limited_both, limited_first, limited_second, limited_blocked, limited_sent, limited_taken, limited_accepted, limited_read, limited_given, limited_heard}
-use Rattle.quic_worked.specs.Writable.{tells_again, once_asked, writable_run, writable_untold, AwaitsAt, own_back, told_back, own_until, own_read, own_behind, own_payload, own_run}
+use Rattle.quic_worked.specs.Writable.{tells_again, asks_thrice, told_thrice, own_front, own_told, once_asked, writable_run, writable_untold, AwaitsAt, own_back, told_back, own_until, own_read, own_behind, own_payload, own_run}
 use Rattle.quic_worked.proofs.WorkedRun.{ReadsSo, reads_at}
 use Rattle.quic_worked.proofs.WorkedKeys.{are_keys}
 use Rattle.quic_worked.proofs.Codes.{no_codes}
 use Rattle.quic_worked.proofs.OwnIds.{AreOwn, own_ids}
 use Rattle.quic_worked.proofs.BrokenRuns.{IsRefused, stops, behind}
-use Rattle.quic_worked.proofs.Steps.{counts_so}
+use Rattle.quic_worked.proofs.Steps.{steps_at, StepsSo}
 use Rattle.quic_worked.proofs.LimitedRun.{limited_started, both_open, one_sent, one_taken, both_sent, one_heard, opens, opens_both, writes_first, writes_second, blocks, gives, takes, accepts, reads, raises, hears, sent_seen, taken_seen, accepted_seen, read_seen, given_seen, heard_seen}
 
 -- ---- what is told
@@ -35,21 +35,27 @@ unfolding limited_heard
 used_up_again = refl
 
 tells_used_up : IsStep worked_policies limited_heard client_asks (tells_again 0) (once_asked 1)
-tells_used_up = record { answer = used_up_again; end = refl; control = refl; heard = counts_so worked_policies limited_heard client_asks (tells_again 0); openings = tt; others = refl; lacking = tt }
+tells_used_up =
+    let s : StepsSo worked_policies limited_heard client_asks (tells_again 0) (once_asked 1) = steps_at worked_policies limited_heard asks_thrice told_thrice 0 client_asks (tells_again 0) _ _ refl refl refl in
+    record { answer = used_up_again; end = s.end; control = s.control; heard = s.heard; openings = tt; others = s.others; lacking = tt }
 
 blocked_again : tells_again 4 ≡ answers.Event (end_tells (once_asked 1).client)
 unfolding limited_heard
 blocked_again = refl
 
 tells_blocked : IsStep worked_policies (once_asked 1) client_asks (tells_again 4) (once_asked 2)
-tells_blocked = record { answer = blocked_again; end = refl; control = refl; heard = counts_so worked_policies (once_asked 1) client_asks (tells_again 4); openings = tt; others = refl; lacking = tt }
+tells_blocked =
+    let s : StepsSo worked_policies (once_asked 1) client_asks (tells_again 4) (once_asked 2) = steps_at worked_policies limited_heard asks_thrice told_thrice 1 client_asks (tells_again 4) _ _ refl refl refl in
+    record { answer = blocked_again; end = s.end; control = s.control; heard = s.heard; openings = tt; others = s.others; lacking = tt }
 
 no_more : answers.Event None ≡ answers.Event (end_tells (once_asked 2).client)
 unfolding limited_heard
 no_more = refl
 
 tells_no_more : IsStep worked_policies (once_asked 2) client_asks (answers.Event None) (once_asked 3)
-tells_no_more = record { answer = no_more; end = refl; control = refl; heard = counts_so worked_policies (once_asked 2) client_asks (answers.Event None); openings = tt; others = refl; lacking = tt }
+tells_no_more =
+    let s : StepsSo worked_policies (once_asked 2) client_asks (answers.Event None) (once_asked 3) = steps_at worked_policies limited_heard asks_thrice told_thrice 2 client_asks (answers.Event None) _ _ refl refl refl in
+    record { answer = no_more; end = s.end; control = s.control; heard = s.heard; openings = tt; others = s.others; lacking = tt }
 
 first_seen : one_heard ≡ view_of (once_asked 1)
 unfolding limited_heard
@@ -164,7 +170,9 @@ no_writable_untold read by =
 
 own_until_0 : IsStep worked_policies limited_start opens_stream (answers.Open (Some 0)) (own_until 1)
 unfolding own_until
-own_until_0 = record { answer = refl; end = refl; control = refl; heard = counts_so worked_policies limited_start opens_stream (answers.Open (Some 0)); openings = tt; others = refl; lacking = tt }
+own_until_0 =
+    let s : StepsSo worked_policies limited_start opens_stream (answers.Open (Some 0)) (own_until 1) = steps_at worked_policies limited_start own_front own_told 0 opens_stream (answers.Open (Some 0)) _ _ refl refl refl in
+    record { answer = refl; end = s.end; control = s.control; heard = s.heard; openings = tt; others = s.others; lacking = tt }
 
 own_until_0_seen : both_open ≡ view_of (own_until 1)
 unfolding own_until
@@ -172,7 +180,9 @@ own_until_0_seen = refl
 
 own_until_1 : IsStep worked_policies (own_until 1) (writes_on 0 sixteen) (answers.Write (Ok 5)) (own_until 2)
 unfolding own_until
-own_until_1 = record { answer = inl refl; end = refl; control = refl; heard = counts_so worked_policies (own_until 1) (writes_on 0 sixteen) (answers.Write (Ok 5)); openings = tt; others = refl; lacking = λ lacks. cc }
+own_until_1 =
+    let s : StepsSo worked_policies (own_until 1) (writes_on 0 sixteen) (answers.Write (Ok 5)) (own_until 2) = steps_at worked_policies limited_start own_front own_told 1 (writes_on 0 sixteen) (answers.Write (Ok 5)) _ _ refl refl refl in
+    record { answer = inl refl; end = s.end; control = s.control; heard = s.heard; openings = tt; others = s.others; lacking = λ lacks. cc }
 
 own_until_1_seen : both_open ≡ view_of (own_until 2)
 unfolding own_until
@@ -180,7 +190,9 @@ own_until_1_seen = refl
 
 own_until_2 : IsStep worked_policies (own_until 2) (writes_on 0 sixteen) (answers.Write (Err write_errors.Blocked)) (own_until 3)
 unfolding own_until
-own_until_2 = record { answer = inl refl; end = refl; control = refl; heard = counts_so worked_policies (own_until 2) (writes_on 0 sixteen) (answers.Write (Err write_errors.Blocked)); openings = tt; others = refl; lacking = λ lacks. cc }
+own_until_2 =
+    let s : StepsSo worked_policies (own_until 2) (writes_on 0 sixteen) (answers.Write (Err write_errors.Blocked)) (own_until 3) = steps_at worked_policies limited_start own_front own_told 2 (writes_on 0 sixteen) (answers.Write (Err write_errors.Blocked)) _ _ refl refl refl in
+    record { answer = inl refl; end = s.end; control = s.control; heard = s.heard; openings = tt; others = s.others; lacking = λ lacks. cc }
 
 own_until_2_seen : both_open ≡ view_of (own_until 3)
 unfolding own_until
@@ -188,7 +200,9 @@ own_until_2_seen = refl
 
 own_until_3 : IsStep worked_policies (own_until 3) asks_datagram (gives_bytes 233) (own_until 4)
 unfolding own_until
-own_until_3 = record { answer = inl refl; end = refl; control = refl; heard = counts_so worked_policies (own_until 3) asks_datagram (gives_bytes 233); openings = tt; others = refl; lacking = tt }
+own_until_3 =
+    let s : StepsSo worked_policies (own_until 3) asks_datagram (gives_bytes 233) (own_until 4) = steps_at worked_policies limited_start own_front own_told 3 asks_datagram (gives_bytes 233) _ _ refl refl refl in
+    record { answer = inl refl; end = s.end; control = s.control; heard = s.heard; openings = tt; others = s.others; lacking = tt }
 
 own_until_3_seen : one_sent ≡ view_of (own_until 4)
 unfolding own_until
@@ -196,7 +210,9 @@ own_until_3_seen = refl
 
 own_until_4 : IsStep worked_policies (own_until 4) delivers (answers.Deliver receives.Taken) (own_until 5)
 unfolding own_until
-own_until_4 = record { answer = inl refl; end = refl; control = refl; heard = counts_so worked_policies (own_until 4) delivers (answers.Deliver receives.Taken); openings = tt; others = refl; lacking = tt }
+own_until_4 =
+    let s : StepsSo worked_policies (own_until 4) delivers (answers.Deliver receives.Taken) (own_until 5) = steps_at worked_policies limited_start own_front own_told 4 delivers (answers.Deliver receives.Taken) _ _ refl refl refl in
+    record { answer = inl refl; end = s.end; control = s.control; heard = s.heard; openings = tt; others = s.others; lacking = tt }
 
 own_until_4_seen : one_taken ≡ view_of (own_until 5)
 unfolding own_until
@@ -204,7 +220,9 @@ own_until_4_seen = refl
 
 own_until_5 : IsStep worked_policies (own_until 5) accepts_stream (answers.Accept (Some 0)) (own_until 6)
 unfolding own_until
-own_until_5 = record { answer = refl; end = refl; control = refl; heard = counts_so worked_policies (own_until 5) accepts_stream (answers.Accept (Some 0)); openings = tt; others = refl; lacking = tt }
+own_until_5 =
+    let s : StepsSo worked_policies (own_until 5) accepts_stream (answers.Accept (Some 0)) (own_until 6) = steps_at worked_policies limited_start own_front own_told 5 accepts_stream (answers.Accept (Some 0)) _ _ refl refl refl in
+    record { answer = refl; end = s.end; control = s.control; heard = s.heard; openings = tt; others = s.others; lacking = tt }
 
 own_until_5_seen : one_taken ≡ view_of (own_until 6)
 unfolding own_until
@@ -212,7 +230,9 @@ own_until_5_seen = refl
 
 own_behind_0 : IsStep worked_policies own_read asks_server (gives_bytes 232) (own_behind 1)
 unfolding own_behind
-own_behind_0 = record { answer = inl refl; end = refl; control = refl; heard = counts_so worked_policies own_read asks_server (gives_bytes 232); openings = tt; others = refl; lacking = tt }
+own_behind_0 =
+    let s : StepsSo worked_policies own_read asks_server (gives_bytes 232) (own_behind 1) = steps_at worked_policies own_read own_back told_back 0 asks_server (gives_bytes 232) _ _ refl refl refl in
+    record { answer = inl refl; end = s.end; control = s.control; heard = s.heard; openings = tt; others = s.others; lacking = tt }
 
 own_behind_0_seen : both_sent ≡ view_of (own_behind 1)
 unfolding own_behind
@@ -220,7 +240,9 @@ own_behind_0_seen = refl
 
 own_behind_1 : IsStep worked_policies (own_behind 1) client_hears (answers.Deliver receives.Taken) (own_behind 2)
 unfolding own_behind
-own_behind_1 = record { answer = inl refl; end = refl; control = refl; heard = counts_so worked_policies (own_behind 1) client_hears (answers.Deliver receives.Taken); openings = tt; others = refl; lacking = tt }
+own_behind_1 =
+    let s : StepsSo worked_policies (own_behind 1) client_hears (answers.Deliver receives.Taken) (own_behind 2) = steps_at worked_policies own_read own_back told_back 1 client_hears (answers.Deliver receives.Taken) _ _ refl refl refl in
+    record { answer = inl refl; end = s.end; control = s.control; heard = s.heard; openings = tt; others = s.others; lacking = tt }
 
 own_behind_1_seen : one_heard ≡ view_of (own_behind 2)
 unfolding own_behind
@@ -228,7 +250,9 @@ own_behind_1_seen = refl
 
 own_behind_2 : IsStep worked_policies (own_behind 2) client_asks (tells_again 0) (own_behind 3)
 unfolding own_behind
-own_behind_2 = record { answer = refl; end = refl; control = refl; heard = counts_so worked_policies (own_behind 2) client_asks (tells_again 0); openings = tt; others = refl; lacking = tt }
+own_behind_2 =
+    let s : StepsSo worked_policies (own_behind 2) client_asks (tells_again 0) (own_behind 3) = steps_at worked_policies own_read own_back told_back 2 client_asks (tells_again 0) _ _ refl refl refl in
+    record { answer = refl; end = s.end; control = s.control; heard = s.heard; openings = tt; others = s.others; lacking = tt }
 
 own_behind_2_seen : one_heard ≡ view_of (own_behind 3)
 unfolding own_behind
@@ -236,7 +260,9 @@ own_behind_2_seen = refl
 
 own_behind_3 : IsStep worked_policies (own_behind 3) client_asks (answers.Event None) (own_behind 4)
 unfolding own_behind
-own_behind_3 = record { answer = refl; end = refl; control = refl; heard = counts_so worked_policies (own_behind 3) client_asks (answers.Event None); openings = tt; others = refl; lacking = tt }
+own_behind_3 =
+    let s : StepsSo worked_policies (own_behind 3) client_asks (answers.Event None) (own_behind 4) = steps_at worked_policies own_read own_back told_back 3 client_asks (answers.Event None) _ _ refl refl refl in
+    record { answer = refl; end = s.end; control = s.control; heard = s.heard; openings = tt; others = s.others; lacking = tt }
 
 own_behind_3_seen : one_heard ≡ view_of (own_behind 4)
 unfolding own_behind

@@ -144,7 +144,7 @@ narrow_ack = record { largest = 1; delay = 3125; ranges = (1, 1) ∷ []; ecn = N
 
 -- the datagram as the server sent it
 abbrev narrow_sent : Sent
-narrow_sent = record { id = client_id; number = 0; reference = 0; frames = ack narrow_ack ∷ []; moment = 25000000; size = 32 }
+narrow_sent = record { id = client_id; number = 0; reference = 0; frames = ack narrow_ack ∷ []; moment = 25000000; size = 32; generation = 0 }
 
 narrow_went : (read : ReadCall) → sents_until (narrow_name read) Server 7 ≡ sents_until (narrow_name read) Server 6 ++ narrow_sent ∷ []
 unfolding client_acked

@@ -44,6 +44,7 @@ use Rattle.quic_worked.proofs.BrokenRuns.{IsRefused, stops, behind, behind_sent,
 use Rattle.quic_worked.proofs.Named.{ack_of_hello, is_named, early_frames}
 use Rattle.quic_worked.proofs.Steps.{counts_so}
 use Rattle.quic_retransmits.specs.Retransmits.{nothing_waits}
+use Rattle.quic_worked.proofs.Unmoved.{client_tells_stays}
 
 -- ---- a duplicate is taken again
 
@@ -271,7 +272,7 @@ kept_nowhere read (inr (inl g)) = g
 kept_nowhere read (inr (inr a)) = a.taken.was_taken
 
 pub four_duties : (read : ReadCall) → DutiesAt (writing_run read) 2 kept_four → ⊥
-four_duties read stands = kept_nowhere read (stands Client (Offset 0 4) (refl, owed read))
+four_duties read stands = kept_nowhere read (stands Client (λ n. false) (Offset 0 4) (client_tells_stays (writing_run read) (λ n. false)) (refl, owed read))
 
 four_here : kept_four ≡ once_written → ⊥
 four_here e = let clash : ◌≡◌ {A = ℕ} 4 5 = ap (λ (w : World). w.client.streams.sending.accepted) e in omega arith

@@ -86,7 +86,7 @@ first_asking number delay = client_datagram 0 0 (request_payload number delay ++
 
 -- as it was sent, with so many bytes
 abbrev pub first_sent : AckFrequencyValue → ℕ → Sent
-first_sent asked size = record { id = server_id; number = 0; reference = 0; frames = ack_frequency asked ∷ id_frames; moment = 0; size = size }
+first_sent asked size = record { id = server_id; number = 0; reference = 0; frames = ack_frequency asked ∷ id_frames; moment = 0; size = size; generation = 0 }
 
 -- ---- the run
 
@@ -143,11 +143,11 @@ late_ack_payload = 0x02 ∷ 0x00 ∷ 0x44 ∷ 0xe2 ∷ 0x00 ∷ 0x00 ∷ []
 
 -- the server's datagram
 abbrev pub ack_sent : Sent
-ack_sent = record { id = client_id; number = 0; reference = 0; frames = ack (record { largest = 0; delay = 1250; ranges = (0, 0) ∷ []; ecn = None }) ∷ []; moment = 15000000; size = 32 }
+ack_sent = record { id = client_id; number = 0; reference = 0; frames = ack (record { largest = 0; delay = 1250; ranges = (0, 0) ∷ []; ecn = None }) ∷ []; moment = 15000000; size = 32; generation = 0 }
 
 -- the client's second: PING, and an acknowledgement goes along
 abbrev pub ping_sent : Sent
-ping_sent = record { id = server_id; number = 1; reference = 0; frames = ping ∷ ack (record { largest = 0; delay = 0; ranges = (0, 0) ∷ []; ecn = None }) ∷ []; moment = 20000000; size = 32 }
+ping_sent = record { id = server_id; number = 1; reference = 0; frames = ping ∷ ack (record { largest = 0; delay = 0; ranges = (0, 0) ∷ []; ecn = None }) ∷ []; moment = 20000000; size = 32; generation = 0 }
 
 -- the run
 abbrev pub asked_run : Run
@@ -197,7 +197,7 @@ asks_again = record asked_run {
 
 -- its second datagram
 abbrev pub again_sent : Sent
-again_sent = record { id = server_id; number = 1; reference = 0; frames = ack_frequency (request 1 10000) ∷ []; moment = 0; size = 33 }
+again_sent = record { id = server_id; number = 1; reference = 0; frames = ack_frequency (request 1 10000) ∷ []; moment = 0; size = 33; generation = 0 }
 
 -- the client gives its ids without the request
 abbrev pub leaves_request : Run
@@ -205,7 +205,7 @@ leaves_request = asks_as 222 (client_datagram 0 0 ids_payload)
 
 -- what it gives
 abbrev pub ids_sent : Sent
-ids_sent = record { id = server_id; number = 0; reference = 0; frames = id_frames; moment = 0; size = 222 }
+ids_sent = record { id = server_id; number = 0; reference = 0; frames = id_frames; moment = 0; size = 222; generation = 0 }
 
 -- the client gives nothing
 abbrev pub withholds_request : Run

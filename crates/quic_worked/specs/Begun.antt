@@ -3,7 +3,7 @@
 -- PING PATH_CHALLENGE, PATH_RESPONSE, NEW_CONNECTION_ID and RETIRE_CONNECTION_ID. They are those of
 -- the run in which a limit is lost and goes again, but for that. And clients that retire another id
 -- of the peer than that which they used, where they use the next one, or one as it comes.
-use Rattle.std.specs.Prelude.{true, List, [], ◌∷◌, take, Some, None, Ok}
+use Rattle.std.specs.Prelude.{false, true, List, [], ◌∷◌, take, Some, None, Ok}
 use Rattle.quic_machine.specs.declared.run.ReadCall.{ReadCall}
 use Rattle.quic_machine.specs.declared.run.Call.TheVariants as calls
 use Rattle.quic_machine.specs.declared.run.Answer.TheVariants as answers
@@ -26,43 +26,43 @@ use Rattle.quic_worked.specs.Raised.{raised_run, after_server_ping, third_due}
 
 -- the client is polled, and gives the bytes that it wrote
 abbrev pub sending_seen : ReadCall → Seen
-sending_seen read = seen_at (raised_run read) Client 2 (calls.Poll 0) (gives_bytes 233)
+sending_seen read = seen_at (raised_run read) (λ n. false) Client 2 (calls.Poll 0) (gives_bytes 233)
 
 -- the server reads all that came
 abbrev pub reading_seen : ReadCall → Seen
-reading_seen read = seen_at (raised_run read) Server 5 (calls.Read read) (answers.Read (Ok eight_nexts))
+reading_seen read = seen_at (raised_run read) (λ n. false) Server 5 (calls.Read read) (answers.Read (Ok eight_nexts))
 
 -- it is polled, and says that more may come
 abbrev pub raising_seen : ReadCall → Seen
-raising_seen read = seen_at (raised_run read) Server 6 (calls.Poll 0) (gives_bytes 229)
+raising_seen read = seen_at (raised_run read) (λ n. false) Server 6 (calls.Poll 0) (gives_bytes 229)
 
 -- it is asked for PING
 abbrev pub pinging_seen : ReadCall → Seen
-pinging_seen read = seen_at (raised_run read) Server 7 calls.Ping answers.Ping
+pinging_seen read = seen_at (raised_run read) (λ n. false) Server 7 calls.Ping answers.Ping
 
 -- 25 ms pass at the client
 abbrev pub waiting_seen : ReadCall → Seen
-waiting_seen read = seen_at (raised_run read) Client 14 (calls.Timeout 25000000) (answers.Timeout (Ok tt))
+waiting_seen read = seen_at (raised_run read) (λ n. false) Client 14 (calls.Timeout 25000000) (answers.Timeout (Ok tt))
 
 -- its acknowledgement comes to the server, at which the datagram with the limit is lost
 abbrev pub losing_seen : ReadCall → Seen
-losing_seen read = seen_at (raised_run read) Server 16 (calls.Deliver (record { now = 25000000; remote = 0; ecn = None; index = 1 })) (answers.Deliver receives.Taken)
+losing_seen read = seen_at (raised_run read) (λ n. false) Server 16 (calls.Deliver (record { now = 25000000; remote = 0; ecn = None; index = 1 })) (answers.Deliver receives.Taken)
 
 -- the client takes the datagram in which the server asks it to answer
 abbrev pub challenged_seen : Seen
-challenged_seen = seen_at answered_run Client 5 (calls.Deliver delivery) (answers.Deliver receives.Taken)
+challenged_seen = seen_at answered_run (λ n. false) Client 5 (calls.Deliver delivery) (answers.Deliver receives.Taken)
 
 -- the client takes the datagram that brings ids of its peer
 abbrev pub bringing_seen : Seen
-bringing_seen = seen_at renaming_run Client 2 (calls.Deliver delivery) (answers.Deliver receives.Taken)
+bringing_seen = seen_at renaming_run (λ n. false) Client 2 (calls.Deliver delivery) (answers.Deliver receives.Taken)
 
 -- the client uses the next id of its peer
 abbrev pub using_seen : Seen
-using_seen = seen_at renaming_run Client 3 calls.UseNextId (answers.UseNextId (Ok tt))
+using_seen = seen_at renaming_run (λ n. false) Client 3 calls.UseNextId (answers.UseNextId (Ok tt))
 
 -- the server takes the datagram that says that its first id is retired
 abbrev pub retired_seen : Seen
-retired_seen = seen_at renaming_run Server 5 (calls.Deliver (record { now = 0; remote = 0; ecn = None; index = 1 })) (answers.Deliver receives.Taken)
+retired_seen = seen_at renaming_run (λ n. false) Server 5 (calls.Deliver (record { now = 0; remote = 0; ecn = None; index = 1 })) (answers.Deliver receives.Taken)
 
 -- the server, whose peer didn't answer for 3072 ms
 abbrev pub unanswered_server : End

@@ -1,12 +1,11 @@
 -- What is left unread in the run in which both ends come to rest; one in which a write is blocked
 -- while both rest, for bytes that are left unread; and a machine at which one is blocked so, though
 -- nothing is left unread.
-use Rattle.std.specs.Prelude.{ℕ, true, false, List, [], ◌∷◌, ◌++◌, replicate, take, Some, Ok, Err, None}
+use Rattle.std.specs.Prelude.{ℕ, true, false, List, [], ◌∷◌, ◌++◌, replicate, Some, Ok, Err, None}
 use Rattle.quic_wire_core.specs.declared.stream_id.Side.TheVariants.{Client, Server}
 use Rattle.quic_wire.specs.Value.{StreamValue, stream}
 use Rattle.quic_config.specs.Transport.{parameters_of}
 use Rattle.quic_streams_parts.specs.declared.answers.WriteError.TheVariants as write_errors
-use Rattle.quic_machine.specs.declared.answers.Received.TheVariants as receives
 use Rattle.quic_machine.specs.declared.run.RunEvent.{RunEvent}
 use Rattle.quic_machine.specs.declared.run.Answer.{Answer}
 use Rattle.quic_machine.specs.declared.run.Answer.TheVariants as answers
@@ -17,7 +16,7 @@ use Rattle.quic_headline.specs.Runs.{Run, Packet}
 use Rattle.quic_worked.specs.Settings.{plain_settings}
 use Rattle.quic_worked.specs.Exchange.{with_window}
 use Rattle.quic_worked.specs.Worked.{worked_policies, client_id, server_id, opens_stream, writes_hello, asks_datagram, gives_bytes, behind_ids, ran_so_far}
-use Rattle.quic_worked.specs.Acknowledged.{client_acked, client_datagram, from_server}
+use Rattle.quic_worked.specs.Acknowledged.{client_acked, client_datagram}
 use Rattle.quic_worked.specs.Paired.{writes_on}
 use Rattle.quic_worked.specs.Credit.{eight, eight_payload}
 use Rattle.quic_worked.specs.Timed.{asks_at}

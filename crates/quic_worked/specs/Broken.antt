@@ -1,5 +1,5 @@
 -- Runs of machines with a bug: the worked run with other answers or another datagram.
-use Rattle.std.specs.Prelude.{ℕ, ◌+◌, List, [], ◌∷◌, ◌++◌, length, replicate, take, Option, Some, None, Result, Ok, Err}
+use Rattle.std.specs.Prelude.{ℕ, ◌+◌, true, false, List, [], ◌∷◌, ◌++◌, length, replicate, take, Option, Some, None, Result, Ok, Err}
 use Rattle.quic_wire_core.specs.declared.stream_id.Side.{Side}
 use Rattle.quic_wire_core.specs.declared.stream_id.Side.TheVariants.{Client, Server}
 use Rattle.quic_streams_parts.specs.declared.answers.WriteError.{WriteError}
@@ -325,7 +325,7 @@ injected_run =
 
 -- the client counts it
 abbrev pub once_injected : World
-once_injected = client_counting (heard_datagram hello_datagram (receives.Dropped drops.UnknownId) nothing_heard) started
+once_injected = client_counting (heard_datagram true false hello_datagram (receives.Dropped drops.UnknownId) nothing_heard) started
 
 -- no byte at all opens
 abbrev pub always_opens : Run

@@ -58,7 +58,7 @@ word_bytes n = replicate 7 0x00 ++ n ∷ []
 
 -- packet 0 came to a client with a mark or with none, and asks, or has PADDING alone
 abbrev pub came_with : Option EcnCodepoint → Bool → End
-came_with mark asking = number_noted 0 asking (is_urged mark (Ok (if asking then ping else padding) ∷ []) client_made) mark client_made
+came_with mark asking = number_noted 0 asking (is_urged mark asking (Ok (if asking then ping else padding) ∷ []) client_made) mark client_made
 
 -- to a client with which PING waits or doesn't the first so many packets came, of which none asks
 abbrev pub silent_came : Bool → ℕ → End

@@ -25,11 +25,11 @@ use Rattle.quic_worked.specs.Hasty.{once_hasty, pings, marked_run, answers_marke
 
 -- the first datagram of the client, which has PING and tells its ids
 abbrev pub first_sent : Sent
-first_sent = record { id = server_id; number = 0; reference = 0; frames = ping ∷ id_frames; moment = 0; size = 223 }
+first_sent = record { id = server_id; number = 0; reference = 0; frames = ping ∷ id_frames; moment = 0; size = 223; generation = 0 }
 
 -- the server's, which acknowledges it, and counts one CE
 abbrev pub marked_sent : Sent
-marked_sent = record { id = client_id; number = 0; reference = 0; frames = ack (record { largest = 0; delay = 0; ranges = (0, 0) ∷ []; ecn = Some (0, 0, 1) }) ∷ []; moment = 0; size = 34 }
+marked_sent = record { id = client_id; number = 0; reference = 0; frames = ack (record { largest = 0; delay = 0; ranges = (0, 0) ∷ []; ecn = Some (0, 0, 1) }) ∷ []; moment = 0; size = 34; generation = 0 }
 
 -- the server counts none
 abbrev pub mark_uncounted : Run
@@ -40,7 +40,7 @@ mark_uncounted = record marked_run {
 
 -- what it gives
 abbrev pub uncounted_sent : Sent
-uncounted_sent = record { id = client_id; number = 0; reference = 0; frames = ack (record { largest = 0; delay = 0; ranges = (0, 0) ∷ []; ecn = None }) ∷ []; moment = 0; size = 31 }
+uncounted_sent = record { id = client_id; number = 0; reference = 0; frames = ack (record { largest = 0; delay = 0; ranges = (0, 0) ∷ []; ecn = None }) ∷ []; moment = 0; size = 31; generation = 0 }
 
 -- ---- PING
 
@@ -58,7 +58,7 @@ ping_left = record {
 
 -- what it gives
 abbrev pub left_sent : Sent
-left_sent = record { id = server_id; number = 0; reference = 0; frames = id_frames; moment = 0; size = 222 }
+left_sent = record { id = server_id; number = 0; reference = 0; frames = id_frames; moment = 0; size = 222; generation = 0 }
 
 -- the client gives nothing
 abbrev pub ping_withheld : Run

@@ -18,7 +18,7 @@ word_to id = sent worked_policies.client.header worked_policies.client.packet 0 
 
 -- the client's datagram as it was sent to an id
 abbrev pub sent_to : List ℕ → Sent
-sent_to id = record { id = id; number = 0; reference = 0; frames = frames_of (items hello_whole); moment = 0; size = 230 }
+sent_to id = record { id = id; number = 0; reference = 0; frames = frames_of (items hello_whole); moment = 0; size = 230; generation = 0 }
 
 -- the client sends it to its own id
 abbrev pub sent_to_itself : ReadCall → Run

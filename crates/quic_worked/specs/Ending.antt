@@ -154,7 +154,7 @@ ending_run = record {
 
 -- the client's close as it was sent under a number
 abbrev pub close_sent : ℕ → Sent
-close_sent number = record { id = server_id; number = number; reference = 0; frames = application_close close_said ∷ []; moment = 0; size = 34 }
+close_sent number = record { id = server_id; number = number; reference = 0; frames = application_close close_said ∷ []; moment = 0; size = 34; generation = 0 }
 
 -- ---- machines with a bug in a timer
 

@@ -177,7 +177,7 @@ spoilt_datagram = take 229 hello_datagram ++ 0x00 ∷ []
 
 -- it came to the server, which counts it
 abbrev pub once_spoilt : World
-once_spoilt = server_counting (heard_datagram spoilt_datagram (receives.Dropped drops.NotOpened) once_sent.server_heard) once_sent
+once_spoilt = server_counting (heard_datagram true false spoilt_datagram (receives.Dropped drops.NotOpened) once_sent.server_heard) once_sent
 
 -- a server that notes a number before the packet has opened: it takes the client's datagram for a
 -- duplicate of what was injected
@@ -336,4 +336,4 @@ too_long = record {
 
 -- that datagram as it was sent
 abbrev pub long_sent : Sent
-long_sent = record { id = server_id; number = 0; reference = 0; frames = behind_ids (stream (record { id = 0; offset = 0; fin = false; bytes = replicate 977 0x61 }) ∷ []); moment = 0; size = 1201 }
+long_sent = record { id = server_id; number = 0; reference = 0; frames = behind_ids (stream (record { id = 0; offset = 0; fin = false; bytes = replicate 977 0x61 }) ∷ []); moment = 0; size = 1201; generation = 0 }

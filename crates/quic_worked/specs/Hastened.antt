@@ -14,7 +14,7 @@ use Rattle.quic_worked.specs.Obeying.{probing_events, probe_packet, probing_run}
 
 -- the probe of the machine, as it was sent
 abbrev pub probe_sent : Sent
-probe_sent = record { id = server_id; number = 1; reference = 0; frames = probe_packet.frames; moment = 1024000000; size = 230 }
+probe_sent = record { id = server_id; number = 1; reference = 0; frames = probe_packet.frames; moment = 1024000000; size = 230; generation = 0 }
 
 -- what the client is answered whose probe has one byte less
 abbrev pub unhastened_answers : List Answer
@@ -32,4 +32,4 @@ unhastened_run = record probing_run {
 
 -- as it was sent
 abbrev pub unhastened_sent : Sent
-unhastened_sent = record { id = server_id; number = 1; reference = 0; frames = ack_frequency (request 1 10000) ∷ id_frames; moment = 1024000000; size = 229 }
+unhastened_sent = record { id = server_id; number = 1; reference = 0; frames = ack_frequency (request 1 10000) ∷ id_frames; moment = 1024000000; size = 229; generation = 0 }

@@ -14,7 +14,7 @@ use Rattle.quic_machine.specs.declared.run.Answer.TheVariants as answers
 use Rattle.quic_machine.specs.declared.run.View.{View}
 use Rattle.quic_machine.specs.Machine.{World}
 use Rattle.quic_headline.specs.Runs.{Run, Packet}
-use Rattle.quic_worked.specs.Worked.{ran, ran_so_far, worked_policies, started, delivery, gives_bytes, id_frames}
+use Rattle.quic_worked.specs.Worked.{ran_so_far, worked_policies, started, delivery, gives_bytes, id_frames}
 use Rattle.quic_worked.specs.Acknowledged.{client_datagram, client_acked, from_server}
 use Rattle.quic_worked.specs.Reordered.{delivers_at}
 use Rattle.quic_worked.specs.Losses.{ping_events, ping_answers, ping_payload, server_waits, server_polled, first_ping_answers, first_ping}
@@ -95,7 +95,7 @@ answers_marked last = first_ping_answers ++ answers.Deliver receives.Taken ∷ l
 -- what the first so many of these leave, where the server gives an ACK frame
 unfoldable pub once_marked : ℕ → World
 unfolding client_acked
-once_marked n = ran worked_policies started (take n marked_events) (take n (answers_marked (gives_bytes 34)))
+once_marked n = ran_so_far worked_policies started marked_events (answers_marked (gives_bytes 34)) n
 
 -- ACK of number 0, at once, which tells of one CE
 abbrev pub ack_of_marked : List ℕ

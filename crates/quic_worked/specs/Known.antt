@@ -50,11 +50,11 @@ naming_datagram = sent worked_policies.client.header worked_policies.client.pack
 
 -- as it was sent
 abbrev pub naming_sent : Sent
-naming_sent = record { id = id_word; number = 0; reference = 0; frames = id_frames ++ (second_sent id_word).frames; moment = 0; size = 229 }
+naming_sent = record { id = id_word; number = 0; reference = 0; frames = id_frames ++ (second_sent id_word).frames; moment = 0; size = 229; generation = 0 }
 
 -- the server's datagram as it was sent
 abbrev pub telling_sent : Sent
-telling_sent = record { id = client_id; number = 0; reference = 0; frames = id_frames; moment = 0; size = 222 }
+telling_sent = record { id = client_id; number = 0; reference = 0; frames = id_frames; moment = 0; size = 222; generation = 0 }
 
 -- the run from two ends
 abbrev pub naming_run : World → Run

@@ -42,6 +42,10 @@ pub mod Renamed
 pub mod Kept
 pub mod Known
 pub mod Unvalidated
+pub mod Migrated
+pub mod Moved
+pub mod Crossed
+pub mod Strayed
 pub mod Widened
 pub mod Expiring
 pub mod Ending

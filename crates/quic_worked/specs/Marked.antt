@@ -2,7 +2,7 @@
 -- so is the ACK frame, as it newly acknowledges what asks; what acknowledges that is answered by
 -- nothing, and both ends come to rest. And the run of a server that answers it too, and one at which
 -- an ACK frame is due for it.
-use Rattle.std.specs.Prelude.{ℕ, true, List, [], ◌∷◌, ◌++◌, replicate, take, Some, None}
+use Rattle.std.specs.Prelude.{false, ℕ, true, List, [], ◌∷◌, ◌++◌, replicate, take, Some, None}
 use Rattle.quic_wire_core.specs.declared.shared.EcnCodepoint.TheVariants.{Ce}
 use Rattle.quic_wire_core.specs.declared.stream_id.Side.TheVariants.{Client, Server}
 use Rattle.quic_wire.specs.AckReading.{ecn_at}
@@ -88,11 +88,11 @@ echo_run = record {
 
 -- what it gives there
 abbrev pub echo_sent : Sent
-echo_sent = record { id = client_id; number = 1; reference = 0; frames = ack (record { largest = 1; delay = 0; ranges = (1, 1) ∷ []; ecn = Some (0, 0, 2) }) ∷ []; moment = 0; size = 34 }
+echo_sent = record { id = client_id; number = 1; reference = 0; frames = ack (record { largest = 1; delay = 0; ranges = (1, 1) ∷ []; ecn = Some (0, 0, 2) }) ∷ []; moment = 0; size = 34; generation = 0 }
 
 -- the client's ACK frame comes to the server
 abbrev pub answering_seen : Seen
-answering_seen = seen_at calm_run Server 6 answer_comes.call (answers.Deliver receives.Taken)
+answering_seen = seen_at calm_run (λ n. false) Server 6 answer_comes.call (answers.Deliver receives.Taken)
 
 -- and another one is due behind it
 abbrev pub due_for_ack : World

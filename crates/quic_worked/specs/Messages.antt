@@ -1,7 +1,7 @@
 -- Runs in which a message goes (RFC 9221): the client sends `ping`, and its datagram comes to the
 -- server twice, which reads it once. Or that datagram counts as lost before it comes. And runs of
 -- machines that give an application more, or something else.
-use Rattle.std.specs.Prelude.{ℕ, false, List, [], ◌∷◌, ◌++◌, replicate, take, Option, Some, None, Ok, Err}
+use Rattle.std.specs.Prelude.{ℕ, true, false, List, [], ◌∷◌, ◌++◌, replicate, take, Option, Some, None, Ok, Err}
 use Rattle.quic_wire_core.specs.declared.stream_id.Side.TheVariants.{Client, Server}
 use Rattle.quic_wire.specs.Value.{datagram}
 use Rattle.quic_messages.specs.declared.errors.SendDatagramError.TheVariants as send_errors
@@ -99,7 +99,7 @@ once_messaged n = ran worked_policies started (take n message_events) (take n me
 
 -- its datagram came again, and was a duplicate: no more than that is counted
 abbrev pub message_repeated : World
-message_repeated = server_counting (heard_datagram message_datagram duplicate (once_messaged 3).server_heard) (once_messaged 3)
+message_repeated = server_counting (heard_datagram true false message_datagram duplicate (once_messaged 3).server_heard) (once_messaged 3)
 
 -- the application is told that a message came
 abbrev pub message_told : World
@@ -352,4 +352,4 @@ two_run first second = record {
 
 -- the datagram as it was sent
 abbrev pub two_sent : List ℕ → List ℕ → Sent
-two_sent first second = record { id = server_id; number = 0; reference = 0; frames = behind_ids (datagram first ∷ datagram second ∷ []); moment = 0; size = 234 }
+two_sent first second = record { id = server_id; number = 0; reference = 0; frames = behind_ids (datagram first ∷ datagram second ∷ []); moment = 0; size = 234; generation = 0 }

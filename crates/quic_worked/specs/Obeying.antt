@@ -214,7 +214,7 @@ acks_early = early_with (gives_unmarked 31) (from_server 1 ack_of_second ∷ [])
 
 -- that datagram as it was sent
 abbrev pub early_ack : Sent
-early_ack = record { id = client_id; number = 1; reference = 0; frames = ack (record { largest = 2; delay = 0; ranges = (2, 2) ∷ []; ecn = None }) ∷ []; moment = 25000000; size = 31 }
+early_ack = record { id = client_id; number = 1; reference = 0; frames = ack (record { largest = 2; delay = 0; ranges = (2, 2) ∷ []; ecn = None }) ∷ []; moment = 25000000; size = 31; generation = 0 }
 
 -- ---- the first packet that asks
 
@@ -233,4 +233,4 @@ acks_first = record {
 
 -- its datagram as it was sent
 abbrev pub first_ack : Sent
-first_ack = record { id = client_id; number = 0; reference = 0; frames = ack (record { largest = 0; delay = 0; ranges = (0, 0) ∷ []; ecn = None }) ∷ []; moment = 0; size = 31 }
+first_ack = record { id = client_id; number = 0; reference = 0; frames = ack (record { largest = 0; delay = 0; ranges = (0, 0) ∷ []; ecn = None }) ∷ []; moment = 0; size = 31; generation = 0 }

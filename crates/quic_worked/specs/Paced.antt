@@ -12,7 +12,7 @@ use Rattle.quic_machine.specs.End.{End}
 use Rattle.quic_machine.specs.Control.{with_pacing_timer}
 use Rattle.quic_machine.specs.Machine.{World}
 use Rattle.quic_headline.specs.Runs.{Run}
-use Rattle.quic_worked.specs.Worked.{steady_window, worked_policies, ran, started, with_client, once_written, once_sent, hello, opens_stream, writes_hello, gives_bytes, open_view, sent_view, view_with, ids_payload, told_ids, server_open}
+use Rattle.quic_worked.specs.Worked.{ran_so_far, steady_window, worked_policies, ran, started, with_client, once_written, once_sent, hello, opens_stream, writes_hello, gives_bytes, open_view, sent_view, view_with, ids_payload, told_ids, server_open}
 use Rattle.quic_worked.specs.Acknowledged.{client_acked, client_datagram}
 use Rattle.quic_worked.specs.Timed.{serves, asks_at, seen_with}
 use Rattle.quic_worked.specs.Held.{gives_nothing}
@@ -129,7 +129,7 @@ scarce_answers =
 -- what the first so many of these leave
 unfoldable pub once_scarce : ℕ → World
 unfolding client_acked
-once_scarce n = ran worked_policies scarce_start (take n scarce_events) (take n scarce_answers)
+once_scarce n = ran_so_far worked_policies scarce_start scarce_events scarce_answers n
 
 -- a client that gives the word again, though it hasn't tokens for 1200 bytes once the probes took
 -- theirs

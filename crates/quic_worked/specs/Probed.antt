@@ -2,11 +2,11 @@
 -- the client resets one of two streams, its datagram comes to nobody, and its loss timer expires.
 -- The first probe carries the reset once more, the datagram stays in flight. And machines that go
 -- wrong there.
-use Rattle.std.specs.Prelude.{ℕ, true, false, List, [], ◌∷◌, ◌++◌, drop, take, Some, None, Ok, Option}
+use Rattle.std.specs.Prelude.{ℕ, true, false, List, [], ◌∷◌, ◌++◌, drop, Some, None, Ok, Option}
 use Rattle.quic_wire_core.specs.declared.stream_id.Side.TheVariants.{Client}
 use Rattle.quic_send_buffer.specs.declared.stream_meta.StreamMeta.{StreamMeta}
 use Rattle.quic_wire.specs.Reading.{reset_stream_at}
-use Rattle.quic_retransmits.specs.Retransmits.{Retransmits, nothing_waits}
+use Rattle.quic_retransmits.specs.Retransmits.{Retransmits}
 use Rattle.quic_streams_parts.specs.Table.{Table}
 use Rattle.quic_machine.specs.declared.run.View.{View}
 use Rattle.quic_machine.specs.declared.run.RunEvent.{RunEvent}
@@ -15,7 +15,7 @@ use Rattle.quic_machine.specs.declared.run.Answer.TheVariants as answers
 use Rattle.quic_machine.specs.Tracking.{TrackedPacket}
 use Rattle.quic_machine.specs.Machine.{World}
 use Rattle.quic_headline.specs.Runs.{Run}
-use Rattle.quic_worked.specs.Worked.{ran, worked_policies, with_client, gives_bytes, ids_payload, ids_again, both_steady, view_with, open_view}
+use Rattle.quic_worked.specs.Worked.{ran_so_far, worked_policies, with_client, gives_bytes, ids_payload, ids_again, both_steady, view_with, open_view}
 use Rattle.quic_worked.specs.Acknowledged.{client_acked, client_datagram}
 use Rattle.quic_worked.specs.Losses.{waiting_for}
 use Rattle.quic_worked.specs.Paired.{pair_sent, giving_events, giving_answers, paired_payload, without_again}
@@ -34,7 +34,7 @@ later_answers = answers.Timeout (Ok tt) ∷ gives_bytes 226 ∷ []
 -- what the first so many of these leave
 unfoldable pub once_probed : ℕ → World
 unfolding client_acked reset_stream_at pair_sent
-once_probed n = ran worked_policies pair_sent (take n later_events) (take n later_answers)
+once_probed n = ran_so_far worked_policies pair_sent later_events later_answers n
 
 -- RESET_STREAM of stream 0 with code 7 and final size 3 (RFC 9000, section 19.4), and the ids
 abbrev pub reset_payload : List ℕ

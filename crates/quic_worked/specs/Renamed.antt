@@ -85,7 +85,7 @@ renaming_run = renaming_to id_word
 
 -- the first datagram as it was sent
 abbrev pub ids_sent : Sent
-ids_sent = record { id = server_id; number = 0; reference = 0; frames = id_frames; moment = 0; size = 222 }
+ids_sent = record { id = server_id; number = 0; reference = 0; frames = id_frames; moment = 0; size = 222; generation = 0 }
 
 -- the second, to an id
 abbrev pub second_sent : List ℕ → Sent
@@ -96,6 +96,7 @@ second_sent id = record {
   frames = retire_connection_id 0 ∷ ack (record { largest = 0; delay = 0; ranges = (0, 0) ∷ []; ecn = None }) ∷ [];
   moment = 0;
   size = 33;
+  generation = 0;
 }
 
 -- what the client took
@@ -114,7 +115,7 @@ retired_used = renaming_to server_id
 
 -- the second where it says nothing of the first id, and goes there
 abbrev pub acking_sent : Sent
-acking_sent = record { id = server_id; number = 1; reference = 0; frames = ack (record { largest = 0; delay = 0; ranges = (0, 0) ∷ []; ecn = None }) ∷ []; moment = 0; size = 31 }
+acking_sent = record { id = server_id; number = 1; reference = 0; frames = ack (record { largest = 0; delay = 0; ranges = (0, 0) ∷ []; ecn = None }) ∷ []; moment = 0; size = 31; generation = 0 }
 
 -- a client that is told to use the next id, and goes on using the one before it, which it doesn't
 -- retire

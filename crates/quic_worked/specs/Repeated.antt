@@ -18,7 +18,7 @@ use Rattle.quic_worked.specs.Held.{first_payload}
 
 -- a datagram that was given second of an end's, to this id, at moment 0
 abbrev pub second_sent : List ℕ → List FrameValue → ℕ → Sent
-second_sent to frames size = record { id = to; number = 1; reference = 0; frames = frames; moment = 0; size = size }
+second_sent to frames size = record { id = to; number = 1; reference = 0; frames = frames; moment = 0; size = size; generation = 0 }
 
 -- ---- PING
 

@@ -3,7 +3,7 @@
 -- and acknowledges it 25 ms later; once that came, neither has anything left to give. And runs of
 -- machines that come to rest too early, or not at all. The controllers show a window that holds two
 -- datagrams of whichever size.
-use Rattle.std.specs.Prelude.{ℕ, true, List, [], ◌∷◌, ◌++◌, replicate, take, Option, Some, None, Ok}
+use Rattle.std.specs.Prelude.{ℕ, true, List, [], ◌∷◌, ◌++◌, replicate, Option, Some, None, Ok}
 use Rattle.quic_wire_core.specs.declared.stream_id.Side.TheVariants.{Client, Server}
 use Rattle.quic_wire.specs.Value.{stream}
 use Rattle.quic_congestion.specs.Congestion.{Told}

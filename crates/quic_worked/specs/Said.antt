@@ -3,7 +3,7 @@
 -- for a frame that says the limit, which goes; those behind it ask for none, and the client has
 -- nothing to give. In one run all data is used up, in the other a stream. And clients at which the
 -- limit is to be said again.
-use Rattle.std.specs.Prelude.{ℕ, true, List, [], ◌∷◌, ◌++◌, replicate, take, Some, Ok, Err}
+use Rattle.std.specs.Prelude.{false, ℕ, true, List, [], ◌∷◌, ◌++◌, replicate, take, Some, Ok, Err}
 use Rattle.quic_wire_core.specs.declared.stream_id.Side.TheVariants.{Client}
 use Rattle.quic_wire.specs.Reading.{stream_limit_at}
 use Rattle.quic_streams_parts.specs.declared.answers.WriteError.TheVariants as write_errors
@@ -103,11 +103,11 @@ said_on_run = record {
 
 -- the first of them
 abbrev pub first_in_vain : Run → Seen
-first_in_vain r = seen_at r Client 3 (calls.Write 0 eight) in_vain
+first_in_vain r = seen_at r (λ n. false) Client 3 (calls.Write 0 eight) in_vain
 
 -- and the next, behind the datagram that says the limit
 abbrev pub second_in_vain : Run → Seen
-second_in_vain r = seen_at r Client 5 (calls.Write 0 eight) in_vain
+second_in_vain r = seen_at r (λ n. false) Client 5 (calls.Write 0 eight) in_vain
 
 -- ---- machines that say it again
 

@@ -2,7 +2,7 @@
 -- section 14.3): once it has told its ids it gives a probe of 1326 bytes, which alone comes to the
 -- server; that acknowledges it after 25 ms, the client takes the acknowledgement, and its datagrams
 -- may have as many bytes from then on.
-use Rattle.std.specs.Prelude.{ℕ, true, false, List, [], ◌∷◌, replicate, take, Some, None, Ok}
+use Rattle.std.specs.Prelude.{ℕ, true, false, List, [], ◌∷◌, replicate, Some, None, Ok}
 use Rattle.quic_wire_core.specs.declared.stream_id.Side.TheVariants.{Client, Server}
 use Rattle.quic_time.specs.Rtt.{assumed_rtt}
 use Rattle.quic_wire.specs.Value.{ping, padding}
@@ -16,7 +16,7 @@ use Rattle.quic_machine.specs.declared.run.View.{View}
 use Rattle.quic_machine.specs.Machine.{World}
 use Rattle.quic_headline.specs.Runs.{Run}
 use Rattle.quic_headline.specs.Observer.{Sent}
-use Rattle.quic_worked.specs.Worked.{ran, worked_policies, started, with_client, gives_bytes, server_id, ids_payload, view_with, server_open, client_id, steady}
+use Rattle.quic_worked.specs.Worked.{ran_so_far, worked_policies, started, with_client, gives_bytes, server_id, ids_payload, view_with, server_open, client_id, steady}
 use Rattle.quic_worked.specs.Acknowledged.{client_acked, client_datagram, from_server}
 use Rattle.quic_worked.specs.Timed.{serves, asks_at, comes_at, seen_with}
 use Rattle.quic_worked.specs.Measured.{ack_of_first}
@@ -58,7 +58,7 @@ searched_answers =
 -- what the first so many of these leave
 unfoldable pub once_searched : ℕ → World
 unfolding client_acked
-once_searched n = ran worked_policies searched_start (take n searched_events) (take n searched_answers)
+once_searched n = ran_so_far worked_policies searched_start searched_events searched_answers n
 
 -- PING, and PADDING up to the size
 abbrev pub size_payload : List ℕ
@@ -66,7 +66,7 @@ size_payload = 0x01 ∷ replicate 1299 0x00
 
 -- the probe as it was sent
 abbrev pub size_sent : Sent
-size_sent = record { id = server_id; number = 1; reference = 0; frames = ping ∷ replicate 1299 padding; moment = 0; size = 1326 }
+size_sent = record { id = server_id; number = 1; reference = 0; frames = ping ∷ replicate 1299 padding; moment = 0; size = 1326; generation = 0 }
 
 -- what the client's controller is told: its ids went, and the probe; that was acknowledged after 40
 -- ms, before which a round trip was taken to last 333 ms; the size is that of the probe from then

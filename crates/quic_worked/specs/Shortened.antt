@@ -146,6 +146,7 @@ ping_sent number delay zeros moment size = record {
   frames = ping ∷ ack (record { largest = 0; delay = delay; ranges = (0, 0) ∷ []; ecn = None }) ∷ replicate zeros padding;
   moment = moment;
   size = size;
+  generation = 0;
 }
 
 -- that of 1326 bytes before the loss timer expires

@@ -49,7 +49,7 @@ use Rattle.quic_machine.specs.Receive.{received}
 use Rattle.quic_machine.specs.Parts.{Windows}
 use Rattle.quic_machine.specs.Parts as parts
 use Rattle.quic_machine.specs.Heard.{nothing_heard, Heard, heard_datagram}
-use Rattle.quic_machine.specs.Machine.{World, Policies, policy_at, given_by, control_at, changed, end_met, after_call, gives, tells, heard_at, heard_by}
+use Rattle.quic_machine.specs.Machine.{World, Policies, policy_at, end_at, given_by, control_at, changed, end_met, end_left, gives, tells, heard_at, heard_by}
 use Rattle.quic_headline.specs.Runs.{Run, same_side}
 use Rattle.quic_assembler.specs.declared.assembler.Chunk.{Chunk}
 use Rattle.quic_streams_parts.specs.declared.answers.WriteError.{WriteError}
@@ -74,7 +74,8 @@ after_event k w event a =
     let theirs = given_by (other_side event.side) w in
     let told = tells p met theirs event.call in
     let control = after_told (control_at event.side w) told in
-    changed event.side w (after_call p met theirs event.call a) (gives p met event.call a) control (heard_by theirs event.call a (heard_at event.side w))
+    let left = end_left p (control_at event.side w) (heard_at event.side w) (end_at event.side w) theirs event.call a in
+    changed event.side w left (gives p met event.call a) control (heard_by (end_at event.side w) left theirs event.call a (heard_at event.side w))
 
 -- what events leave, one behind another
 abbrev pub ran : Policies → World → List RunEvent → List Answer → World
@@ -590,7 +591,7 @@ once_taken = after_event worked_policies once_sent delivers (answers.Deliver rec
 
 -- the datagram came again, and was a duplicate: no more than that is counted
 abbrev pub once_again : World
-once_again = server_counting (heard_datagram hello_datagram (receives.Dropped drops.Duplicate) once_taken.server_heard) once_taken
+once_again = server_counting (heard_datagram true false hello_datagram (receives.Dropped drops.Duplicate) once_taken.server_heard) once_taken
 
 -- it accepted the stream
 abbrev pub once_accepted : World

@@ -123,9 +123,9 @@ pub fn early_name_shows()
 /// too far above those that the server took; the machine answers so. An answer that no byte at all
 /// opens is wrong, and so is one that takes what opens.
 pub fn wrong_openings_show()
-    ensures opens { would_open_at injected_run started Server 0 hello_datagram ≡ true }
-    ensures elsewhere { would_open_at injected_run started Client 1 hello_datagram ≡ false }
-    ensures far { would_open_at injected_run started Server 0
+    ensures opens { would_open_at injected_run started Server 0 0 hello_datagram ≡ true }
+    ensures elsewhere { would_open_at injected_run started Client 1 0 hello_datagram ≡ false }
+    ensures far { would_open_at injected_run started Server 0 0
         (client_datagram 300 250 hello_payload) ≡ false }
     ensures honest { IsHonest injected_run }
     ensures run { IsRun injected_run once_injected }

@@ -1,7 +1,7 @@
 //! Runs in which an end asks for the next id of its peer, computed, and machines that refuse one
 //! that is there, or forget an id that they told. Each function does nothing: its contract is the
 //! law.
-ghost use Rattle.std.specs.Prelude.{◌≡◌, [], ◌∷◌, Some, None};
+ghost use Rattle.std.specs.Prelude.{◌≡◌, ℕ, Bool, [], ◌∷◌, Some, None};
 ghost use Rattle.quic_wire_core.specs.declared.stream_id.Side.TheVariants.{Client};
 ghost use Rattle.quic_machine.specs.Ids.{known};
 ghost use Rattle.quic_headline.specs.Runs.{In};
@@ -18,8 +18,8 @@ ghost use Rattle.quic_worked.specs.Known.{naming_events, naming_answers, is_used
 pub fn told_id_is_known()
     ensures honest { IsHonest (naming_run both_steady) }
     ensures run { IsRun (naming_run both_steady) (once_named both_steady is_used 4) }
-    ensures used { in_use (naming_run both_steady) Client 2 ≡ 0 }
-    ensures next { next_id (naming_run both_steady) Client 2 ≡ Some 1 }
+    ensures used { (stays : ℕ → Bool) → in_use (naming_run both_steady) stays Client 2 ≡ 0 }
+    ensures next { (stays : ℕ → Bool) → next_id (naming_run both_steady) stays Client 2 ≡ Some 1 }
     ensures room { IsPastLimit (once_named both_steady is_used 2).client 0 1 → ⊥ }
     ensures sent { sents_until (naming_run both_steady) Client 4 ≡ naming_sent ∷ [] }
     ensures known { In id_word (known (once_named both_steady is_used 4).server.ids) }
@@ -31,15 +31,17 @@ pub fn told_id_is_known()
 pub fn no_id_is_told()
     ensures honest { IsHonest asking_early }
     ensures run { IsRun asking_early asked_early }
-    ensures next { next_id asking_early Client 0 ≡ None }
+    ensures next { (stays : ℕ → Bool) → next_id asking_early stays Client 0 ≡ None }
 {}
 
 /// Where eighty retirements wait at the client already, the next id is refused. It is a run of the
 /// machine, but from no new ends.
 pub fn retirements_wait()
     ensures run { IsRun (asking_run eighty_wait has_too_many) (once_named eighty_wait has_too_many 3) }
-    ensures used { in_use (asking_run eighty_wait has_too_many) Client 2 ≡ 0 }
-    ensures next { next_id (asking_run eighty_wait has_too_many) Client 2 ≡ Some 1 }
+    ensures used { (stays : ℕ → Bool)
+        → in_use (asking_run eighty_wait has_too_many) stays Client 2 ≡ 0 }
+    ensures next { (stays : ℕ → Bool)
+        → next_id (asking_run eighty_wait has_too_many) stays Client 2 ≡ Some 1 }
     ensures past { IsPastLimit (once_named eighty_wait has_too_many 2).client 0 1 }
 {}
 

@@ -1,6 +1,6 @@
 //! The definitions computed on a run in which a limit is lost and goes again, and machines that
 //! forget one. Each function does nothing: its contract is the law.
-ghost use Rattle.std.specs.Prelude.{◌≡◌, take, true};
+ghost use Rattle.std.specs.Prelude.{◌≡◌, ℕ, Bool, take, true};
 ghost use Rattle.quic_wire_core.specs.declared.stream_id.Side.TheVariants.{Client, Server};
 ghost use Rattle.quic_wire_core.specs.declared.stream_id.Dir.TheVariants.{Uni};
 ghost use Rattle.quic_machine.specs.declared.run.ReadCall.{ReadCall};
@@ -55,7 +55,8 @@ pub fn low_limit_shows()
 /// A server that doesn't say its limit again, though the datagram that said it is lost, leaves a
 /// limit that is nowhere, and no run comes to it.
 pub fn forgotten_limit_shows()
-    ensures owed { (read : ReadCall) → IsOwed (in_use (raised_run read) Server 17)
+    ensures owed { (read : ReadCall) (stays : ℕ → Bool)
+        → IsOwed (in_use (raised_run read) stays Server 17)
         limit_forgotten.server (sents_until (raised_run read) Server 17)
         (until (raised_run read) Server 17) (Limit AllData 16) }
     ensures duties { (read : ReadCall) → DutiesAt (raised_run read) 17 limit_forgotten → ⊥ }

@@ -1,6 +1,6 @@
 //! A run in which an end uses the next id of its peer, computed, and machines that take one id for
 //! another. Each function does nothing: its contract is the law.
-ghost use Rattle.std.specs.Prelude.{◌≡◌, [], ◌∷◌, None, false};
+ghost use Rattle.std.specs.Prelude.{◌≡◌, ℕ, Bool, [], ◌∷◌, None, false};
 ghost use Rattle.quic_wire_core.specs.TransportError.{plain_error};
 ghost use Rattle.quic_wire_core.specs.declared.stream_id.Side.TheVariants.{Client, Server};
 ghost use Rattle.quic_machine.specs.declared.answers.Received.TheVariants as receives;
@@ -31,10 +31,10 @@ pub fn next_id_is_used()
     ensures issued { IsIssued (first_id_of_peer renaming_run Client)
         (came_in renaming_run Client 7) (ids_sent ∷ []) (second_sent id_word) }
     ensures retired { WasRetired (took renaming_run Server 6) 0 }
-    ensures before { in_use renaming_run Client 3 ≡ 0 }
-    ensures behind { in_use renaming_run Client 4 ≡ 1 }
-    ensures used { IsToldId (first_id_of_peer renaming_run Client)
-        (took renaming_run Client 4) (in_use renaming_run Client 4) id_word }
+    ensures before { (stays : ℕ → Bool) → in_use renaming_run stays Client 3 ≡ 0 }
+    ensures behind { (stays : ℕ → Bool) → in_use renaming_run stays Client 4 ≡ 1 }
+    ensures used { (stays : ℕ → Bool) → IsToldId (first_id_of_peer renaming_run Client)
+        (took renaming_run Client 4) (in_use renaming_run stays Client 4) id_word }
 {}
 
 /// Sending: a client says that it uses an id no more, and sends that to this very id.

@@ -3,7 +3,7 @@
 //! wrongly. Each function does nothing: its contract is the law.
 ghost use Rattle.std.specs.Prelude.{◌≡◌, false, true};
 ghost use Rattle.quic_wire_core.specs.declared.stream_id.Side.TheVariants.{Server};
-ghost use Rattle.quic_headline.specs.Runs.{bytes_handed, bytes_given};
+ghost use Rattle.quic_headline.specs.Allowance.{bytes_handed, bytes_given};
 ghost use Rattle.quic_headline.specs.Polls.{seen_at};
 ghost use Rattle.quic_headline.specs.Threefold.{Threefold};
 ghost use Rattle.quic_headline.specs.Headline.{IsHonest, IsRun};

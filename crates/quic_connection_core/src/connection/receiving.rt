@@ -1,18 +1,17 @@
 //! Taking a datagram (RFC 9000, sections 5.2, 12 and 13.1).
 ghost use Rattle.std.specs.Prelude.{◌≡◌, ◌≢◌, ◌+◌, ◌-◌, ◌≤◌, ◌<◌, ◌^◌, ◌&&◌, ◌||◌, length, slice_range, true, false, Some, None, Ok, IfSome, IfNone, IfOk, IfErr, OnOk, MatchResult};
 ghost use Rattle.quic_wire.specs.Items.{items};
-ghost use Rattle.quic_packet.specs.Destination.{decoded, fixed_length_id};
-ghost use Rattle.quic_machine.specs.Ids.{known};
 ghost use Rattle.quic_time.specs.Timers.{no_timers};
 ghost use Rattle.quic_wire.specs.FrameView.{frame_view, item_view};
 ghost use Rattle.quic_machine.specs.End.{with_end, hearing, policy_of, HasFailed, drawing, words_drawn};
-ghost use Rattle.quic_machine.specs.Heard.{is_last, heard_datagram, heard_answer};
-ghost use Rattle.quic_machine.specs.Opens.{own_id_length, would_open};
+ghost use Rattle.quic_machine.specs.Heard.{is_last, received_if, heard_datagram, heard_moved, heard_answer};
+ghost use Rattle.quic_machine.specs.Opens.{own_id_length, head, would_open};
 ghost use Rattle.quic_machine.specs.Arrival.{arriving};
+ghost use Rattle.quic_machine.specs.Migration.{is_there, as_elsewhere, item_elsewhere, item_at, items_at, has_moved};
 ghost use Rattle.quic_machine.specs.Receive.{names_ungiven, received, opened_to, processed, take_ack, take_frame, take_item, take_items, take_payload, told_received, told_opened, told_processed, told_payload, told_items, told_item, told_ack, item_asks, acks_asking, item_answers, asks_in, is_urged, opening, ends_as, violation};
 ghost use Rattle.quic_spaces.specs.Marks.{is_congested};
 ghost use Rattle.quic_connection_parts.specs.Drawn.{words_of, after_words};
-ghost use Rattle.quic_connection_parts.specs.Telling.{telling, KeepsRest};
+ghost use Rattle.quic_connection_parts.specs.Telling.{telling, taking, KeepsRest};
 ghost use Rattle.quic_connection_parts.specs.Faults.{fault_view, TellsAs, TakesAs, TakesAllAs, TakesPacketAs, HasForm, ItemHasForm};
 ghost use Rattle.quic_machine.specs.Lacking.{TakesFrames};
 
@@ -21,12 +20,13 @@ use quic_congestion::Controller;
 use quic_connection_parts::closes::{take_application_close, take_connection_close};
 use quic_connection_parts::ids::OWN_ID_LENGTH;
 use quic_connection_parts::receiving::{
-    AckDemand, Trouble, drop_reason, is_above, is_congested, is_read, item_asks, violation,
+    AckDemand, Trouble, drop_reason, is_above, is_congested, is_of_path, is_read, item_asks,
+    violation,
 };
 use quic_connection_parts::stream_frames::take_other;
 use quic_machine::{DropReason, Instant, Received, State};
 use quic_packet::crypto::{HeaderKey, NotOpened, PacketKey};
-use quic_packet::{HeaderError, Opened, open_packet};
+use quic_packet::{Opened, open_packet};
 use quic_paths::Address;
 use quic_wire::frame::{Ack, Frame, InvalidFrame, Unpadded};
 use quic_wire_core::{ConnectionId, EcnCodepoint, Reason, TransportError};
@@ -41,12 +41,20 @@ impl<H: HeaderKey + Drop, K: PacketKey + Drop, R: Rng + Drop, C: Controller> Con
     /// Takes a datagram that came at this time from this address with this ECN codepoint, opening
     /// it in place (RFC 9000, sections 5.2 and 12).
     ///
-    /// Its bytes count as received, whatever is made of it (section 8.1). It counts as a failure if
-    /// its packet doesn't open: with the last that the peer's key may refuse, an open endpoint
-    /// closes for [`LostReason::KeyLimit`] (RFC 9001, section 6.6). A datagram that is dropped
-    /// changes nothing else but what [`stats`](Self::stats) counts. The exception is a new packet
-    /// that a closing endpoint opened: its number counts as seen, and CONNECTION_CLOSE may be sent
-    /// once more (section 10.2.1).
+    /// Its bytes count as received on the path if it came from the peer's address, whatever is made
+    /// of it (section 8.1). A client drops what comes from another. At a server the peer has moved
+    /// to the other address if the packet's frames were all taken, its number is above all that
+    /// were taken before, and it doesn't only probe (sections 9.1 and 9.3): the path is another one
+    /// then, on which the datagram counts, whose address isn't validated and is challenged, and
+    /// which begins with the next ID of the peer, if that is known and 80 retirements at most would
+    /// wait (section 9.5). Round trip, congestion controller and path MTU discovery go on. Frames
+    /// of path validation from elsewhere do nothing, unless such a packet has them.
+    ///
+    /// It counts as a failure if its packet doesn't open: with the last that the peer's key may
+    /// refuse, an open endpoint closes for [`LostReason::KeyLimit`] (RFC 9001, section 6.6). A
+    /// datagram that is dropped changes nothing else but what [`stats`](Self::stats) counts. The
+    /// exception is a new packet that a closing endpoint opened: its number counts as seen, and
+    /// CONNECTION_CLOSE may be sent once more (section 10.2.1).
     ///
     /// If it breaks a rule, the endpoint closes; the frames before keep their effect, and its
     /// number isn't acknowledged. If the peer closes, the number counts, the endpoint is drained at
@@ -68,9 +76,9 @@ impl<H: HeaderKey + Drop, K: PacketKey + Drop, R: Rng + Drop, C: Controller> Con
         datagram: &mut [u8],
     ) -> Received
         ensures answer { result ≢ Received.Failed → result ≡ (received (policy_of H.protection K.aead K.seal_limit K.refusal_limit (words_of R.stream) self.old) self.old.end (arriving now remote ecn (is_last (K.refusal_limit self.old.keys.packet.remote) self.old.heard)) datagram.old).answer }
-        ensures end { result ≢ Received.Failed → self.new ≡ drawing self.new.random (telling C.steps (hearing self.old (heard_datagram datagram.old result self.old.heard))
-            (told_received (policy_of H.protection K.aead K.seal_limit K.refusal_limit (words_of R.stream) self.old) self.old.end (arriving now remote ecn false) datagram.old)
-            (received (policy_of H.protection K.aead K.seal_limit K.refusal_limit (words_of R.stream) self.old) self.old.end (arriving now remote ecn (is_last (K.refusal_limit self.old.keys.packet.remote) self.old.heard)) datagram.old).end) }
+        ensures end { result ≢ Received.Failed → let after = (received (policy_of H.protection K.aead K.seal_limit K.refusal_limit (words_of R.stream) self.old) self.old.end (arriving now remote ecn (is_last (K.refusal_limit self.old.keys.packet.remote) self.old.heard)) datagram.old).end in
+            self.new ≡ drawing self.new.random (taking C.steps C.window_of self.old (heard_datagram (is_there remote self.old.end) (has_moved self.old.end after) datagram.old result self.old.heard)
+            (told_received (policy_of H.protection K.aead K.seal_limit K.refusal_limit (words_of R.stream) self.old) self.old.end (arriving now remote ecn false) datagram.old) after) }
         ensures random { result ≢ Received.Failed → R.stream self.new.random ≡ after_words (words_drawn self.new.end - words_drawn self.old.end) (R.stream self.old.random) }
         ensures failed { result ≡ Received.Failed → HasFailed self.old self.new }
         ensures before { result ≡ Received.Failed → self.old.end.closing.state ≢ State.Failed }
@@ -79,10 +87,19 @@ impl<H: HeaderKey + Drop, K: PacketKey + Drop, R: Rng + Drop, C: Controller> Con
     {
         let len = datagram.len();
         self.stats.udp_rx.on_datagram(len);
-        self.path.on_datagram_received(len as u64);
+        self.count_received(remote, len as u64);
         let received = self.take_datagram(now, remote, ecn, datagram);
         self.count_drop(&received);
         received
+    }
+
+    /// Counts the bytes of a datagram as received on the path, if it came from the peer's address.
+    fn count_received(&mut self, remote: Address, len: u64)
+        ensures { self.new ≡ hearing self.old (received_if (is_there remote self.old.end) len self.old.heard) }
+    {
+        if self.is_at(remote) {
+            self.path.on_datagram_received(len);
+        }
     }
 
     /// Takes a datagram that came at this time from this address with this ECN codepoint, opening
@@ -96,9 +113,9 @@ impl<H: HeaderKey + Drop, K: PacketKey + Drop, R: Rng + Drop, C: Controller> Con
         datagram: &mut [u8],
     ) -> Received
         ensures answer { result ≢ Received.Failed → result ≡ (received (policy_of H.protection K.aead K.seal_limit K.refusal_limit (words_of R.stream) self.old) self.old.end (arriving now remote ecn (is_last (K.refusal_limit self.old.keys.packet.remote) self.old.heard)) datagram.old).answer }
-        ensures end { result ≢ Received.Failed → self.new ≡ drawing self.new.random (telling C.steps (hearing self.old (heard_answer result self.old.heard))
-            (told_received (policy_of H.protection K.aead K.seal_limit K.refusal_limit (words_of R.stream) self.old) self.old.end (arriving now remote ecn false) datagram.old)
-            (received (policy_of H.protection K.aead K.seal_limit K.refusal_limit (words_of R.stream) self.old) self.old.end (arriving now remote ecn (is_last (K.refusal_limit self.old.keys.packet.remote) self.old.heard)) datagram.old).end) }
+        ensures end { result ≢ Received.Failed → let after = (received (policy_of H.protection K.aead K.seal_limit K.refusal_limit (words_of R.stream) self.old) self.old.end (arriving now remote ecn (is_last (K.refusal_limit self.old.keys.packet.remote) self.old.heard)) datagram.old).end in
+            self.new ≡ drawing self.new.random (taking C.steps C.window_of self.old (heard_answer result (heard_moved (has_moved self.old.end after) (length datagram.old) self.old.heard))
+            (told_received (policy_of H.protection K.aead K.seal_limit K.refusal_limit (words_of R.stream) self.old) self.old.end (arriving now remote ecn false) datagram.old) after) }
         ensures random { result ≢ Received.Failed → R.stream self.new.random ≡ after_words (words_drawn self.new.end - words_drawn self.old.end) (R.stream self.old.random) }
         ensures failed { result ≡ Received.Failed → HasFailed self.old self.new }
         ensures before { result ≡ Received.Failed → self.old.end.closing.state ≢ State.Failed }
@@ -110,27 +127,38 @@ impl<H: HeaderKey + Drop, K: PacketKey + Drop, R: Rng + Drop, C: Controller> Con
             State::Drained => return Received::Dropped(DropReason::Drained),
             State::Open | State::Closing => {}
         }
-        if let Err(error) = self.destination_of(datagram) {
-            return Received::Dropped(drop_reason(error));
+        if let Err(reason) = self.destination_of(remote, datagram) {
+            return Received::Dropped(reason);
         }
+        let len = datagram.len() as u64;
         let Ok(opened) = self.unprotect(datagram) else {
             return self.refuse_packet(now);
         };
         let payload = &datagram[opened.start..opened.end];
+        let migrates = self.migrates(remote, &opened, payload);
         let received = self.take_opened(now, remote, ecn, &opened, payload);
         if !is_read(&received) {
             return received;
+        }
+        if self.has_moved(migrates, &received) {
+            return self.migrate(remote, len, payload);
         }
         self.draw_ids();
         received
     }
 
-    /// The own ID that a datagram is for, or why it is for none.
-    fn destination_of(&self, datagram: &[u8]) -> Result<ConnectionId, HeaderError>
-        ensures decoded { result ≡ decoded (fixed_length_id own_id_length) (known self.now.end.ids) datagram.now }
+    /// The own ID that a datagram from this address is for, or why it is dropped.
+    fn destination_of(&self, remote: Address, datagram: &[u8]) -> Result<ConnectionId, DropReason>
+        ensures head { result ≡ head self.now.end remote datagram.now }
         ensures room { OnOk result (own_id_length + 21 ≤ length datagram.now) }
     {
-        self.ids.decode(datagram)
+        if self.is_foreign(remote) {
+            return Err(DropReason::Address);
+        }
+        match self.ids.decode(datagram) {
+            Ok(id) => Ok(id),
+            Err(error) => Err(drop_reason(error)),
+        }
     }
 
     /// Whether a datagram from this address would open here, whatever the state of the endpoint,
@@ -140,7 +168,7 @@ impl<H: HeaderKey + Drop, K: PacketKey + Drop, R: Rng + Drop, C: Controller> Con
     pub fn would_open(&self, remote: Address, scratch: &mut [u8]) -> bool
         ensures { result ≡ would_open (policy_of H.protection K.aead K.seal_limit K.refusal_limit (words_of R.stream) self.now) self.now.end remote scratch.old }
     {
-        if self.destination_of(scratch).is_err() {
+        if self.destination_of(remote, scratch).is_err() {
             return false;
         }
         match self.unprotect(scratch) {
@@ -219,39 +247,42 @@ impl<H: HeaderKey + Drop, K: PacketKey + Drop, R: Rng + Drop, C: Controller> Con
         ensures lacking { result ≡ Received.Failed → TakesFrames (processed (record { first = opened.now.first; number = opened.now.number; payload = payload.now }) (arriving now remote ecn false) self.old.end).answer }
     {
         self.tick(now);
-        match self.take_packet(ecn, opened, payload) {
+        match self.take_packet(remote, ecn, opened, payload) {
             Ok(()) => Received::Taken,
             Err(trouble) => self.close_for(trouble, opened.number),
         }
     }
 
-    /// Takes the frames of a packet, and then its number and its ECN codepoint.
+    /// Takes the frames of a packet that came from this address, and then its number and its ECN
+    /// codepoint.
     fn take_packet(
         &mut self,
+        remote: Address,
         ecn: Option<EcnCodepoint>,
         opened: &Opened,
         payload: &[u8],
     ) -> Result<(), Trouble>
         requires { opened.now.number < 2 ^ 62 }
-        ensures takes { TakesPacketAs result (take_payload opened.now.first (items payload.now) self.old.end) (asks_in (items payload.now)) (is_urged ecn (items payload.now) self.old.end) opened.now.number ecn self.new.end }
-        ensures told { TellsAs result C.steps self.old (told_payload opened.now.first (items payload.now) self.old.end) self.new }
+        ensures takes { TakesPacketAs result (take_payload opened.now.first (items_at (is_there remote self.old.end) (items payload.now)) self.old.end) (asks_in (items payload.now)) (is_urged ecn (asks_in (items payload.now)) (items_at (is_there remote self.old.end) (items payload.now)) self.old.end) opened.now.number ecn self.new.end }
+        ensures told { TellsAs result C.steps self.old (told_payload opened.now.first (items_at (is_there remote self.old.end) (items payload.now)) self.old.end) self.new }
         ensures others { KeepsRest self.old self.new }
     {
-        let demand = self.take_payload(ecn, opened, payload)?;
+        let demand = self.take_payload(remote, ecn, opened, payload)?;
         self.take_number(opened.number, demand, ecn)?;
         Ok(())
     }
 
-    /// Takes the frames of a packet that came with this ECN codepoint, one after another: what they
-    /// ask for.
+    /// Takes the frames of a packet that came from this address with this ECN codepoint, one after
+    /// another: what they ask for.
     fn take_payload(
         &mut self,
+        remote: Address,
         ecn: Option<EcnCodepoint>,
         opened: &Opened,
         payload: &[u8],
     ) -> Result<AckDemand, Trouble>
-        ensures takes { TakesAllAs result (take_payload opened.now.first (items payload.now) self.old.end) (asks_in (items payload.now)) (is_urged ecn (items payload.now) self.old.end) self.new.end }
-        ensures told { TellsAs result C.steps self.old (told_payload opened.now.first (items payload.now) self.old.end) self.new }
+        ensures takes { TakesAllAs result (take_payload opened.now.first (items_at (is_there remote self.old.end) (items payload.now)) self.old.end) (asks_in (items payload.now)) (is_urged ecn (asks_in (items payload.now)) (items_at (is_there remote self.old.end) (items payload.now)) self.old.end) self.new.end }
+        ensures told { TellsAs result C.steps self.old (told_payload opened.now.first (items_at (is_there remote self.old.end) (items payload.now)) self.old.end) self.new }
         ensures others { KeepsRest self.old self.new }
     {
         if opened.reserved_bits() != 0 {
@@ -260,17 +291,42 @@ impl<H: HeaderKey + Drop, K: PacketKey + Drop, R: Rng + Drop, C: Controller> Con
         if payload.is_empty() {
             return Err(violation(Reason::NoFrame));
         }
-        self.take_frames(ecn, payload)
+        self.take_frames(remote, ecn, payload)
     }
 
-    /// Takes frames up to the first that is at fault: what they ask for.
+    /// Takes frames that came from this address, up to the first that is at fault: what they ask
+    /// for.
     fn take_frames(
         &mut self,
+        remote: Address,
         ecn: Option<EcnCodepoint>,
         payload: &[u8],
     ) -> Result<AckDemand, Trouble>
-        ensures takes { TakesAllAs result (take_items (items payload.now) self.old.end) (asks_in (items payload.now)) (is_urged ecn (items payload.now) self.old.end) self.new.end }
-        ensures told { TellsAs result C.steps self.old (told_items (items payload.now) self.old.end) self.new }
+        ensures takes { TakesAllAs result (take_items (items_at (is_there remote self.old.end) (items payload.now)) self.old.end) (asks_in (items payload.now)) (is_urged ecn (asks_in (items payload.now)) (items_at (is_there remote self.old.end) (items payload.now)) self.old.end) self.new.end }
+        ensures told { TellsAs result C.steps self.old (told_items (items_at (is_there remote self.old.end) (items payload.now)) self.old.end) self.new }
+        ensures others { KeepsRest self.old self.new }
+    {
+        let here = self.is_at(remote);
+        self.take_frames_at(here, ecn, payload)
+    }
+
+    /// Whether the peer is at this address.
+    fn is_at(&self, remote: Address) -> bool
+        ensures { result ≡ is_there remote self.now.end }
+    {
+        remote == self.path.remote
+    }
+
+    /// Takes frames that came from the peer's address or from elsewhere, up to the first that is at
+    /// fault: what they ask for.
+    fn take_frames_at(
+        &mut self,
+        here: bool,
+        ecn: Option<EcnCodepoint>,
+        payload: &[u8],
+    ) -> Result<AckDemand, Trouble>
+        ensures takes { TakesAllAs result (take_items (items_at here (items payload.now)) self.old.end) (asks_in (items payload.now)) (is_urged ecn (asks_in (items payload.now)) (items_at here (items payload.now)) self.old.end) self.new.end }
+        ensures told { TellsAs result C.steps self.old (told_items (items_at here (items payload.now)) self.old.end) self.new }
         ensures others { KeepsRest self.old self.new }
     {
         let mut demand = AckDemand {
@@ -279,7 +335,7 @@ impl<H: HeaderKey + Drop, K: PacketKey + Drop, R: Rng + Drop, C: Controller> Con
         };
         for item in Unpadded::new(payload) {
             demand = self.demand_with(&item, ecn, demand);
-            self.take_item(&item)?;
+            self.take_item(here, &item)?;
         }
         Ok(demand)
     }
@@ -320,8 +376,26 @@ impl<H: HeaderKey + Drop, K: PacketKey + Drop, R: Rng + Drop, C: Controller> Con
         self.check_ack(frame).is_ok() && self.space.tracking.names_asking(frame)
     }
 
-    /// Takes a frame, or what can't be read as one.
-    fn take_item(&mut self, item: &Result<Frame<'_>, InvalidFrame>) -> Result<(), Trouble>
+    /// Takes a frame that came from the peer's address or from elsewhere, or what can't be read as
+    /// one.
+    fn take_item(
+        &mut self,
+        here: bool,
+        item: &Result<Frame<'_>, InvalidFrame>,
+    ) -> Result<(), Trouble>
+        requires { ItemHasForm (item_view item.now) }
+        ensures takes { TakesAs result (take_item (item_at here (item_view item.now)) self.old.end) self.new.end }
+        ensures told { TellsAs result C.steps self.old (told_item (item_at here (item_view item.now)) self.old.end) self.new }
+        ensures others { KeepsRest self.old self.new }
+    {
+        if here {
+            return self.take_item_here(item);
+        }
+        self.take_item_elsewhere(item)
+    }
+
+    /// Takes a frame that came from the peer's address, or what can't be read as one.
+    fn take_item_here(&mut self, item: &Result<Frame<'_>, InvalidFrame>) -> Result<(), Trouble>
         requires { ItemHasForm (item_view item.now) }
         ensures takes { TakesAs result (take_item (item_view item.now) self.old.end) self.new.end }
         ensures told { TellsAs result C.steps self.old (told_item (item_view item.now) self.old.end) self.new }
@@ -334,6 +408,33 @@ impl<H: HeaderKey + Drop, K: PacketKey + Drop, R: Rng + Drop, C: Controller> Con
             }
             Err(invalid) => Err(Trouble::Broke(TransportError::from(*invalid))),
         }
+    }
+
+    /// Takes a frame that came from elsewhere, or what can't be read as one.
+    fn take_item_elsewhere(&mut self, item: &Result<Frame<'_>, InvalidFrame>) -> Result<(), Trouble>
+        requires { ItemHasForm (item_view item.now) }
+        ensures takes { TakesAs result (take_item (item_elsewhere (item_view item.now)) self.old.end) self.new.end }
+        ensures told { TellsAs result C.steps self.old (told_item (item_elsewhere (item_view item.now)) self.old.end) self.new }
+        ensures others { KeepsRest self.old self.new }
+    {
+        match item {
+            Ok(frame) => self.take_frame_elsewhere(frame),
+            Err(invalid) => Err(Trouble::Broke(TransportError::from(*invalid))),
+        }
+    }
+
+    /// Takes a frame that came from elsewhere: one of path validation does nothing.
+    fn take_frame_elsewhere(&mut self, frame: &Frame<'_>) -> Result<(), Trouble>
+        requires { HasForm (frame_view frame.now) }
+        ensures takes { TakesAs result (take_frame (as_elsewhere (frame_view frame.now)) self.old.end) self.new.end }
+        ensures told { TellsAs result C.steps self.old (told_item (Ok (as_elsewhere (frame_view frame.now))) self.old.end) self.new }
+        ensures others { KeepsRest self.old self.new }
+    {
+        self.count_frame(frame);
+        if is_of_path(frame) {
+            return Ok(());
+        }
+        self.take_frame(frame)
     }
 
     /// Takes a frame. Those about neither packets and their acknowledgements, streams, messages,

@@ -8,6 +8,7 @@ use quic_congestion::Controller;
 use quic_connection_parts::statistics::count_drop;
 use quic_machine::Received;
 use quic_stats::ConnectionStats;
+use quic_wire::frame::Frame;
 
 impl<H, K, R, C: Controller> Connection<H, K, R, C> {
     /// The endpoint's counters since it was made, and what it knows of its path (quinn-proto's
@@ -33,6 +34,13 @@ impl<H, K, R, C: Controller> Connection<H, K, R, C> {
         if let Received::Dropped(reason) = received {
             count_drop(&mut self.stats.dropped, *reason);
         }
+    }
+
+    /// Counts a frame that came.
+    pub(crate) fn count_frame(&mut self, frame: &Frame<'_>)
+        ensures { self.new ≡ self.old }
+    {
+        self.stats.frame_rx.record(frame);
     }
 
     /// Counts an ACK frame as sent.

@@ -1,10 +1,10 @@
 //! Path validation: how much goes to a peer whose address isn't validated, and the frames that show
 //! that it receives there (RFC 9000, sections 8.1 and 8.2).
-ghost use Rattle.std.specs.Prelude.{◌≡◌, ◌+◌, ◌≤◌, ◌<◌, ◌^◌, ◌-◌, ◌++◌, length, vec_len, vec_capacity};
+ghost use Rattle.std.specs.Prelude.{◌≡◌, ◌+◌, ◌≤◌, ◌<◌, ◌^◌, ◌-◌, ◌++◌, nat_lt, length, vec_len, vec_capacity};
 ghost use Rattle.std.specs.Int.{to_be_bytes, w64};
 ghost use Rattle.quic_time.specs.Timers.{has_come};
 ghost use Rattle.quic_machine.specs.End.{with_end, challenged, challenged_unless, drawing};
-ghost use Rattle.quic_machine.specs.Validation.{is_blocked, with_blocked, path_waits, path_asked, path_answered, path_expired};
+ghost use Rattle.quic_machine.specs.Validation.{is_blocked, with_blocked, path_waits, path_asked, path_answered, challenged_anew, most_challenges, path_expired};
 ghost use Rattle.quic_connection_parts.specs.Drawn.{words_of, words_at, after_words, Draws};
 ghost use Rattle.quic_connection_parts.specs.Frames.{challenge_list, response_list, path_bytes, paths_sent, challenge_gone, response_gone};
 ghost use Rattle.quic_wire.specs.Writing.{spelled_all};
@@ -58,6 +58,7 @@ impl<H: HeaderKey + Drop, K: PacketKey + Drop, R: Rng + Drop, C: Controller> Con
     }
 
     /// Begins path validation, unless the peer's address is validated already.
+    #[tactic(auto, using(quic_connection_parts::proofs::Drawing::draws_same))]
     pub(crate) fn validating(mut self) -> Self
         requires { self.end.validation.drawn ≡ 0 }
         ensures end { result ≡ drawing result.random (with_end self (challenged_unless self.end.path.validated (words_at R.stream self) self.end)) }
@@ -83,6 +84,16 @@ impl<H: HeaderKey + Drop, K: PacketKey + Drop, R: Rng + Drop, C: Controller> Con
         {
             return;
         }
+        self.challenge_anew();
+    }
+
+    /// Asks the peer to show that it receives at its address, by another PATH_CHALLENGE; but 2^64 -
+    /// 1 times at most.
+    #[tactic(auto, using(quic_connection_parts::proofs::Drawing::draws_same))]
+    pub(crate) fn challenge_anew(&mut self)
+        ensures end { self.new ≡ drawing self.new.random (with_end self.old (challenged_anew (words_at R.stream self.old) (nat_lt self.old.end.validation.drawn most_challenges) self.old.end)) }
+        ensures random { Draws R.stream self.old self.new }
+    {
         if self.challenges < u64::MAX {
             self.challenge_path();
         } else {
@@ -91,7 +102,7 @@ impl<H: HeaderKey + Drop, K: PacketKey + Drop, R: Rng + Drop, C: Controller> Con
     }
 
     /// Takes PATH_CHALLENGE of the packet that opened last: PATH_RESPONSE with its data is pending,
-    /// unless one to a newer packet is.
+    /// unless one to a newer packet is. It came from the peer's address.
     #[tactic(auto, using(quic_connection_parts::proofs::Drawing::token_back))]
     pub(crate) fn take_path_challenge(&mut self, token: u64)
         ensures { self.new ≡ with_end self.old (path_asked (to_be_bytes w64 token) self.old.end) }

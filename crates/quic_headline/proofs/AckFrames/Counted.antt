@@ -8,14 +8,13 @@ use Rattle.quic_wire.specs.Items.{items}
 use Rattle.quic_wire.specs.declared.frame.InvalidFrame.{InvalidFrame}
 use Rattle.quic_packet.specs.Header.{key_phase, reserved_bits}
 use Rattle.quic_packet.specs.Datagram.{Opening}
-use Rattle.quic_packet.specs.Destination.{decoded, fixed_length_id}
-use Rattle.quic_packet.specs.declared.packet.HeaderError.{HeaderError}
 use Rattle.quic_recovery_core.specs.Duplicates.{is_duplicate}
 use Rattle.quic_spaces.specs.Marks.{Counts, after_mark}
 use Rattle.quic_spaces.specs.Numbers.{number_opened}
 use Rattle.quic_machine.specs.Arrival.{Arrival, delivered_by}
 use Rattle.quic_machine.specs.declared.answers.State.{State}
 use Rattle.quic_machine.specs.declared.answers.State.TheVariants as states
+use Rattle.quic_machine.specs.declared.answers.DropReason.{DropReason}
 use Rattle.quic_machine.specs.declared.answers.DropReason.TheVariants as drops
 use Rattle.quic_machine.specs.declared.answers.Received.{Received}
 use Rattle.quic_machine.specs.declared.answers.Received.TheVariants as receives
@@ -25,11 +24,10 @@ use Rattle.quic_machine.specs.declared.run.Delivery.{Delivery}
 use Rattle.quic_machine.specs.declared.run.Answer.{Answer}
 use Rattle.quic_machine.specs.declared.run.Answer.TheVariants as answers
 use Rattle.quic_machine.specs.Policy.{Policy}
-use Rattle.quic_machine.specs.Ids.{known}
 use Rattle.quic_machine.specs.Closing.{ticked}
 use Rattle.quic_machine.specs.End.{End, with_closing, with_numbers, closed_by}
-use Rattle.quic_machine.specs.Opens.{own_id_length}
-use Rattle.quic_machine.specs.Receive.{Fault, Progress, Outcome, is_empty, violation, take_items, take_payload, take_frame, asks_in, is_urged, ends_as, by_state, dropped, opened_to, opened_as, opening, headed, received_in, received, broke, too_many_pieces, closed_by_peer, unopened_in, is_read, drawn_if, with_ids_drawn}
+use Rattle.quic_machine.specs.Opens.{head}
+use Rattle.quic_machine.specs.Receive.{Fault, Progress, Outcome, is_empty, violation, take_items, take_payload, take_frame, asks_in, is_urged, ends_as, by_state, dropped, opened_to, opened_as, opening, headed, received_in, received, broke, too_many_pieces, closed_by_peer, unopened_in, is_read, drawn_if, with_ids_drawn, items_taken, has_migrated}
 use Rattle.quic_machine.specs.Poll.{Polled, Draft, Leaving, polled, draft_as}
 use Rattle.quic_machine.specs.Timeouts.{Expiry, loss_judged}
 use Rattle.quic_machine.specs.FrameCases.{Settling, named, acked_keeps, losses_keep, frame_keeps, frame_leaves, apart_leaves, items_keep}
@@ -44,6 +42,7 @@ use Rattle.quic_machine.specs.CallCases as cases
 use Rattle.quic_machine.specs.Machine.{IsAnswer, IsDelivered, after_delivered, after_call, fails, says_last}
 use Rattle.quic_headline.specs.AckFrames.{mark_taken}
 use Rattle.quic_headline.proofs.Packets.Apart.{by_waits, by_next_id}
+use Rattle.quic_headline.proofs.Packets.Moved.{by_migrated_if}
 use Rattle.quic_headline.proofs.Packets.Closes.{by_closes}
 use Rattle.quic_headline.proofs.Packets.Probes.{by_going}
 
@@ -142,8 +141,10 @@ module _ (p : Policy) (arrival : Arrival) where
   state_counts : (s : State) (o : Opening) (e : End) → CountsBy e (by_state s o arrival e)
   state_counts states.Open o e opened = (
       let begins : End = with_closing e (ticked e.closing arrival.now) in
-      let left : Progress = take_payload o.first (items o.payload) begins in
-      ends_counts left.fault (asks_in (items o.payload)) (is_urged arrival.mark (items o.payload) begins) o.number e left.end (payload_counts e.marks.came o.first (items o.payload) begins refl) opened)
+      let asks = asks_in (items o.payload) in
+      let within = items_taken o arrival e in
+      let left : Progress = take_payload o.first within begins in
+      ends_counts left.fault asks (is_urged arrival.mark asks within begins) o.number e left.end (payload_counts e.marks.came o.first within begins refl) opened)
   state_counts states.Closing o e opened = refl
   state_counts states.Drained o e opened = refl
   state_counts states.Failed o e opened = refl
@@ -173,10 +174,13 @@ module _ (p : Policy) (arrival : Arrival) where
       go false = i
 
   maybe_counts : (o : Option Opening) (e : End) → CountsBy e (opened_as o p arrival e)
-  maybe_counts None e opened = unopened_counts e.closing.state arrival.last e opened
-  maybe_counts (Some o) e opened = drawn_counts (opened_to o arrival e) e (opened_counts o e) opened
+  maybe_counts None e = unopened_counts e.closing.state arrival.last e
+  maybe_counts (Some o) e =
+      let out = with_ids_drawn p (opened_to o arrival e) in
+      let counts = drawn_counts (opened_to o arrival e) e (opened_counts o e) in
+      by_migrated_if (λ (x : End). CountsBy e (record { answer = out.answer; end = x })) p o arrival.remote out.end (λ c. counts) (λ c most. counts) (has_migrated o arrival.remote e out) counts
 
-  headed_counts : (r : Result (List ℕ) HeaderError) (e : End) (d : List ℕ) → CountsBy e (headed r p e arrival d)
+  headed_counts : (r : Result (List ℕ) DropReason) (e : End) (d : List ℕ) → CountsBy e (headed r p e arrival d)
   headed_counts (Err error) e d opened = refl
   headed_counts (Ok id) e d opened = maybe_counts (opening p e d) e opened
 
@@ -186,8 +190,8 @@ module _ (p : Policy) (arrival : Arrival) where
       go : (s : State) → CountsBy e (received_in s p e arrival d)
       go states.Failed opened = refl
       go states.Drained opened = refl
-      go states.Open opened = headed_counts (decoded (fixed_length_id own_id_length) (known e.ids) d) e d opened
-      go states.Closing opened = headed_counts (decoded (fixed_length_id own_id_length) (known e.ids) d) e d opened
+      go states.Open opened = headed_counts (head e arrival.remote d) e d opened
+      go states.Closing opened = headed_counts (head e arrival.remote d) e d opened
 
 -- an observer reads the same mark of the answer
 mark_read : (delivery : Delivery) (r : Received) → taken_mark r delivery.ecn ≡ mark_taken (calls.Deliver delivery) (answers.Deliver r)

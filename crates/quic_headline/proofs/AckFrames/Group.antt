@@ -21,11 +21,13 @@ use Rattle.quic_machine.specs.Receive.{asks_in, after_taken, Outcome}
 use Rattle.quic_machine.specs.IdFrames.{drawn}
 use Rattle.quic_machine.specs.FrameCases.{begun}
 use Rattle.quic_headline.specs.Runs.{Told, Packet, Intake, In, IsTaken, nothing_came, and_told, folded}
-use Rattle.quic_headline.specs.Observer.{Sent, Watch}
+use Rattle.quic_headline.specs.Observer.{Sent, Flight, Watch}
 use Rattle.quic_headline.specs.AckFrames.{ends_above}
 use Rattle.quic_headline.proofs.Packets.Acked.{acked_with, acks, acks_behind, acked_here, acked_then}
 use Rattle.quic_headline.proofs.Packets.Invariant.{AreTaken}
-use Rattle.quic_headline.proofs.Packets.Delivered.{Arrivals, arrived, with_taken}
+use Rattle.quic_headline.proofs.Packets.Delivered.{frames_at, Arrivals, arrived, with_taken}
+use Rattle.quic_headline.proofs.Packets.Moved.{by_migrated}
+use Rattle.quic_headline.proofs.Packets.Routed.{flight_at}
 use Rattle.quic_headline.proofs.Packets.Stays.{Keeps, keeps_frames}
 use Rattle.quic_headline.proofs.Packets.Acking.{packet_runs, runs_step}
 use Rattle.quic_headline.proofs.Packets.Flying.{Waits, held, frames_fly, ticked_waits, numbers_wait}
@@ -100,9 +102,13 @@ module _ (x y : Party) (call : Call) (a : Answer) (c : Calls Observed x y call a
 
   -- ---- a packet is taken
 
-  module _ (delivery : Delivery) (is : call ≡ calls.Deliver delivery) (n : ℕ) (frames : List FrameValue) (opened : x.end.closing.state ≡ states.Open) (none : (arrived x.end delivery.now n frames).fault ≡ None) where
+  module _ (delivery : Delivery) (is : call ≡ calls.Deliver delivery) (n : ℕ) (frames : List FrameValue) (here : Bool) (opened : x.end.closing.state ≡ states.Open) (none : (arrived x.end delivery.now n (frames_at here frames)).fault ≡ None) where
+    -- the frames of it that are taken
+    abbrev within : List FrameValue
+    within = frames_at here frames
+
     abbrev left : End
-    left = (arrived x.end delivery.now n frames).end
+    left = (arrived x.end delivery.now n within).end
 
     abbrev packet : Packet
     packet = record { number = n; frames = frames }
@@ -115,7 +121,7 @@ module _ (x y : Party) (call : Call) (a : Answer) (c : Calls Observed x y call a
     acked = acked_by_call (with_taken (came_to x y) n frames)
 
     frames_keep : Keeps (begun x.end delivery.now n) left
-    frames_keep = keeps_frames frames (begun x.end delivery.now n)
+    frames_keep = keeps_frames within (begun x.end delivery.now n)
 
     runs : AreRuns left.acknowledging.runs
     runs = (frames_keep.acks c.takes.0.acks).runs.runs
@@ -128,8 +134,8 @@ module _ (x y : Party) (call : Call) (a : Answer) (c : Calls Observed x y call a
         let waits : Waits x.terms w.clock w.flight (held x.end) = c.gives.1.watched.flight opened in
         let numbers : Numbers = number_opened x.end.numbers n in
         let begins : Waits x.terms now w.flight (held (begun x.end delivery.now n)) = ticked_waits x.terms w.clock delivery.now w.flight (record (held x.end) { numbers = numbers }) (numbers_wait x.terms w.clock w.flight (held x.end) numbers refl waits) in
-        let all = frames_fly x.terms now frames (λ flying acked e. Stays number acked e) (stays_flies number frames) w.flight (begun x.end delivery.now n) none (record { waits = begins; holds = was }) in
-        subst (λ (ss : List Sent). Stays number ss left) (sym (acked_then x y call delivery is opened n frames)) all.holds
+        let all = frames_fly x.terms now within (λ flying acked e. Stays number acked e) (stays_flies number within) w.flight (begun x.end delivery.now n) none (record { waits = begins; holds = was }) in
+        subst (λ (ss : List Sent). Stays number ss left) (sym (acked_then x y call delivery is opened n frames ∙ sym (ap (λ (f : Flight). f.acked) (flight_at x.terms now here frames w.flight)))) all.holds
 
     -- so each packet is kept behind them, and the one that came
     abbrev Kept : List Run → ℕ → Type 0
@@ -172,11 +178,12 @@ module _ (x y : Party) (call : Call) (a : Answer) (c : Calls Observed x y call a
         (most_kept taken (Out x y acked taken) (out_less x y acked taken) (λ k many. inr (inr many)) (with_one left.acknowledging.runs n) (with_one_runs 0 n left.acknowledging.runs (omega arith) runs) were_taken each p i)
 
   -- each case of a delivery
-  arrivals_keep : (delivery : Delivery) → call ≡ calls.Deliver delivery → (n : ℕ) (frames : List FrameValue) → Arrivals x.end delivery.now n frames (came_to x y) (λ (o : Outcome) (i : Intake). Behind o.end i)
-  arrivals_keep delivery is n frames = record {
+  arrivals_keep : (delivery : Delivery) → call ≡ calls.Deliver delivery → (n : ℕ) (frames : List FrameValue) (here : Bool) → Arrivals x.end delivery.now n frames (frames_at here frames) (came_to x y) (λ (o : Outcome) (i : Intake). Behind o.end i)
+  arrivals_keep delivery is n frames here = record {
     ignored = λ reason opened. none_came opened;
     noted = λ state reason opened. absurd (let clash : states.Closing ≡ states.Open = sym state ∙ opened in cc);
-    takes = λ words state new none urged mark opened. packet_kept delivery is n frames state none words urged mark;
+    takes = λ words state new none urged mark opened. packet_kept delivery is n frames here state none words urged mark;
+    moves = λ p o same remote z state left. by_migrated (λ (e : End). Behind e (with_taken (came_to x y) n frames)) p o remote z (λ c. left) (λ c most. left);
     drains = λ words state new close at opened. absurd cc;
     refuses = λ words state new f at opened. absurd cc;
     exhausts = λ state opened. absurd cc;
@@ -187,7 +194,7 @@ module _ (x y : Party) (call : Call) (a : Answer) (c : Calls Observed x y call a
   call_keeps = by_coming x y a c.joined c.served (meets y x c.takes.0) Behind call c.answer (record {
     apart = λ apart opened p i. subst (λ (rs : List Run). Has rs p.number ⊎ Out x y (acked_by_call (came_to x y)) (came_to x y).took p.number) (sym (runs_step x.policy x.end y.given call a apart).0) (none_came (was_open x.policy x.end y.given call a opened) p i);
     none = λ delivery is opened. none_came opened;
-    comes = λ delivery is s among. arrivals_keep delivery is s.number s.frames;
+    comes = λ delivery is s among here. arrivals_keep delivery is s.number s.frames here;
   })
 
   -- what was below too many by then

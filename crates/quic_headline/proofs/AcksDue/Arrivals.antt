@@ -14,6 +14,7 @@ use Rattle.quic_recovery_core.specs.PendingAcks as pending
 use Rattle.quic_spaces.specs.Acknowledging.{with_due}
 use Rattle.quic_spaces.specs.Numbers.{Numbers}
 use Rattle.quic_machine.specs.declared.answers.State.TheVariants as states
+use Rattle.quic_machine.specs.Closing.{Closing}
 use Rattle.quic_machine.specs.End.{End}
 use Rattle.quic_machine.specs.declared.answers.Received.TheVariants as receives
 use Rattle.quic_machine.specs.declared.run.Delivery.{Delivery}
@@ -28,13 +29,15 @@ use Rattle.quic_headline.specs.Observer.{news}
 use Rattle.quic_headline.specs.Rest.{asking_among}
 use Rattle.quic_headline.specs.AcksDue.{is_too_late, is_immediate_ack, hastens, one_hastens}
 use Rattle.quic_headline.proofs.Packets.Apart.{apart_asks}
-use Rattle.quic_headline.proofs.Packets.Delivered.{Arrivals, ArrivalsWith, arrived, with_taken}
+use Rattle.quic_headline.proofs.Packets.Delivered.{frames_at, Arrivals, ArrivalsWith, arrived, with_taken}
+use Rattle.quic_headline.proofs.Packets.Moved.{migrated_closing, migrated_acks}
+use Rattle.quic_headline.proofs.Packets.Strays.{same_at}
 use Rattle.quic_headline.proofs.Packets.Watching.{none_new, one_new}
 use Rattle.quic_headline.proofs.Packets.Stays.{keeps_frames}
 use Rattle.quic_headline.proofs.Timers.AckMoments.{asks_same}
 use Rattle.quic_headline.proofs.Rest.Standing.{CountsOn, frames_acks}
 use Rattle.quic_headline.proofs.Rest.Unanswered.{taken_counts}
-use Rattle.quic_headline.proofs.AcksDue.Rules.{asked_of, Rule, rule_of, rule_by, frames_asked, packet_asked, latest_is}
+use Rattle.quic_headline.proofs.AcksDue.Rules.{asked_of, Rule, rule_of, rule_by, requested_at, frames_asked, packet_asked, latest_is}
 use Rattle.quic_headline.proofs.AcksDue.Gaps.{TookCame, late_there, late_back}
 
 -- an acknowledgement is due for packets that ask
@@ -144,12 +147,16 @@ pub record Pressing (e : End) (acked : Option ℕ) (i : Intake) (ps : List Packe
   pub seen : e.numbers.opened ≡ seen_after i.opened
   pub came : TookCame i
 
-module _ (e : End) (now n : ℕ) (frames : List FrameValue) (i : Intake) (ps : List Packet) (acked : Option ℕ) (known : Pressing e acked i ps) (none : (arrived e now n frames).fault ≡ None) where
+module _ (e : End) (now n : ℕ) (frames : List FrameValue) (here : Bool) (i : Intake) (ps : List Packet) (acked : Option ℕ) (known : Pressing e acked i ps) (none : (arrived e now n (frames_at here frames)).fault ≡ None) where
+  -- the frames of it that are taken
+  abbrev within : List FrameValue
+  within = frames_at here frames
+
   abbrev packet : Packet
   packet = record { number = n; frames = frames }
 
   abbrev left : End
-  left = (arrived e now n frames).end
+  left = (arrived e now n within).end
 
   -- what the peer asked for, with the packet
   abbrev asked : Requested
@@ -168,11 +175,11 @@ module _ (e : End) (now n : ℕ) (frames : List FrameValue) (i : Intake) (ps : L
 
   -- frames leave what is due, and the counts
   left_acks : CountsOn e left
-  left_acks = frames_acks frames (begun e now n)
+  left_acks = frames_acks within (begun e now n)
 
   -- and the end was asked what the observer reads
   left_asked : asked_of left ≡ asked
-  left_asked = frames_asked frames (begun e now n) none ∙ ap (λ (r : Rule). requested_by frames r.asked) known.rules
+  left_asked = frames_asked within (begun e now n) none ∙ ap (λ (r : Rule). requested_by within r.asked) known.rules ∙ requested_at here frames (requested i.took)
 
   -- what was due stays so
   stays : (urged : Bool) → IsPressed e.acknowledging → IsPressed (after urged)
@@ -183,11 +190,11 @@ module _ (e : End) (now n : ℕ) (frames : List FrameValue) (i : Intake) (ps : L
 
   -- the end tells apart the numbers that came
   seen_left : left.numbers.opened ≡ seen_after (n ∷ i.opened)
-  seen_left = ap (λ (x : Numbers). x.opened) (keeps_frames frames (begun e now n)).numbers ∙ ap (λ (s : Seen). with_seen s n) known.seen
+  seen_left = ap (λ (x : Numbers). x.opened) (keeps_frames within (begun e now n)).numbers ∙ ap (λ (s : Seen). with_seen s n) known.seen
 
   -- what is due behind the frames
   left_due : left.acknowledging.due ≡ (e.acknowledging.due || list_any is_immediate_ack frames)
-  left_due = frames_due frames (begun e now n) none
+  left_due = frames_due within (begun e now n) none ∙ ap (λ (b : Bool). e.acknowledging.due || b) (same_at is_immediate_ack refl (λ token. refl) (λ token. refl) here frames)
 
   -- IMMEDIATE_ACK came
   hurry_there : (urged : Bool) → list_any is_immediate_ack frames ≡ true → (noted urged).due ≡ true
@@ -341,11 +348,13 @@ none_presses p q acked i ps on counted last = record {
   last = last;
 }
 
-pub arrivals_press : (e : End) (now n : ℕ) (frames : List FrameValue) (i : Intake) (ps : List Packet) (acked : Option ℕ) → (e.closing.state ≡ states.Open → Pressing e acked i ps) → Arrivals e now n frames i (λ (o : Outcome) (j : Intake). PressesOpen e.acknowledging acked i ps o.end j)
-arrivals_press e now n frames i ps acked known = record {
+pub arrivals_press : (e : End) (now n : ℕ) (frames : List FrameValue) (here : Bool) (i : Intake) (ps : List Packet) (acked : Option ℕ) → (e.closing.state ≡ states.Open → Pressing e acked i ps) → Arrivals e now n frames (frames_at here frames) i (λ (o : Outcome) (j : Intake). PressesOpen e.acknowledging acked i ps o.end j)
+arrivals_press e now n frames here i ps acked known = record {
   ignored = λ reason small opened. none_presses e.acknowledging e.acknowledging acked i ps (λ was. was) (known opened).counted refl;
   noted = λ state reason small opened. absurd (let clash : states.Closing ≡ states.Open = sym state ∙ opened in cc);
-  takes = λ words state new none urged mark small opened. one_presses e now n frames i ps acked (known state) none urged small;
+  takes = λ words state new none urged mark small opened. one_presses e now n frames here i ps acked (known state) none urged small;
+  moves = λ p o same remote x state left small opened.
+      subst (λ (q : Pending). Presses e.acknowledging acked i ps q (with_taken i n frames)) (sym (migrated_acks p o remote x)) (left small (sym (ap (λ (c : Closing). c.state) (migrated_closing p o remote x)) ∙ opened));
   drains = λ words state new close is small opened. absurd cc;
   refuses = λ words state new f is small opened. absurd cc;
   exhausts = λ state small opened. absurd cc;
@@ -357,16 +366,18 @@ DueOf p acked i ps urged q j = q.due ≡ true → (p.due ≡ true) ⊎ ((one_has
 
 -- at an end that is open behind it, a packet that hastens it, or that is urged by its mark, as an
 -- observer finds it where the end does
-pub arrivals_due : (e : End) (delivery : Delivery) (n : ℕ) (frames : List FrameValue) (i : Intake) (ps : List Packet) (acked : Option ℕ) → (e.closing.state ≡ states.Open → Pressing e acked i ps) → (urges : Answer → Intake → Bool)
-    → (e.closing.state ≡ states.Open → (arrived e delivery.now n frames).fault ≡ None → urges (answers.Deliver receives.Taken) (with_taken i n frames) ≡ is_urged delivery.ecn (map Ok frames) (begun e delivery.now n))
-    → ArrivalsWith delivery.ecn e delivery.now n frames i (λ (o : Outcome) (j : Intake). o.end.closing.state ≡ states.Open → DueOf e.acknowledging acked i ps (urges (answers.Deliver o.answer) j) o.end.acknowledging j)
-arrivals_due e delivery n frames i ps acked known urges same = record {
+pub arrivals_due : (e : End) (delivery : Delivery) (n : ℕ) (frames : List FrameValue) (here : Bool) (i : Intake) (ps : List Packet) (acked : Option ℕ) → (e.closing.state ≡ states.Open → Pressing e acked i ps) → (urges : Answer → Intake → Bool)
+    → (e.closing.state ≡ states.Open → (arrived e delivery.now n (frames_at here frames)).fault ≡ None → urges (answers.Deliver receives.Taken) (with_taken i n frames) ≡ is_urged delivery.ecn (asks_in (map Ok frames)) (map Ok (frames_at here frames)) (begun e delivery.now n))
+    → ArrivalsWith delivery.ecn e delivery.now n frames (frames_at here frames) i (λ (o : Outcome) (j : Intake). o.end.closing.state ≡ states.Open → DueOf e.acknowledging acked i ps (urges (answers.Deliver o.answer) j) o.end.acknowledging j)
+arrivals_due e delivery n frames here i ps acked known urges same = record {
   ignored = λ reason opened due. inl due;
   noted = λ state reason opened. absurd (let clash : states.Closing ≡ states.Open = sym state ∙ opened in cc);
-  takes = λ words state new none opened due. elim (one_back e delivery.now n frames i ps acked (known state) none (is_urged delivery.ecn (map Ok frames) (begun e delivery.now n)) due) [
+  takes = λ words state new none opened due. elim (one_back e delivery.now n frames here i ps acked (known state) none (is_urged delivery.ecn (asks_in (map Ok frames)) (map Ok (frames_at here frames)) (begun e delivery.now n)) due) [
     | inl was ↦ inl was
     | inr other ↦ inr (elim other [ inl is ↦ inl is | inr urged ↦ inr (same state none ∙ urged) ])
   ];
+  moves = λ p o alike remote x state left opened.
+      subst (λ (q : Pending). DueOf e.acknowledging acked i ps (urges (answers.Deliver receives.Taken) (with_taken i n frames)) q (with_taken i n frames)) (sym (migrated_acks p o remote x)) (left (sym (ap (λ (c : Closing). c.state) (migrated_closing p o remote x)) ∙ opened));
   drains = λ words state new close is opened. absurd cc;
   refuses = λ words state new f is opened. absurd cc;
   exhausts = λ state opened. absurd cc;

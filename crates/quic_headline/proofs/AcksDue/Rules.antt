@@ -8,11 +8,12 @@ use Rattle.std.specs.declared.ops.Range.{Range}
 use Rattle.std.proofs.lemmas.Bool.{lt-ltb, ltb-true, leb-true, leb-false}
 use Rattle.quic_wire_core.specs.TransportError.{ErrorValue}
 use Rattle.quic_wire_core.specs.declared.shared.EcnCodepoint.{EcnCodepoint}
-use Rattle.quic_wire.specs.Value.{FrameValue, AckFrequencyValue, ack, datagram, new_connection_id, retire_connection_id, path_response, ack_frequency, asks}
+use Rattle.quic_wire.specs.Value.{FrameValue, AckFrequencyValue, ack, datagram, new_connection_id, retire_connection_id, path_challenge, path_response, ack_frequency, asks}
 use Rattle.quic_ids.specs.CidState.{retirement_answer}
 use Rattle.quic_ids.specs.CidQueue.{insert_answer}
 use Rattle.quic_ids.specs.declared.cid_queue.InsertError.{InsertError}
 use Rattle.quic_ids.specs.declared.cid_queue.InsertError.TheVariants as inserts
+use Rattle.quic_packet.specs.Datagram.{Opening}
 use Rattle.quic_paths.specs.Paths.{is_asked}
 use Rattle.quic_retransmits.specs.Retransmits.{can_retire}
 use Rattle.quic_recovery_core.specs.declared.ack_frequency.Request.{Request}
@@ -25,13 +26,14 @@ use Rattle.quic_machine.specs.declared.run.Call.{Call}
 use Rattle.quic_machine.specs.declared.run.Answer.{Answer}
 use Rattle.quic_machine.specs.declared.run.Answer.TheVariants as answers
 use Rattle.quic_machine.specs.Policy.{Policy}
-use Rattle.quic_machine.specs.Closing.{ticked}
+use Rattle.quic_machine.specs.Closing.{Closing, ticked}
 use Rattle.quic_machine.specs.Acked.{request_acked}
 use Rattle.quic_machine.specs.MessageCalls.{most_message}
 use Rattle.quic_machine.specs.Sizes.{without_longer_if, shortened}
 use Rattle.quic_machine.specs.Ids.{frame_of, retires_for, retired, retires_for_next, next_used}
 use Rattle.quic_machine.specs.IdFrames.{retiring, with_taken_up, issued_if, issues_for, next_id_taken, end_on_next_id}
 use Rattle.quic_machine.specs.Validation.{word_of, validated_if}
+use Rattle.quic_machine.specs.Migration.{as_elsewhere, migrated}
 use Rattle.quic_machine.specs.End.{End, with_ids, with_frequency, with_closing, closed_by}
 use Rattle.quic_machine.specs.Receive.{is_above, names_ungiven, retired_for, id_judged, retirement_judged, asks_too_soon, frequency_judged, take_frame, asks_in, after_taken, Outcome}
 use Rattle.quic_machine.specs.Poll.{Polled, Draft, polled, draft_as, lazied_as, Leaving, whole, Ready}
@@ -51,7 +53,8 @@ use Rattle.quic_headline.specs.Requested.{Requested, is_newer, requested_after, 
 use Rattle.quic_headline.specs.AcksDue.{greatest_asking, latest_asking}
 use Rattle.quic_headline.proofs.Packets.Closes.{by_closes}
 use Rattle.quic_headline.proofs.Packets.Apart.{by_waits}
-use Rattle.quic_headline.proofs.Packets.Delivered.{Arrivals, arrived}
+use Rattle.quic_headline.proofs.Packets.Delivered.{frames_at, Arrivals, arrived}
+use Rattle.quic_headline.proofs.Packets.Moved.{migrated_closing}
 use Rattle.quic_headline.proofs.Packets.Group.{meets}
 use Rattle.quic_headline.proofs.Packets.Probes.{by_going}
 use Rattle.quic_headline.proofs.Places.Parties.{Party, called, came_to}
@@ -61,6 +64,7 @@ use Rattle.quic_headline.proofs.Timers.Still.{was_open}
 use Rattle.quic_headline.proofs.Timers.Watched.{Observed}
 use Rattle.quic_headline.proofs.Timers.AckMoments.{asks_same}
 use Rattle.quic_headline.proofs.Rest.Standing.{frames_acks}
+use Rattle.quic_headline.proofs.Packets.Moving.{moving_keeps}
 
 -- what an end was asked
 abbrev pub asked_of : End → Requested
@@ -162,6 +166,10 @@ next_rule e (answers.UseNextId (Ok done)) = taken (retires_for_next e.ids)
     taken (Some r) = shortened_rule _ (retiring r (with_ids e (next_used e.ids)))
 next_rule e a = refl
 
+-- another path leaves it
+migrated_rule : (p : Policy) (o : Opening) (remote : ℕ) (e : End) → Keeps e (migrated p o remote e)
+migrated_rule p o remote e = moving_keeps (Keeps e) (λ m x same. same) (λ x a same. next_rule x a ∙ same) p o remote e refl
+
 pub call_rule : (p : Policy) (e : End) (theirs : List (List ℕ)) (call : Call) (a : Answer) → is_delivery call ≡ false → rule_of (after_call p e theirs call a) ≡ rule_of e
 call_rule p e theirs call a apart = by_plain_call p e theirs (Keeps e) call a cases_keep
   where
@@ -240,6 +248,18 @@ requested_first : (f : FrameValue) (fs : List FrameValue) (r : Requested) → re
 requested_first (ack_frequency f) fs r = refl
 requested_first f fs r = refl
 
+-- one from elsewhere asks the same
+requested_elsewhere : (f : FrameValue) (fs : List FrameValue) (r : Requested) → requested_by (as_elsewhere f ∷ fs) r ≡ requested_by (f ∷ fs) r
+requested_elsewhere (path_challenge token) fs r = refl
+requested_elsewhere (path_response token) fs r = refl
+requested_elsewhere f fs r = refl
+
+-- so do all
+pub requested_at : (here : Bool) (fs : List FrameValue) (r : Requested) → requested_by (frames_at here fs) r ≡ requested_by fs r
+requested_at true fs r = refl
+requested_at false [] r = refl
+requested_at false (f ∷ fs) r = requested_elsewhere f (frames_at false fs) r ∙ requested_first f (frames_at false fs) r ∙ requested_at false fs (requested_by (f ∷ []) r) ∙ sym (requested_first f fs r)
+
 -- what all frames of a packet ask that are taken
 pub frames_asked : (fs : List FrameValue) (e : End) → (passed fs e).fault ≡ None → asked_of (passed fs e).end ≡ requested_by fs (asked_of e)
 frames_asked fs e none = frames_taken (λ (left : List FrameValue) (x : End). requested_by left (asked_of x) ≡ requested_by fs (asked_of e)) step fs e none refl
@@ -298,29 +318,33 @@ abbrev IsRuled : End → Intake → Type 0
 IsRuled e i = e.closing.state ≡ states.Open → rule_of e ≡ rule_by i.took
 
 -- each case of a delivery
-arrivals_ruled : (e : End) (now n : ℕ) (frames : List FrameValue) (i : Intake) → IsRuled e i → Arrivals e now n frames i (λ (o : Outcome) (j : Intake). IsRuled o.end j)
-arrivals_ruled e now n frames i ruled = record {
+arrivals_ruled : (e : End) (now n : ℕ) (frames : List FrameValue) (here : Bool) (i : Intake) → IsRuled e i → Arrivals e now n frames (frames_at here frames) i (λ (o : Outcome) (j : Intake). IsRuled o.end j)
+arrivals_ruled e now n frames here i ruled = record {
   ignored = λ reason. ruled;
   noted = λ state reason opened. absurd (let clash : states.Closing ≡ states.Open = sym state ∙ opened in cc);
   takes = λ words state new none urged mark opened. taken none urged mark (ruled state);
+  moves = λ p o same remote x state left opened. migrated_rule p o remote x ∙ left (sym (ap (λ (c : Closing). c.state) (migrated_closing p o remote x)) ∙ opened);
   drains = λ words state new close is opened. absurd cc;
   refuses = λ words state new f is opened. absurd cc;
   exhausts = λ state opened. absurd cc;
 }
   where
+    within : List FrameValue
+    within = frames_at here frames
+
     left : End
-    left = (arrived e now n frames).end
+    left = (arrived e now n within).end
 
     all : List Packet
     all = record { number = n; frames = frames } ∷ i.took
 
-    taken : (arrived e now n frames).fault ≡ None → (urged : Bool) (mark : Option EcnCodepoint) → rule_of e ≡ rule_by i.took → rule_of (after_taken n (asks_in (map Ok frames)) urged mark left) ≡ rule_by all
+    taken : (arrived e now n within).fault ≡ None → (urged : Bool) (mark : Option EcnCodepoint) → rule_of e ≡ rule_by i.took → rule_of (after_taken n (asks_in (map Ok frames)) urged mark left) ≡ rule_by all
     taken none urged mark was =
         let noted : Pending = with_due urged (after_insert left.acknowledging n left.closing.clock) in
         let q : Pending = after_packet noted left.closing.clock n (asks_in (map Ok frames)) left.numbers.opened in
         let kept = packet_asked (asks_in (map Ok frames)) noted left.closing.clock n left.numbers.opened in
-        let greatest : q.greatest ≡ latest_asking all = packet_greatest i.took frames (asks_in (map Ok frames)) noted left.closing.clock n left.numbers.opened (sym (asks_same frames)) ((frames_acks frames (begun e now n)).greatest ∙ ap (λ (r : Rule). r.greatest) was) in
-        let asked : asked_of left ≡ requested all = frames_asked frames (begun e now n) none ∙ ap (λ (r : Rule). requested_by frames r.asked) was in
+        let greatest : q.greatest ≡ latest_asking all = packet_greatest i.took frames (asks_in (map Ok frames)) noted left.closing.clock n left.numbers.opened (sym (asks_same frames)) ((frames_acks within (begun e now n)).greatest ∙ ap (λ (r : Rule). r.greatest) was) in
+        let asked : asked_of left ≡ requested all = frames_asked within (begun e now n) none ∙ ap (λ (r : Rule). requested_by within r.asked) was ∙ requested_at here frames (requested i.took) in
         ap (λ (t : ℕ). record { asked = record { last = left.frequency.last; delay = left.frequency.own_delay; threshold = t; reordering = q.reordering }; greatest = q.greatest }) kept.0
         ∙ ap (λ (t : ℕ). record { asked = record { last = left.frequency.last; delay = left.frequency.own_delay; threshold = left.acknowledging.threshold; reordering = t }; greatest = q.greatest }) kept.1
         ∙ ap (λ (o : Option ℕ). record { asked = asked_of left; greatest = o }) greatest
@@ -337,7 +361,7 @@ ruled_step x y call a c i = record {
   rules = by_coming x y a c.joined c.served (meets y x c.takes.0) IsRuled call c.answer (record {
     apart = λ apart opened. call_rule x.policy x.end y.given call a apart ∙ i.rules (was_open x.policy x.end y.given call a opened);
     none = λ delivery is. i.rules;
-    comes = λ delivery is s among. arrivals_ruled x.end delivery.now s.number s.frames (came_to x y) i.rules;
+    comes = λ delivery is s among here. arrivals_ruled x.end delivery.now s.number s.frames here (came_to x y) i.rules;
   });
 }
 

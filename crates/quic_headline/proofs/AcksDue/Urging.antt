@@ -23,7 +23,8 @@ use Rattle.quic_machine.specs.FrameCases.{ack_taken, passed, frames_taken, begun
 use Rattle.quic_headline.specs.Runs.{Packet, Intake, names}
 use Rattle.quic_headline.specs.Observer.{Sent, Terms, asks_of, Flight, settled_by, after_frames, Watch, first_watch, news}
 use Rattle.quic_headline.specs.AcksDue.{is_marked, takes_marked, takes_urged}
-use Rattle.quic_headline.proofs.Packets.Delivered.{arrived, with_taken}
+use Rattle.quic_headline.proofs.Packets.Delivered.{frames_at, arrived, with_taken}
+use Rattle.quic_headline.proofs.Packets.Routed.{flight_at}
 use Rattle.quic_headline.proofs.Packets.Waited.{AreWaited, waited_filter, waited_asks}
 use Rattle.quic_headline.proofs.Packets.Flying.{Waits, held, first_flight, frames_wait, ticked_waits, numbers_wait}
 use Rattle.quic_headline.proofs.Packets.Watching.{watched_intake, none_new, one_new}
@@ -132,7 +133,7 @@ module _ (x y : Party) (call : Call) where
   seen = watch_of x y
 
   seen_intake : seen.intake ≡ came_to x y
-  seen_intake = watched_intake (lens x y) x.told (first_watch x.final x.began x.initial_rtt x.initial_delay)
+  seen_intake = watched_intake (lens x y) x.told (first_watch x.final x.began x.made.path.remote x.initial_rtt x.initial_delay)
 
   -- whether the observer of x finds a packet urged by a call that is so answered, and brings this
   abbrev pub urged_by : Answer → Intake → Bool
@@ -144,7 +145,7 @@ module _ (x y : Party) (call : Call) where
       let next : Party = called x y.given call a in
       ap (λ (v : Watch). takes_urged (told_of call a x.end.closing.state) w v) (sym (behind_is x y call a c w is))
       ∙ ap (λ (v : Watch). takes_urged (told_of call a x.end.closing.state) v (watch_of next y)) is
-      ∙ ap (λ (j : Intake). takes_marked call a && (one_asks (news seen.intake j) || list_any asks_of (drop (length (acks x y)) (acks next y)))) (watched_intake (lens x y) next.told (first_watch x.final x.began x.initial_rtt x.initial_delay))
+      ∙ ap (λ (j : Intake). takes_marked call a && (one_asks (news seen.intake j) || list_any asks_of (drop (length (acks x y)) (acks next y)))) (watched_intake (lens x y) next.told (first_watch x.final x.began x.made.path.remote x.initial_rtt x.initial_delay))
       ∙ ap (λ (ss : List Sent). takes_marked call a && (one_asks (news seen.intake (came_to next y)) || list_any asks_of (drop (length (acks x y)) ss))) (acks_behind x y call a)
 
   -- none where nothing came
@@ -157,15 +158,15 @@ module _ (x y : Party) (call : Call) where
       ∙ and_none (takes_marked call a)
 
   -- and where an open end takes a packet, as the end finds it
-  pub urged_taken : Sight x y → (delivery : Delivery) → call ≡ calls.Deliver delivery → x.end.closing.state ≡ states.Open → (n : ℕ) (frames : List FrameValue) → (arrived x.end delivery.now n frames).fault ≡ None
-      → urged_by (answers.Deliver receives.Taken) (with_taken (came_to x y) n frames) ≡ is_urged delivery.ecn (map Ok frames) (begun x.end delivery.now n)
-  urged_taken sight delivery is opened n frames none =
+  pub urged_taken : Sight x y → (delivery : Delivery) → call ≡ calls.Deliver delivery → x.end.closing.state ≡ states.Open → (n : ℕ) (frames : List FrameValue) (here : Bool) → (arrived x.end delivery.now n (frames_at here frames)).fault ≡ None
+      → urged_by (answers.Deliver receives.Taken) (with_taken (came_to x y) n frames) ≡ is_urged delivery.ecn (asks_in (map Ok frames)) (map Ok (frames_at here frames)) (begun x.end delivery.now n)
+  urged_taken sight delivery is opened n frames here none =
       ap (λ (i : Intake). marked && (one_asks (news i after) || list_any asks_of (drop (length (acks x y)) (acked_with x.terms x.end.closing.state call seen after)))) seen_intake
       ∙ ap (λ (ps : List Packet). marked && (one_asks ps || list_any asks_of (drop (length (acks x y)) (acked_with x.terms x.end.closing.state call seen after)))) (one_new (came_to x y) n frames)
       ∙ ap (λ (b : Bool). marked && (b || list_any asks_of (drop (length (acks x y)) (acked_with x.terms x.end.closing.state call seen after)))) (or-false (list_any asks frames) ∙ sym (asks_same frames))
-      ∙ ap (λ (ss : List Sent). marked && (asks_in (map Ok frames) || list_any asks_of (drop (length (acks x y)) ss))) (acked_then x y call delivery is opened n frames)
-      ∙ ap (λ (b : Bool). marked && (asks_in (map Ok frames) || b)) (frames_answer x.terms (max seen.clock delivery.now) frames seen.flight (begun x.end delivery.now n) none begins)
-      ∙ ap (λ (b : Bool). b && (asks_in (map Ok frames) || items_answer (map Ok frames) (begun x.end delivery.now n))) (ap (λ (c : Call). takes_marked c (answers.Deliver receives.Taken)) is ∙ marked_same delivery.ecn)
+      ∙ ap (λ (ss : List Sent). marked && (asks_in (map Ok frames) || list_any asks_of (drop (length (acks x y)) ss))) (acked_then x y call delivery is opened n frames ∙ sym (ap (λ (f : Flight). f.acked) (flight_at x.terms (max seen.clock delivery.now) here frames seen.flight)))
+      ∙ ap (λ (b : Bool). marked && (asks_in (map Ok frames) || b)) (frames_answer x.terms (max seen.clock delivery.now) (frames_at here frames) seen.flight (begun x.end delivery.now n) none begins)
+      ∙ ap (λ (b : Bool). b && (asks_in (map Ok frames) || items_answer (map Ok (frames_at here frames)) (begun x.end delivery.now n))) (ap (λ (c : Call). takes_marked c (answers.Deliver receives.Taken)) is ∙ marked_same delivery.ecn)
     where
       after : Intake
       after = with_taken (came_to x y) n frames

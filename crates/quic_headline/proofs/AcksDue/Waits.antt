@@ -6,7 +6,7 @@ use Rattle.std.specs.List.{list_any}
 use Rattle.std.proofs.lemmas.Bool.{leb-false}
 use Rattle.quic_wire_core.specs.declared.shared.EcnCodepoint.{EcnCodepoint}
 use Rattle.quic_wire.specs.Value.{FrameValue, asks}
-use Rattle.quic_recovery_core.specs.PendingAcks.{after_insert}
+use Rattle.quic_recovery_core.specs.PendingAcks.{Pending, after_insert}
 use Rattle.quic_spaces.specs.Acknowledging.{ack_due, with_due}
 use Rattle.quic_time.specs.Timers.{has_come}
 use Rattle.quic_machine.specs.declared.answers.State.{State}
@@ -29,7 +29,8 @@ use Rattle.quic_headline.specs.Observer.{Sent, Watch, first_watch, news}
 use Rattle.quic_headline.specs.Requested.{requested}
 use Rattle.quic_headline.specs.Moments.{acknowledges, deadlines_of, Debt, debt_told, first_debt}
 use Rattle.quic_headline.proofs.Packets.Intakes.{folded_more}
-use Rattle.quic_headline.proofs.Packets.Delivered.{Arrivals, arrived}
+use Rattle.quic_headline.proofs.Packets.Delivered.{frames_at, Arrivals, arrived, with_taken}
+use Rattle.quic_headline.proofs.Packets.Moved.{migrated_closing, migrated_acks}
 use Rattle.quic_headline.proofs.Packets.Watching.{none_new, one_new}
 use Rattle.quic_headline.proofs.Packets.Stays.{settles_losses}
 use Rattle.quic_headline.proofs.Packets.Group.{meets}
@@ -132,18 +133,21 @@ none_counts : (i : Intake) (e f : End) → (0 < e.acknowledging.asking → 0 < f
 none_counts i e f on opened = (on, λ some. absurd (let none : one_asks [] ≡ true = ap (λ (ps : List Packet). one_asks ps) (sym (none_new i)) ∙ some in cc))
 
 -- each case of a delivery
-arrivals_count : (e : End) (now n : ℕ) (frames : List FrameValue) (i : Intake) → Arrivals e now n frames i (λ (o : Outcome) (j : Intake). Counts e i o.end j)
-arrivals_count e now n frames i = record {
+arrivals_count : (e : End) (now n : ℕ) (frames taken : List FrameValue) (i : Intake) → Arrivals e now n frames taken i (λ (o : Outcome) (j : Intake). Counts e i o.end j)
+arrivals_count e now n frames taken i = record {
   ignored = λ reason. none_counts i e e (λ some. some);
   noted = λ state reason opened. absurd (let clash : states.Closing ≡ states.Open = sym state ∙ opened in cc);
-  takes = λ words state new none urged mark opened. (λ some. (counts urged mark).1 (subst (λ (k : ℕ). 0 < k) (sym (frames_acks frames (begun e now n)).asking) some), λ some. (counts urged mark).0 (asks_same frames ∙ or_back (ap (λ (ps : List Packet). one_asks ps) (sym (one_new i n frames)) ∙ some)));
+  takes = λ words state new none urged mark opened. (λ some. (counts urged mark).1 (subst (λ (k : ℕ). 0 < k) (sym (frames_acks taken (begun e now n)).asking) some), λ some. (counts urged mark).0 (asks_same frames ∙ or_back (ap (λ (ps : List Packet). one_asks ps) (sym (one_new i n frames)) ∙ some)));
+  moves = λ p o same remote x state counted opened.
+      subst (λ (k : ℕ). (0 < e.acknowledging.asking → 0 < k) × (one_asks (news i (with_taken i n frames)) ≡ true → 0 < k)) (sym (ap (λ (q : Pending). q.asking) (migrated_acks p o remote x)))
+      (counted (sym (ap (λ (c : Closing). c.state) (migrated_closing p o remote x)) ∙ opened));
   drains = λ words state new close is opened. absurd cc;
   refuses = λ words state new f is opened. absurd cc;
   exhausts = λ state opened. absurd cc;
 }
   where
     left : End
-    left = (arrived e now n frames).end
+    left = (arrived e now n taken).end
 
     or_back : (list_any asks frames || false) ≡ true → list_any asks frames ≡ true
     or_back some = sym (or_false (list_any asks frames)) ∙ some
@@ -156,7 +160,7 @@ call_counts : (x y : Party) (call : Call) (a : Answer) → Calls Observed x y ca
 call_counts x y call a c none = by_coming x y a c.joined c.served (meets y x c.takes.0) (Counts x.end (came_to x y)) call c.answer (record {
   apart = λ apart. none_counts (came_to x y) x.end (after_call x.policy x.end y.given call a) (λ some. subst (λ (k : ℕ). 0 < k) (sym (call_stands x.policy x.end y.given call a apart c.answer c.served none).0) some);
   none = λ delivery is. none_counts (came_to x y) x.end x.end (λ some. some);
-  comes = λ delivery is s among. arrivals_count x.end delivery.now s.number s.frames (came_to x y);
+  comes = λ delivery is s among here. arrivals_count x.end delivery.now s.number s.frames (frames_at here s.frames) (came_to x y);
 })
 
 -- ---- the group
@@ -181,7 +185,7 @@ module _ (x y : Party) (call : Call) (a : Answer) (c : Calls Observed x y call a
 
   -- the observer within it
   pub debt_watched : before.watch ≡ watch_of x y
-  debt_watched = owed_watch (lens x y) x.told (first_debt (first_watch x.final x.began x.initial_rtt x.initial_delay))
+  debt_watched = owed_watch (lens x y) x.told (first_debt (first_watch x.final x.began x.made.path.remote x.initial_rtt x.initial_delay))
 
   abbrev after : Watch
   after = watch_behind x y call a c before.watch debt_watched
@@ -193,7 +197,7 @@ module _ (x y : Party) (call : Call) (a : Answer) (c : Calls Observed x y call a
   -- what isn't answered behind the call
   pub deadlines_told : (debt_of (called x y.given call a) y).deadlines ≡ deadlines_if (acknowledges (sents_by x.policy x.end call a)) (came_to x y) (came_to (called x y.given call a) y)
   deadlines_told =
-      ap (λ (d : Debt). d.deadlines) (folded_more (debt_told (lens x y)) x.told (told_of call a x.end.closing.state) (first_debt (first_watch x.final x.began x.initial_rtt x.initial_delay)))
+      ap (λ (d : Debt). d.deadlines) (folded_more (debt_told (lens x y)) x.told (told_of call a x.end.closing.state) (first_debt (first_watch x.final x.began x.made.path.remote x.initial_rtt x.initial_delay)))
       ∙ ap (λ (ss : List Sent). deadlines_if (acknowledges ss) before.watch.intake after.intake) (went_behind x y call a c before.watch debt_watched)
       ∙ ap (λ (i : Intake). deadlines_if (acknowledges (sents_by x.policy x.end call a)) i after.intake) (came_before x y call a c before.watch debt_watched)
       ∙ ap (λ (j : Intake). deadlines_if (acknowledges (sents_by x.policy x.end call a)) (came_to x y) j) (came_behind x y call a c before.watch debt_watched)

@@ -151,7 +151,7 @@ module _ (B : Way) (w : IsWriting B) (x y : Party) (call : Call) (a : Answer) (c
   new_one id stops = by_coming x y a c.joined c.served (meets y x (w.packets y x c.takes)) (λ (e : End) (j : Intake). StaysOver id e.streams) call c.answer (record {
     apart = λ apart. stop_call x.policy x.end y.given id call a (w.written x y c.gives).shape c.answer stops;
     none = λ delivery is. absurd (delivery_stops id call a (ap is_delivery is) stops);
-    comes = λ delivery is s among. absurd (delivery_stops id call a (ap is_delivery is) stops);
+    comes = λ delivery is s among here. absurd (delivery_stops id call a (ap is_delivery is) stops);
   })
 
   halted_call : Halted (called x y.given call a) y

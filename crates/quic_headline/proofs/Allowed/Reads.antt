@@ -6,6 +6,7 @@ use Rattle.std.specs.Option.{is_some}
 use Rattle.std.proofs.lemmas.Bool.{cond_both, cases_Bool, or_left, or_right, eqb-true, eq-eqb}
 use Rattle.quic_wire_core.specs.declared.stream_id.Side.{Side}
 use Rattle.quic_wire_core.specs.StreamId.{other_side, dir_of}
+use Rattle.quic_wire.specs.Value.{FrameValue}
 use Rattle.quic_config.specs.Transport.{Settings, parameters_of}
 use Rattle.quic_streams_parts.specs.declared.answers.ReadableError.{ReadableError}
 use Rattle.quic_streams_parts.specs.declared.answers.ReadableError.TheVariants as readable_errors
@@ -39,7 +40,7 @@ use Rattle.quic_headline.specs.Unread.{stopped}
 use Rattle.quic_headline.specs.Allowed.{IsReadOff, is_kept_from_reading, ReadsAreAllowed}
 use Rattle.quic_headline.proofs.Packets.Group.{meets}
 use Rattle.quic_headline.proofs.Places.Told.{nexts_more, tells_append}
-use Rattle.quic_headline.proofs.Places.Parties.{told_of, Party, called, Beginning, begun_as}
+use Rattle.quic_headline.proofs.Places.Parties.{told_of, Party, called, Beginning, begun_as, came_to}
 use Rattle.quic_headline.proofs.Places.Groups.{Way, Nothing, And, Calls, Group, both, beside}
 use Rattle.quic_headline.proofs.Places.Coming.{by_coming}
 use Rattle.quic_headline.proofs.Places.Placed.{party_at, Placed, placed, answered}
@@ -54,6 +55,8 @@ use Rattle.quic_headline.proofs.Unread.OpeningLasts.{Lasts, lasts_any, lasts_cal
 use Rattle.quic_headline.proofs.Unread.OpeningRead.{resets_append, asked_more}
 use Rattle.quic_headline.proofs.Credit.Lists.{told_uses, stopped_last}
 use Rattle.quic_headline.proofs.Allowed.Halves.{Fits, Shuts, Shut, Tells, shuts_more, half_fits, begun_shut, nexts_shut, stop_shut, asked_shut, frame_fits, poll_shut, closed_fits}
+use Rattle.quic_headline.proofs.Packets.Delivered.{frames_at}
+use Rattle.quic_headline.proofs.Halves.Moved.{in_arrivals}
 
 -- ---- what was told
 
@@ -171,10 +174,11 @@ module _ (B : Way) (w : IsWriting B) (x y : Party) (call : Call) (a : Answer) (c
     fits = by_coming x y a c.joined c.served (meets y x (w.packets y x c.takes)) (λ (e : End) (j : Intake). After call a e.streams) call c.answer (record {
       apart = λ apart. apart_fits call a apart c.answer;
       none = λ delivery is. (there call a).1;
-      comes = λ delivery is s among. (
-          let all : Shut (Stops (behind call a)) (IsReadOff (behind call a)) (passed s.frames (begun x.end delivery.now s.number)).end.streams =
-          frames_keep (λ (e : End). Shut (Stops (behind call a)) (IsReadOff (behind call a)) e.streams) (λ f e j. (shape_lasts.frame f e j.0, frame_fits (Stops (behind call a)) (IsReadOff (behind call a)) (stop_ends (behind call a)) f e j)) s.frames (begun x.end delivery.now s.number) (there call a) in
-          record { ignored = λ reason. (there call a).1; noted = λ state reason. (there call a).1; takes = λ words state new none urged mark. all.1; drains = λ words state new close fault. all.1; refuses = λ words state new f fault. all.1; exhausts = λ state. (there call a).1 });
+      comes = λ delivery is s among here. (
+          let taken : List FrameValue = frames_at here s.frames in
+          let all : Shut (Stops (behind call a)) (IsReadOff (behind call a)) (passed taken (begun x.end delivery.now s.number)).end.streams =
+          frames_keep (λ (e : End). Shut (Stops (behind call a)) (IsReadOff (behind call a)) e.streams) (λ f e j. (shape_lasts.frame f e j.0, frame_fits (Stops (behind call a)) (IsReadOff (behind call a)) (stop_ends (behind call a)) f e j)) taken (begun x.end delivery.now s.number) (there call a) in
+          in_arrivals (After call a) x.end delivery.now s.number s.frames taken (came_to x y) (there call a).1 all.1);
     });
   }
 

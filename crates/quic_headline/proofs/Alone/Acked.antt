@@ -9,6 +9,7 @@ use Rattle.quic_parameters.specs.ParametersRead.{parameters_at}
 use Rattle.quic_parameters.specs.declared.transport_parameters.id.TransportParameterId.TheVariants.{MaxUdpPayloadSize}
 use Rattle.quic_parameters.specs.declared.transport_parameters.error.TransportParametersError.{TransportParametersError}
 use Rattle.quic_config.specs.Transport.{Settings, TransportSettings, IsInRange, transport_of}
+use Rattle.quic_congestion.specs.Pacer.{Pacing}
 use Rattle.quic_congestion.specs.Search.{after_limit, first_discovery}
 use Rattle.quic_spaces.specs.Numbers.{cut_against}
 use Rattle.quic_machine.specs.declared.answers.State.TheVariants as states
@@ -17,16 +18,17 @@ use Rattle.quic_machine.specs.declared.run.Call.TheVariants as calls
 use Rattle.quic_machine.specs.declared.run.Answer.{Answer}
 use Rattle.quic_machine.specs.Arrival.{delivered_by}
 use Rattle.quic_machine.specs.Policy.{Policy}
-use Rattle.quic_machine.specs.Control.{Control}
+use Rattle.quic_machine.specs.Control.{Control, with_pacing}
 use Rattle.quic_machine.specs.Heard.{Heard}
 use Rattle.quic_machine.specs.Ids.{destination}
 use Rattle.quic_machine.specs.Closing.{ticked}
-use Rattle.quic_machine.specs.End.{End, IsMade, new_end, number_of, most_payload, with_closing, closed_by}
+use Rattle.quic_machine.specs.End.{End, IsMade, new_end, number_of, most_payload, with_closing, with_window, closed_by}
+use Rattle.quic_machine.specs.Validation.{is_blocked, with_blocked}
 use Rattle.quic_machine.specs.Poll.{Polled, Draft, payload_of, datagram_of, draft_as, polled}
 use Rattle.quic_machine.specs.Poll as poll
 use Rattle.quic_machine.specs.PollCases.{ready_at, ready_leaves, draft_at, may_leave_at, frames_padded, given_as, gives_as, poll_count}
 use Rattle.quic_machine.specs.DraftLaws.{IsClose, HasRoom}
-use Rattle.quic_machine.specs.Machine.{IsAnswer, says_last, after_call, after_delivered, gives, reads_window, fails}
+use Rattle.quic_machine.specs.Machine.{IsAnswer, says_last, after_call, after_delivered, gives, reads_window, pacing_left, end_left, tells, fails}
 use Rattle.quic_headline.specs.Runs.{In, Packet, IsTaken, names}
 use Rattle.quic_headline.specs.Observer.{Sent}
 use Rattle.quic_headline.specs.Headline.{CodeIsSmall}
@@ -49,7 +51,7 @@ use Rattle.quic_headline.proofs.Alone.Sealing.{failing_gives, failed_gives, read
 use Rattle.quic_headline.proofs.Alone.Kept.{KeptAt, call_kept, kept_first}
 use Rattle.quic_headline.proofs.Alone.ShortIds.{AreShort, call_short}
 use Rattle.quic_headline.proofs.Alone.Between.{IsBounded, call_bounded, first_between, first_bounded}
-use Rattle.quic_headline.proofs.Alone.Sendable.{Sendable, received_sendable, call_sendable, reads_sendable, may_go, made_sendable}
+use Rattle.quic_headline.proofs.Alone.Sendable.{Sendable, received_sendable, call_sendable, shown_sendable, may_go, made_sendable}
 use Rattle.quic_headline.proofs.Alone.Taken.{Knows, call_knows}
 
 -- ---- what an end keeps
@@ -67,7 +69,7 @@ module _ (t : TransportSettings) where
   -- an end with such a transport, which took these packets: what it knows, and that what it has to
   -- send may go, and has room
   record Lives (packets : List Packet) (e : End) : Type 0 where
-    knows : Knows packets e
+    knows : Knows (Unit {0}) packets e
     sends : Sendable e
     kept : KeptAt t e
     ids : AreShort e.ids.peer
@@ -84,23 +86,33 @@ module _ (t : TransportSettings) where
 
   call_lives : (packets : List Packet) (p : Policy) (theirs : List (List ℕ)) (e : End) (call : Call) (a : Answer) → IsAnswer p e theirs call a → fails a ≡ false → CodeIsSmall call → Lives packets e → Lives (and_call p theirs call a packets) (after_call p e theirs call a)
   call_lives packets p theirs e call a is served small l = record {
-    knows = call_knows packets p theirs e call a is served small l.knows;
-    sends = sends_on p theirs e call a is served small (well_owes e l.knows.owes) l.sends;
+    knows = call_knows (Unit {0}) packets p theirs e call a is served (λ codes. small) l.knows;
+    sends = sends_on p theirs e call a is served small (well_owes e (l.knows.owes tt)) l.sends;
     kept = call_kept t p e theirs call a l.kept;
     ids = call_short p e theirs call a l.ids;
     size = call_bounded 1200 most_payload p e theirs call a l.size;
   }
 
-  -- whatever a call reads
-  reads_lives : (packets : List Packet) (control : Control) (heard : Heard) (call : Call) (e : End) → Lives packets e → Lives packets (reads_window control heard call e)
-  reads_lives packets control heard (calls.Poll now) e l = record {
+  -- whatever a call reads, and with another pacer
+  shown_lives : (packets : List Packet) (window : ℕ) (blocked : Bool) (pacing : Pacing) (e : End) → Lives packets e → Lives packets (with_pacing (with_blocked (with_window e window) blocked) pacing)
+  shown_lives packets window blocked pacing e l = record {
     knows = (let knows = l.knows in record { acks = knows.acks; taken = knows.taken; expected = knows.expected; owes = knows.owes });
-    sends = reads_sendable control heard (calls.Poll now) e l.sends;
+    sends = shown_sendable window blocked pacing e l.sends;
     kept = l.kept;
     ids = l.ids;
     size = l.size;
   }
+
+  reads_lives : (packets : List Packet) (control : Control) (heard : Heard) (call : Call) (e : End) → Lives packets e → Lives packets (reads_window control heard call e)
+  reads_lives packets control heard (calls.Poll now) e l = shown_lives packets (control []) (is_blocked e heard) e.path.pacing e l
   reads_lives packets control heard call e l = l
+
+  -- the end that a call leaves
+  left_lives : (packets : List Packet) (p : Policy) (control : Control) (heard : Heard) (theirs : List (List ℕ)) (e : End) (call : Call) (a : Answer) → Lives packets (after_call p (reads_window control heard call e) theirs call a) → Lives packets (end_left p control heard e theirs call a)
+  left_lives packets p control heard theirs e call a l =
+      let met : End = reads_window control heard call e in
+      let left : End = after_call p met theirs call a in
+      shown_lives packets left.path.window left.path.blocked (pacing_left (control (tells p met theirs call)) call met left) left l
 
   -- its datagrams have room
   has_room : (packets : List Packet) (e : End) → 1200 ≤ t.min_mtu → Lives packets e → HasRoom e
@@ -120,7 +132,7 @@ made_lives e new range sizes short = go (parameters_at new.parameters) refl new.
   where
     first : (theirs : ParameterValues) → parameters_at new.parameters ≡ Ok theirs → e ≡ new_end new.side new.settings new.windows theirs new.own_id new.peer_id new.remote new.moment new.validated new.words → Lives (transport_of new.settings) [] e
     first theirs is made = record {
-      knows = subst (Knows []) (sym made) (record { acks = acks_first; taken = λ k has. absurd has; expected = refl; owes = λ f owed. cc });
+      knows = subst (Knows (Unit {0}) []) (sym made) (record { acks = acks_first; taken = λ k has. absurd has; expected = refl; owes = λ codes f owed. cc });
       sends = made_sendable e new;
       kept = subst (KeptAt (transport_of new.settings)) (sym made) (kept_first new.settings new.side new.windows theirs new.own_id new.peer_id new.remote new.moment new.validated new.words);
       ids = subst (λ (x : End). AreShort x.ids.peer) (sym made) (record { used = short; later = λ c i. absurd i });
@@ -175,7 +187,7 @@ module _ (t : TransportSettings) (least : 1200 ≤ t.min_mtu) (packets : List Pa
   poll_names = by_sends p e now (λ (q : Polled) (sents : List Sent). Names q) (record {
     silent = λ d i. absurd i;
     failed = λ d i. absurd i;
-    repeats = λ is. close_names (with_closing e (ticked e.closing now)) l.knows.owes room;
+    repeats = λ is. close_names (with_closing e (ticked e.closing now)) (l.knows.owes tt) room;
     nothing = λ is none d i. absurd i;
     closes = λ reason is bound. close_names (closed_by reason (ready_at e now).end) (bound_well p e (ready_at e now).end reason bound) (ready_room e now room);
     gives = λ is bound some. (
@@ -191,7 +203,7 @@ call_names t least packets p theirs e (calls.Poll now) a is served l d i =
 call_names t least packets p theirs e call a is served l d i = absurd i
 
 -- a call gives a datagram where it is answered so
-gives_count : (p : Policy) (theirs : List (List ℕ)) (e : End) (call : Call) (a : Answer) → IsAnswer p e theirs call a → length (gives p e call a) ≡ gave_in call a
+pub gives_count : (p : Policy) (theirs : List (List ℕ)) (e : End) (call : Call) (a : Answer) → IsAnswer p e theirs call a → length (gives p e call a) ≡ gave_in call a
 gives_count p theirs e (calls.Poll now) a (inl is) = subst (λ (b : Answer). length (gives p e (calls.Poll now) b) ≡ gave_in (calls.Poll now) b) (sym is) (poll_count p e now)
 gives_count p theirs e (calls.Poll now) a (inr is) = subst (λ (b : Answer). length (gives p e (calls.Poll now) b) ≡ gave_in (calls.Poll now) b) (sym is) refl
 gives_count p theirs e call a is = sym (ap (λ (b : Bool). if b then 1 else 0) (only_polls_give p e theirs call a refl is))
@@ -214,7 +226,8 @@ module _ (t : TransportSettings) (least : 1200 ≤ t.min_mtu) (p : Policy) (thei
       where
         go : (b : Bool) → fails a ≡ b → Lives t (taken_by p theirs before) e → Stands ((call, a) ∷ before) next.end
         go true failing here = inl (stops p theirs x next call a s failing)
-        go false served here = inr (subst (Lives t (taken_by p theirs ((call, a) ∷ before))) (sym (left_is p theirs x next call a s served)) (call_lives t (taken_by p theirs before) p theirs e call a s.answer served small here))
+        go false served here = inr (subst (Lives t (taken_by p theirs ((call, a) ∷ before))) (sym (left_is p theirs x next call a s served))
+            (left_lives t (taken_by p theirs ((call, a) ∷ before)) p x.control x.heard theirs x.end call a (call_lives t (taken_by p theirs before) p theirs e call a s.answer served small here)))
 
     -- what it gives
     step_names : Stands before x.end → (d : List ℕ) → In d (gives p e call a) → AcksOnly p (WasTaken p theirs before) d

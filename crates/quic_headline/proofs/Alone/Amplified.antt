@@ -1,13 +1,14 @@
 -- While the address of its peer isn't validated, an end gives no more than three times the bytes
--- that were handed to it, whatever they are: it asks before each datagram, which has no more than
--- the current size.
-use Rattle.std.proofs.Common.{◌≡◌, ◌⊎◌, ℕ, ◌+◌, ◌-◌, ◌*◌, ◌<◌, ◌≤◌, ◌^◌, Bool, true, false, not, ◌&&◌, List, [], ◌∷◌, length, Option, Some, None, Result, Ok, Err, refl, sym, ap, ◌∙◌, subst, inl, inr, arith}
+-- that were handed to it from there, whatever they are: it asks before each datagram, which has no
+-- more than the current size.
+use Rattle.std.proofs.Common.{◌≡◌, ◌⊎◌, ℕ, ◌+◌, ◌-◌, ◌*◌, ◌<◌, ◌≤◌, ◌^◌, Bool, true, false, not, ◌&&◌, ◌==◌, List, [], ◌∷◌, ◌++◌, length, Option, Some, None, Result, Ok, Err, refl, sym, ap, ◌∙◌, subst, inl, inr, arith}
 use Rattle.std.specs.Prelude.{nat_lt, sum_by, option_map, if◌then◌else◌}
 use Rattle.std.specs.List.{list_any}
-use Rattle.std.proofs.lemmas.Bool.{ltb-false, both_ways, or_parts, and_parts}
+use Rattle.std.proofs.lemmas.Bool.{eq-eqb, ltb-false, both_ways, or_parts, and_parts}
 use Rattle.std.proofs.lemmas.List.{append-nil}
-use Rattle.std.proofs.lemmas.List.Sums.{sum_by-append, sum_by-cons}
+use Rattle.std.proofs.lemmas.List.Sums.{sum_by-cons}
 use Rattle.quic_wire_core.specs.declared.stream_id.Side.{Side}
+use Rattle.quic_wire_core.specs.declared.stream_id.Side.TheVariants.{Client, Server}
 use Rattle.quic_wire.specs.Value.{FrameValue}
 use Rattle.quic_packet.specs.Keys.{KeepsLength, AddsTag}
 use Rattle.quic_packet.proofs.Opening.{sent_length}
@@ -17,43 +18,56 @@ use Rattle.quic_parameters.specs.declared.transport_parameters.id.TransportParam
 use Rattle.quic_parameters.specs.ParametersRead.{parameters_at}
 use Rattle.quic_parameters.specs.declared.transport_parameters.error.TransportParametersError.{TransportParametersError}
 use Rattle.quic_config.specs.Transport.{Settings, IsInRange, TransportSettings, transport_of}
+use Rattle.quic_congestion.specs.Pacer.{Pacing}
 use Rattle.quic_spaces.specs.Numbers.{cut_against}
+use Rattle.quic_machine.specs.declared.answers.Transmit.{Transmit}
 use Rattle.quic_machine.specs.declared.run.Call.{Call}
 use Rattle.quic_machine.specs.declared.run.Call.TheVariants as calls
 use Rattle.quic_machine.specs.declared.run.Answer.{Answer}
+use Rattle.quic_machine.specs.declared.run.Answer.TheVariants as answers
 use Rattle.quic_machine.specs.Policy.{Policy}
 use Rattle.quic_machine.specs.Closing.{ticked, close_owed}
-use Rattle.quic_machine.specs.Control.{Control}
+use Rattle.quic_machine.specs.Control.{Control, with_pacing}
 use Rattle.quic_machine.specs.Heard.{Heard}
 use Rattle.quic_machine.specs.Parts.{Windows, current_mtu}
 use Rattle.quic_machine.specs.Ids.{Ids}
-use Rattle.quic_machine.specs.End.{End, with_closing, closed_by, number_of, new_end, IsMade}
-use Rattle.quic_machine.specs.Validation.{is_blocked}
+use Rattle.quic_machine.specs.End.{End, side_of, with_closing, with_window, closed_by, number_of, new_end, IsMade}
+use Rattle.quic_machine.specs.Validation.{is_blocked, with_blocked}
 use Rattle.quic_machine.specs.Poll.{Polled, Draft, Leaving, whole, alone, probe, nothing, close_room, fitted, can_close, close_to_go, bounds, goes, goes_as, payload_of, datagram_of, datagram_size, draft_as, polled}
 use Rattle.quic_machine.specs.Poll as poll
 use Rattle.quic_machine.specs.PollCases.{ready_at, draft_at, ready_leaves, ready_closes_not, may_leave_at, bounds_none, by_poll_to, given_as, gives_as, composes}
 use Rattle.quic_machine.specs.DraftLaws.{MayLeave, width_few}
-use Rattle.quic_machine.specs.Machine.{IsLeft, IsHeard, heard_by, gives, fails, after_call, reads_window, end_left}
-use Rattle.quic_headline.specs.Runs.{bytes_in_call}
-use Rattle.quic_headline.specs.FewEvents.{counted}
+use Rattle.quic_machine.specs.CallCases.{is_delivery}
+use Rattle.quic_machine.specs.Migration.{is_client, has_moved}
+use Rattle.quic_machine.specs.Machine.{IsAnswer, IsLeft, IsHeard, heard_by, tells, gives, gave, fails, after_call, reads_window, pacing_left, end_left}
+use Rattle.quic_headline.specs.Runs.{Packet, bytes_in_call}
+use Rattle.quic_headline.specs.Observer.{Route, route_behind, serves}
+use Rattle.quic_headline.specs.Allowance.{is_from, first_size}
 use Rattle.quic_headline.specs.Alone.{Lone, IsLoneStep, IsNew, GivesAlone}
-use Rattle.quic_headline.specs.Amplification.{StaysThreefold}
+use Rattle.quic_headline.specs.LoneAcks.{and_call}
+use Rattle.quic_headline.specs.Amplification.{LoneAllowance, news_of, left_behind, lone_told, lone_allowance, no_lone_allowance, StaysThreefold}
+use Rattle.quic_headline.proofs.Packets.Acking.{acks_first}
 use Rattle.quic_headline.proofs.Packets.CloseForms.{close_small}
 use Rattle.quic_headline.proofs.Packets.Closes.{by_closes}
 use Rattle.quic_headline.proofs.Packets.Given.{draft_number, number_small}
 use Rattle.quic_headline.proofs.Packets.Searches.{ready_size}
+use Rattle.quic_headline.proofs.Packets.Watching.{IsRoute}
 use Rattle.quic_headline.proofs.Places.Steps.{poll_answer}
 use Rattle.quic_headline.proofs.Halves.Counts.{read_in_range}
 use Rattle.quic_headline.proofs.Isolated.Validated.{IsValidated, call_validated}
 use Rattle.quic_headline.proofs.Steps.Probing.{probe_goes}
 use Rattle.quic_headline.proofs.Steps.Probes.{begun}
-use Rattle.quic_headline.proofs.Held.Bytes.{call_received, call_sent}
+use Rattle.quic_headline.proofs.Held.Bytes.{came_behind, went_behind, gives_this, first_given, from_there, from_same, Counts, call_counts}
 use Rattle.quic_headline.proofs.Held.Silent.{may_not_go}
 use Rattle.quic_headline.proofs.Alone.Kept.{KeptAt, call_kept, kept_first}
 use Rattle.quic_headline.proofs.Alone.ShortIds.{AreShort, call_short}
 use Rattle.quic_headline.proofs.Alone.Between.{IsBetween, call_between, first_between}
 use Rattle.quic_headline.proofs.Alone.ShortCloses.{OwesShort, error_owes, close_fits, call_owes}
 use Rattle.quic_headline.proofs.Alone.Lengths.{IsRoomy, whole_size, alone_size, close_size}
+use Rattle.quic_headline.proofs.Alone.Sides.{side_call}
+use Rattle.quic_headline.proofs.Alone.Taken.{Knows, call_knows}
+use Rattle.quic_headline.proofs.Alone.Acked.{gives_count}
+use Rattle.quic_headline.proofs.Alone.Routed.{route_quiet, call_leads}
 
 off : (b : Bool) → (b ≡ true → ⊥) → b ≡ false
 off true never = absurd (never refl)
@@ -211,32 +225,74 @@ goes_within came counted_came given counted_given size mtu received sent some fe
 
 -- ---- one call behind another
 
-module _ (p : Policy) (hides : KeepsLength p.header.hide) (tags : AddsTag p.packet.seal) (theirs : List (List ℕ)) (t : TransportSettings) (least : 1200 ≤ t.min_mtu) where
-  -- what holds of an end to which so many bytes were handed, and which gave so many
-  record Holds (x : Lone) (came went : ℕ) : Type 0 where
+-- no more than three times, where nothing goes, or what goes is within the allowance
+few_counted : (changed from given : Bool) (size n came went : ℕ) → (changed ≡ false → given ≡ true → went + n ≤ 3 * came) → (changed ≡ false → went ≤ 3 * came) → went_behind changed given n went ≤ 3 * came_behind changed from size came
+few_counted true from given size n came went one none = omega arith
+few_counted false true true size n came went one none = let most = one refl refl in omega (arith, most)
+few_counted false false true size n came went one none = let most = one refl refl in omega (arith, most)
+few_counted false true false size n came went one none = let most = none refl in omega (arith, most)
+few_counted false false false size n came went one none = let most = none refl in omega (arith, most)
+
+-- of what is given where one datagram goes at most, the first goes
+left_is : (b : Bool) (ds more : List (List ℕ)) → length ds ≡ (if b then 1 else 0) → left_behind b (ds ++ more) ≡ more
+left_is true [] more one = absurd (omega (arith, one))
+left_is true (d ∷ []) more one = refl
+left_is true (c ∷ d ∷ ds) more one = absurd (omega (arith, one))
+left_is false [] more none = refl
+left_is false (d ∷ ds) more none = absurd (omega (arith, none))
+
+first_most : (b : Bool) (ds more : List (List ℕ)) → b ≡ true → length ds ≡ (if b then 1 else 0) → first_size (ds ++ more) ≤ sum_by length ds
+first_most true [] more is one = absurd (omega (arith, one))
+first_most true (d ∷ ds) more is one = let sum = sum_by-cons length d ds in omega (arith, sum)
+first_most false ds more is one = cc
+
+-- what counts for a path behind a call, where it changes or doesn't
+abbrev counted_by : Bool → Bool → Policy → List (List ℕ) → Call → Answer → LoneAllowance → LoneAllowance
+counted_by changed server p theirs call a l =
+    let packets = and_call p theirs call a l.packets in
+    record {
+      packets = packets;
+      route = route_behind server l.packets (news_of l.packets packets) call l.route;
+      left = left_behind (gave a) l.left;
+      came = came_behind changed (is_from l.route call) (bytes_in_call theirs call a) l.came;
+      went = went_behind changed (gave a) (first_size l.left) l.went;
+    }
+
+told_parts : (server : Bool) (p : Policy) (theirs : List (List ℕ)) (call : Call) (a : Answer) (l : LoneAllowance)
+    → lone_told server p theirs call a l ≡ counted_by (not ((route_behind server l.packets (news_of l.packets (and_call p theirs call a l.packets)) call l.route).generation == l.route.generation)) server p theirs call a l
+told_parts server p theirs call a l = go (not (route.generation == l.route.generation))
+  where
+    packets : List Packet
+    packets = and_call p theirs call a l.packets
+
+    route : Route
+    route = route_behind server l.packets (news_of l.packets packets) call l.route
+
+    size : ℕ
+    size = bytes_in_call theirs call a
+
+    go : (b : Bool) → (if b then record { packets = packets; route = route; left = left_behind (gave a) l.left; came = size; went = 0 }
+        else record { packets = packets; route = route; left = left_behind (gave a) l.left; came = l.came + (if is_from l.route call then size else 0); went = l.went + (if gave a then first_size l.left else 0) })
+        ≡ counted_by b server p theirs call a l
+    go true = refl
+    go false = refl
+
+module _ (p : Policy) (hides : KeepsLength p.header.hide) (tags : AddsTag p.packet.seal) (server : Bool) (theirs : List (List ℕ)) (t : TransportSettings) (least : 1200 ≤ t.min_mtu) where
+  -- what holds of an end where so much counts for its path, and which gives these datagrams yet
+  record Holds (x : Lone) (l : LoneAllowance) (ds : List (List ℕ)) : Type 0 where
     keeps : Keeps t x.end
-    received : x.heard.received ≡ saturated came
-    sent : x.heard.sent ≡ saturated went
-    within : x.end.path.validated ≡ false → went ≤ 3 * came
-
-  same : (x y : Lone) (came came' went went' : ℕ) → y ≡ x → came' ≡ came → went' ≡ went → Holds x came went → Holds y came' went'
-  same x y came came' went went' end received sent h = subst (λ (n : ℕ). Holds y came' n) (sym sent) (subst (λ (n : ℕ). Holds y n went) (sym received) (subst (λ (z : Lone). Holds z came went) (sym end) h))
-
-  -- an address that isn't validated behind a call wasn't before
-  unvalidated : (x next : Lone) (call : Call) (a : Answer) → next.end ≡ end_left p x.control x.heard x.end theirs call a → next.end.path.validated ≡ false → x.end.path.validated ≡ false
-  unvalidated x next call a left still = off x.end.path.validated (λ is. both_ways next.end.path.validated still (subst IsValidated (sym left) (call_validated p (reads_window x.control x.heard call x.end) theirs call a (reads call is))))
-    where
-      reads : (c : Call) → IsValidated x.end → IsValidated (reads_window x.control x.heard c x.end)
-      reads (calls.Poll now) is = is
-      reads c is = is
-
-  -- what a call gives
-  abbrev gone : Lone → Call → Answer → List (List ℕ)
-  gone x call a = gives p (reads_window x.control x.heard call x.end) call a
+    knows : Knows ⊥ l.packets x.end
+    side : not (is_client (side_of x.end)) ≡ server
+    route : IsRoute l.route x.end.path
+    left : l.left ≡ ds
+    received : x.heard.received ≡ saturated l.came
+    sent : x.heard.sent ≡ saturated l.went
+    within : x.end.path.validated ≡ false → l.went ≤ 3 * l.came
 
   -- a poll gives no more than may go
-  polled_within : (x next : Lone) (now came went : ℕ) (a : Answer) → IsLoneStep p theirs x (calls.Poll now) a next → fails a ≡ false → x.end.path.validated ≡ false → Holds x came went → went + sum_by length (gone x (calls.Poll now) a) ≤ 3 * came
-  polled_within x next now came went a s served still h = few (subst (GivesLittle e) (sym given) (poll_little p hides tags e now (roomy t e least keeps) still keeps.owes))
+  polled_within : (x : Lone) (now : ℕ) (a : Answer) (l : LoneAllowance) (ds : List (List ℕ)) → IsAnswer p (reads_window x.control x.heard (calls.Poll now) x.end) theirs (calls.Poll now) a → fails a ≡ false → x.end.path.validated ≡ false → Holds x l ds
+      → l.went + sum_by length (gives p (reads_window x.control x.heard (calls.Poll now) x.end) (calls.Poll now) a) ≤ 3 * l.came
+  polled_within x now a l ds is served not_yet h = few (subst (GivesLittle e) (sym given) (poll_little p hides tags e now (roomy t e least keeps) not_yet keeps.owes))
     where
       e : End
       e = reads_window x.control x.heard (calls.Poll now) x.end
@@ -244,60 +300,182 @@ module _ (p : Policy) (hides : KeepsLength p.header.hide) (tags : AddsTag p.pack
       keeps : Keeps t e
       keeps = reads_keeps t x.control x.heard (calls.Poll now) x.end h.keeps
 
-      given : gone x (calls.Poll now) a ≡ given_as (polled p e now).answer (polled p e now).datagram
-      given = ap (λ (b : Answer). gives p e (calls.Poll now) b) (poll_answer p e now a s.answer served) ∙ gives_as p e now (polled p e now).answer
+      gone : List (List ℕ)
+      gone = gives p e (calls.Poll now) a
 
-      few : GivesLittle e (gone x (calls.Poll now) a) → went + sum_by length (gone x (calls.Poll now) a) ≤ 3 * came
-      few (inl none) = let most = h.within still in omega (arith, none, most)
+      given : gone ≡ given_as (polled p e now).answer (polled p e now).datagram
+      given = ap (λ (b : Answer). gives p e (calls.Poll now) b) (poll_answer p e now a is served) ∙ gives_as p e now (polled p e now).answer
+
+      few : GivesLittle e gone → l.went + sum_by length gone ≤ 3 * l.came
+      few (inl none) = let most = h.within not_yet in omega (arith, none, most)
       few (inr (free, small)) =
           let size = keeps.size.size in
           let some : 0 < current_mtu x.end.path = omega (arith, size) in
-          goes_within came x.heard.received went x.heard.sent (sum_by length (gone x (calls.Poll now) a)) (current_mtu x.end.path) h.received h.sent some small (may_go x.end x.heard still free)
+          goes_within l.came x.heard.received l.went x.heard.sent (sum_by length gone) (current_mtu x.end.path) h.received h.sent some small (may_go x.end x.heard not_yet free)
 
   -- and no other call gives anything
-  call_within : (x next : Lone) (call : Call) (came went : ℕ) (a : Answer) → IsLoneStep p theirs x call a next → fails a ≡ false → x.end.path.validated ≡ false → Holds x came went → went + sum_by length (gone x call a) ≤ 3 * came
-  call_within x next (calls.Poll now) came went a s served still h = polled_within x next now came went a s served still h
-  call_within x next call came went a s served still h = let most = h.within still in omega (arith, most)
+  call_within : (x : Lone) (call : Call) (a : Answer) (l : LoneAllowance) (ds : List (List ℕ)) → IsAnswer p (reads_window x.control x.heard call x.end) theirs call a → fails a ≡ false → x.end.path.validated ≡ false → Holds x l ds
+      → l.went + sum_by length (gives p (reads_window x.control x.heard call x.end) call a) ≤ 3 * l.came
+  call_within x (calls.Poll now) a l ds is served not_yet h = polled_within x now a l ds is served not_yet h
+  call_within x call a l ds is served not_yet h = let most = h.within not_yet in omega (arith, most)
 
-  -- one call more
-  holds_next : (x next : Lone) (call : Call) (came went : ℕ) (a : Answer) → IsLoneStep p theirs x call a next → fails a ≡ false → Holds x came went → Holds next (came + bytes_in_call theirs call a) (went + sum_by length (gone x call a))
-  holds_next x next call came went a s served h = record {
-    keeps = subst (Keeps t) (sym left) (call_keeps t p e theirs call a (reads_keeps t x.control x.heard call x.end h.keeps));
-    received = ap (λ (y : Heard). y.received) heard ∙ call_received p e theirs [] theirs (append-nil theirs) x.heard came h.received call a s.answer;
-    sent = ap (λ (y : Heard). y.sent) heard ∙ call_sent p e theirs [] theirs (append-nil theirs) x.heard went h.sent call a s.answer served;
-    within = λ still. (let most = call_within x next call came went a s served (unvalidated x next call a left still) h in omega (arith, most));
-  }
-    where
-      e : End
-      e = reads_window x.control x.heard call x.end
+  module _ (x next : Lone) (call : Call) (a : Answer) (l : LoneAllowance) (more : List (List ℕ)) (s : IsLoneStep p theirs x call a next) (served : fails a ≡ false) (h : Holds x l (gives p (reads_window x.control x.heard call x.end) call a ++ more)) where
+    abbrev e : End
+    e = reads_window x.control x.heard call x.end
 
-      left : next.end ≡ end_left p x.control x.heard x.end theirs call a
-      left = subst (λ (b : Bool). IsLeft b p x.control x.heard x.end theirs call a next.end) served s.end
+    abbrev after : End
+    after = after_call p e theirs call a
 
-      heard : next.heard ≡ heard_by theirs call a x.heard
-      heard = subst (λ (b : Bool). IsHeard b theirs call a x.heard next.heard) served s.heard
+    -- what it gives, and how many bytes the first has that goes
+    abbrev gone : List (List ℕ)
+    gone = gives p e call a
+
+    abbrev size : ℕ
+    size = first_size l.left
+
+    one_gone : length gone ≡ (if gave a then 1 else 0)
+    one_gone = gives_count p theirs e call a s.answer
+
+    left_end : next.end ≡ end_left p x.control x.heard x.end theirs call a
+    left_end = subst (λ (b : Bool). IsLeft b p x.control x.heard x.end theirs call a next.end) served s.end
+
+    heard : next.heard ≡ heard_by x.end next.end theirs call a x.heard
+    heard = subst (λ (b : Bool). IsHeard b x.end next.end theirs call a x.heard next.heard) served s.heard
+
+    -- whatever a call reads
+    reads : (P : End → Type 0) → P x.end → ((window : ℕ) (blocked : Bool) → P (with_blocked (with_window x.end window) blocked)) → P e
+    reads P same shown = go call
+      where
+        go : (c : Call) → P (reads_window x.control x.heard c x.end)
+        go (calls.Poll now) = shown (x.control []) (is_blocked x.end x.heard)
+        go c = same
+
+    knows : Knows ⊥ l.packets e
+    knows = (let k = h.knows in reads (Knows ⊥ l.packets) k (λ window blocked. record { acks = k.acks; taken = k.taken; expected = k.expected; owes = k.owes }))
+
+    side : not (is_client (side_of e)) ≡ server
+    side = reads (λ (y : End). not (is_client (side_of y)) ≡ server) h.side (λ window blocked. h.side)
+
+    on : IsRoute l.route e.path
+    on = reads (λ (y : End). IsRoute l.route y.path) h.route (λ window blocked. h.route)
+
+    -- where its peer is behind the call
+    abbrev route : Route
+    route = route_behind server l.packets (news_of l.packets (and_call p theirs call a l.packets)) call l.route
+
+    route_next : IsRoute route next.end.path
+    route_next = subst (λ (y : End). IsRoute route y.path) (sym left_end) (call_leads ⊥ l.packets p theirs e knows server side l.route on call a s.answer served)
+
+    abbrev changed : Bool
+    changed = not (route.generation == l.route.generation)
+
+    changes : has_moved x.end next.end ≡ changed
+    changes = ap (λ (n : ℕ). not (n == x.end.path.generation)) route_next.1 ∙ ap (λ (n : ℕ). not (route.generation == n)) h.route.1
+
+    -- the path changes by the delivery of a datagram at most
+    still : (is_delivery call ≡ false) ⊎ (a ≡ answers.NoDatagram) → has_moved x.end next.end ≡ false
+    still quiet = changes ∙ ap (λ (r : Route). not (r.generation == l.route.generation)) (route_quiet server l.packets p theirs call a l.route quiet) ∙ ap not (eq-eqb l.route.generation l.route.generation refl)
+
+    -- a poll gives as many bytes as it says
+    said : (now : ℕ) (u : Transmit) → call ≡ calls.Poll now → a ≡ answers.Poll (Ok (Some u)) → size ≡ u.size
+    said now u polls answers_so =
+        let answer : answers.Poll (Ok (Some u)) ≡ answers.Poll (polled p met now).answer = sym answers_so ∙ poll_answer p met now a (subst (λ (c : Call). IsAnswer p (reads_window x.control x.heard c x.end) theirs c a) polls s.answer) served in
+        let this = gives_this p met now u (let same : (polled p met now).answer ≡ Ok (Some u) = cc in same) in
+        ap first_size (h.left
+        ∙ ap (λ (c : Call). gives p (reads_window x.control x.heard c x.end) c a ++ more) polls
+        ∙ ap (λ (b : Answer). gives p met (calls.Poll now) b ++ more) answers_so)
+        ∙ first_given (polled p met now).datagram this.given more this.is
+        ∙ this.size
+      where
+        met : End
+        met = reads_window x.control x.heard (calls.Poll now) x.end
+
+    counts : Counts p e x.end next.end theirs [] theirs (append-nil theirs) x.heard l.came l.went size h.received h.sent call a
+    counts = call_counts p e x.end next.end theirs [] theirs (append-nil theirs) x.heard l.came l.went size h.received h.sent call a s.answer still said
+
+    -- an address that isn't validated behind a call wasn't before, on the same path
+    unvalidated : has_moved x.end next.end ≡ false → next.end.path.validated ≡ false → x.end.path.validated ≡ false
+    unvalidated same not_yet = off x.end.path.validated (λ is. both_ways next.end.path.validated not_yet (ap (λ (y : End). y.path.validated) left_end ∙ call_validated p e theirs call a (reads IsValidated is (λ window blocked. is)) stays))
+      where
+        stays : has_moved e after ≡ false
+        stays = ap (λ (n : ℕ). not (after.path.generation == n)) (reads (λ (y : End). y.path.generation ≡ x.end.path.generation) refl (λ window blocked. refl)) ∙ ap (λ (y : End). has_moved x.end y) (sym left_end) ∙ same
+
+    -- what goes is within the allowance
+    goes_few : gave a ≡ true → x.end.path.validated ≡ false → l.went + size ≤ 3 * l.came
+    goes_few given not_yet =
+        let most = call_within x call a l (gone ++ more) s.answer served not_yet h in
+        let first : size ≤ sum_by length gone = subst (λ (ds : List (List ℕ)). first_size ds ≤ sum_by length gone) (sym h.left) (first_most (gave a) gone more given one_gone) in
+        omega (arith, most, first)
+
+    -- another pacer changes nothing of it
+    keeps_paced : (pacing : Pacing) (y : End) → Keeps t y → Keeps t (with_pacing y pacing)
+    keeps_paced pacing y k = record { kept = k.kept; ids = k.ids; size = k.size; owes = k.owes }
+
+    knows_paced : (packets : List Packet) (pacing : Pacing) (y : End) → Knows ⊥ packets y → Knows ⊥ packets (with_pacing y pacing)
+    knows_paced packets pacing y k = record { acks = k.acks; taken = k.taken; expected = k.expected; owes = k.owes }
+
+    abbrev pacing : Pacing
+    pacing = pacing_left (x.control (tells p e theirs call)) call e after
+
+    holds_next : Holds next (lone_told server p theirs call a l) more
+    holds_next = subst (λ (m : LoneAllowance). Holds next m more) (sym (told_parts server p theirs call a l)) (record {
+      keeps = subst (Keeps t) (sym left_end) (keeps_paced pacing after (call_keeps t p e theirs call a (reads_keeps t x.control x.heard call x.end h.keeps)));
+      knows = subst (Knows ⊥ (and_call p theirs call a l.packets)) (sym left_end) (knows_paced (and_call p theirs call a l.packets) pacing after (call_knows ⊥ l.packets p theirs e call a s.answer served (λ never. absurd never) knows));
+      side = ap (λ (y : End). not (is_client (side_of y))) left_end ∙ ap (λ (z : Side). not (is_client z)) (side_call p e theirs call a s.answer) ∙ side;
+      route = route_next;
+      left = ap (left_behind (gave a)) h.left ∙ left_is (gave a) gone more one_gone;
+      received = ap (λ (y : Heard). y.received) heard ∙ counts.0
+          ∙ ap (λ (b : Bool). saturated (came_behind b (from_there x.end call) (bytes_in_call theirs call a) l.came)) changes
+          ∙ ap (λ (b : Bool). saturated (came_behind changed b (bytes_in_call theirs call a) l.came)) (sym (from_same l.route x.end call (sym h.route.0)));
+      sent = ap (λ (y : Heard). y.sent) heard ∙ counts.1 ∙ ap (λ (b : Bool). saturated (went_behind b (gave a) size l.went)) changes;
+      within = λ not_yet. few_counted changed (is_from l.route call) (gave a) (bytes_in_call theirs call a) size l.came l.went
+          (λ same given. goes_few given (unvalidated (changes ∙ same) not_yet))
+          (λ same. h.within (unvalidated (changes ∙ same) not_yet));
+    })
 
   -- all of them
-  holds_left : (x left : Lone) (cs : List Call) (told : List Answer) (ds : List (List ℕ)) (came went : ℕ) → GivesAlone p theirs x cs told ds left → list_any fails told ≡ false → Holds x came went
-      → Holds left (came + counted (bytes_in_call theirs) cs told) (went + sum_by length ds)
-  holds_left x left [] [] ds came went g served h =
-      let none : sum_by length ds ≡ 0 = ap (sum_by length) g.0 in
-      same x left came (came + 0) went (went + sum_by length ds) g.1 (omega arith) (omega (arith, none)) h
-  holds_left x left [] (b ∷ told) ds came went g served h = absurd g
-  holds_left x left (c ∷ cs) [] ds came went g served h = absurd g
-  holds_left x left (c ∷ cs) (b ∷ told) ds came went g served h =
+  within_left : (x left : Lone) (cs : List Call) (told : List Answer) (ds : List (List ℕ)) (l : LoneAllowance) → GivesAlone p theirs x cs told ds left → list_any fails told ≡ false → Holds x l ds
+      → left.end.path.validated ≡ false → (lone_allowance server p theirs cs told l).went ≤ 3 * (lone_allowance server p theirs cs told l).came
+  within_left x left [] [] ds l g served h not_yet = h.within (ap (λ (y : Lone). y.end.path.validated) (sym g.1) ∙ not_yet)
+  within_left x left [] (b ∷ told) ds l g served h not_yet = absurd g
+  within_left x left (c ∷ cs) [] ds l g served h not_yet = absurd g
+  within_left x left (c ∷ cs) (b ∷ told) ds l g served h not_yet =
       let both = or_parts (fails b) (list_any fails told) served in
-      let sum : sum_by length ds ≡ sum_by length (gone x c b) + sum_by length g.1 = ap (sum_by length) g.3 ∙ sum_by-append length (gone x c b) g.1 in
-      let more = holds_left g.0 left cs told g.1 (came + bytes_in_call theirs c b) (went + sum_by length (gone x c b)) g.4 both.1 (holds_next x g.0 c came went b g.2 both.0 h) in
-      same left left _ _ _ _ refl (omega arith) (omega (arith, sum)) more
+      within_left g.0 left cs told g.1 (lone_told server p theirs c b l) g.4 both.1 (holds_next x g.0 c b l g.1 g.2 both.0 (subst (Holds x l) g.3 h)) not_yet
+
+-- an end as it was made
+module _ (e : End) (new : IsNew e) where
+  -- it serves or doesn't, took nothing, and has its peer where it was told that it is
+  record Begins : Type 0 where
+    knows : Knows ⊥ [] e
+    side : not (is_client (side_of e)) ≡ serves new.side
+    route : IsRoute (record { address = new.remote; generation = 0 }) e.path
+
+  begins : Begins
+  begins = go (parameters_at new.parameters) new.made
+    where
+      served : (side : Side) → not (is_client side) ≡ serves side
+      served Client = refl
+      served Server = refl
+
+      go : (r : Result ParameterValues TransportParametersError) → IsMade new.side new.settings new.windows r new.own_id new.peer_id new.remote new.moment new.validated new.words e → Begins
+      go (Ok theirs) made = record {
+        knows = subst (Knows ⊥ []) (sym made) (record { acks = acks_first; taken = λ k has. absurd has; expected = refl; owes = λ never. absurd never });
+        side = ap (λ (x : End). not (is_client (side_of x))) made ∙ served new.side;
+        route = subst (λ (x : End). IsRoute (record { address = new.remote; generation = 0 }) x.path) (sym made) (refl, refl);
+      }
+      go (Err error) made = absurd made
 
 pub stays_threefold : (p : Policy) (theirs : List (List ℕ)) (x left : Lone) (calls : List Call) (told : List Answer) (given : List (List ℕ)) → StaysThreefold p theirs x calls told given left
-stays_threefold p theirs first left cs told given b hides tags g served still =
-    let nothing : Holds p hides tags theirs (transport_of b.new.settings) b.range.bounds.least first 0 0 = record {
+stays_threefold p theirs first left cs told given b hides tags g served not_yet =
+    let new = begins first.end b.new in
+    within_left p hides tags (serves b.new.side) theirs (transport_of b.new.settings) b.range.bounds.least first left cs told given (no_lone_allowance b.new.remote given) g served (record {
       keeps = made_keeps first.end b.new b.range b.id;
+      knows = new.knows;
+      side = new.side;
+      route = new.route;
+      left = refl;
       received = ap (λ (h : Heard). h.received) b.heard;
       sent = ap (λ (h : Heard). h.sent) b.heard;
       within = λ unvalidated. omega arith;
-    } in
-    let most = (holds_left p hides tags theirs (transport_of b.new.settings) b.range.bounds.least first left cs told given 0 0 g served nothing).within still in
-    omega (arith, most)
+    }) not_yet

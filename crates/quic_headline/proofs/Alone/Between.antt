@@ -24,6 +24,7 @@ use Rattle.quic_machine.specs.CallCases as cases
 use Rattle.quic_machine.specs.Machine.{after_call}
 use Rattle.quic_headline.proofs.Packets.Apart.{by_waits, by_next_id}
 use Rattle.quic_headline.proofs.Packets.Sizes.{Searching, expired_size, polled_search, received_size}
+use Rattle.quic_headline.proofs.Packets.Moved.{by_migrated}
 
 -- a call that hands in no size
 abbrev pub HandsNone : SearchCall → Type 0
@@ -73,7 +74,7 @@ module _ (Q : Discovery → Type 0) (keeps : (call : SearchCall) (d : Discovery)
       keep : Plain p e call Searches
       keep (cases.times now expiry) may = expired_size (λ s. Q s.discovery) searching p.words e now expiry h
       keep (cases.polls now) may = polled_search Q (λ moment number d i. keeps (Polled moment number) d tt i) p e now h
-      keep (cases.hears arrival d) may = received_size (λ s. Q s.discovery) searching (λ f x is i. apart_leaves Searches f x is (λ c. i) (λ c longest. i)) p e arrival d h
+      keep (cases.hears arrival d) may = received_size (λ s. Q s.discovery) searching (λ f x is i. apart_leaves Searches f x is (λ c. i) (λ c longest. i)) (λ q o remote x i. by_migrated Searches q o remote x (λ c. i) (λ c longest. i)) p e arrival d h
       keep (cases.waits now b) may = by_waits Searches b (with_closing e (ticked e.closing now)) h h
       keep (cases.changes_id b) may = by_next_id Searches e b h (λ c. h) (λ c longest. h)
       keep c may = h

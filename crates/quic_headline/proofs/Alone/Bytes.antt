@@ -67,7 +67,7 @@ pub bytes_come : (p : Policy) (theirs : List (List ℕ)) (x left : Lone) (calls 
 bytes_come p theirs x left cs told new f i id k byte call a chunk served at_place at_answer among at =
     let ds : List (List ℕ) = handed_in theirs (take i cs) in
     let came : ℕ → ℕ → ℕ → Type 0 = ByteCame p ds in
-    let here : AtCall p theirs (λ (e : End). HoldsCame came e.streams) call a = at_call p theirs (λ d. In d ds) (λ (e : End). HoldsCame came e.streams) (λ window blocked e h. h)
+    let here : AtCall p theirs (λ (e : End). HoldsCame came e.streams) call a = at_call p theirs (λ d. In d ds) (λ (e : End). HoldsCame came e.streams) (λ window blocked pacing e h. h)
     (λ e c b is hands h. call_came came p e theirs h (λ d. In d ds) (λ d handed g stands. frame_brings p ds e d handed g stands) c b is hands)
     i x left cs told call a f served at_place at_answer (λ d among. among)
     (new_holds (λ (e : End). HoldsCame came e.streams) x.end (λ side settings windows theirs own_id peer_id remote now validated words. (came_first came side settings.max_uni settings.max_bidi settings.send_window settings.receive_window settings.stream_receive_window theirs)) new) in

@@ -34,11 +34,11 @@ keeps_within p theirs x left cs told new f served =
     let s : Settings = new.settings in
     let t : TransportSettings = transport_of s in
     let window : ℕ = s.stream_receive_window in
-    let both : Both s left.end = behind_calls p theirs Any (Both s) (λ shown blocked e h. h)
+    let both : Both s left.end = behind_calls p theirs Any (Both s) (λ shown blocked pacing e h. h)
     (λ e c b is hands h. (call_keeps AnyStream (AreHeld s) (held_keeps s) p e theirs h.0 Any (λ d handed g stands. tt) c b is hands, call_few window e h.0.1.stream_window h.1 p theirs c b is))
     x left cs told f served (λ d among. tt) (made_holds (Both s) x.end new (λ peer. (held_first s new.side peer, λ still. few_first (most_pieces window) new.side s peer))) in
     let held : AreHeld s left.end.streams = both.0 in
-    let kept : KeptAt t left.end = behind_calls p theirs Any (KeptAt t) (λ window blocked e h. h) (λ e c b is hands h. call_kept t p e theirs c b h)
+    let kept : KeptAt t left.end = behind_calls p theirs Any (KeptAt t) (λ window blocked pacing e h. h) (λ e c b is hands h. call_kept t p e theirs c b h)
     x left cs told f served (λ d among. tt) (made_holds (KeptAt t) x.end new (λ peer. kept_first s new.side new.windows peer new.own_id new.peer_id new.remote new.moment new.validated new.words)) in
     record {
       stream = λ id h is. (held.1.halves id h is).seen;

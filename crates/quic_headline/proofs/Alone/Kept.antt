@@ -58,6 +58,7 @@ use Rattle.quic_headline.proofs.Packets.Closes.{by_closes}
 use Rattle.quic_headline.proofs.Packets.Probes.{may_leave}
 use Rattle.quic_headline.proofs.Alone.Asked.{BringsId, brings_id}
 use Rattle.quic_headline.proofs.Alone.Taking.{by_taking}
+use Rattle.quic_headline.proofs.Packets.Moving.{moving_keeps}
 
 -- ---- messages
 
@@ -198,6 +199,15 @@ module _ (settings : TransportSettings) where
       subst (λ (rs : List Run). Kept e.transport e.messages.queues.incoming rs e.ids.peer) (sym (packet_runs noted e.closing.clock n asks e.numbers.opened))
       (record { same = i.same; messages = i.messages; numbers = few_with e.acknowledging.runs n i.numbers; ids = i.ids })
 
+  -- the next id of the peer is used
+  next_kept : (e : End) (a : Answer) → KeptAt e → KeptAt (end_on_next_id e a)
+  next_kept e (answers.UseNextId (Ok done)) i = taken (retires_for_next e.ids)
+    where
+      taken : (o : Option (Range ℕ)) → KeptAt (next_id_taken o e)
+      taken None = i
+      taken (Some r) = fits _ (retiring r (with_ids e (next_used e.ids))) (record { same = i.same; messages = i.messages; numbers = i.numbers; ids = next_window e.ids.peer i.ids })
+  next_kept e a i = i
+
   -- any datagram
   delivery_kept : (p : Policy) (e : End) (arrival : Arrival) (d : List ℕ) → KeptAt e → KeptAt (received p e arrival d).end
   delivery_kept p e arrival d i = by_taking p e arrival d KeptAt (record {
@@ -210,6 +220,7 @@ module _ (settings : TransportSettings) where
     asks_close = λ x j. j;
     exhausts = λ now x j. j;
     draws = λ words x j. j;
+    moves = moving_keeps KeptAt (λ m x j. j) next_kept;
   }) i
 
   -- ---- what goes
@@ -250,15 +261,6 @@ module _ (settings : TransportSettings) where
   message_call e (calls.Send message makes_room) a i = i
   message_call e calls.Recv a i = record { same = i.same; messages = recv_waits settings.datagram_receive_buffer_size e.messages.queues.incoming i.messages; numbers = i.numbers; ids = i.ids }
   message_call e call a i = i
-
-  -- the next id of the peer is used
-  next_kept : (e : End) (a : Answer) → KeptAt e → KeptAt (end_on_next_id e a)
-  next_kept e (answers.UseNextId (Ok done)) i = taken (retires_for_next e.ids)
-    where
-      taken : (o : Option (Range ℕ)) → KeptAt (next_id_taken o e)
-      taken None = i
-      taken (Some r) = fits _ (retiring r (with_ids e (next_used e.ids))) (record { same = i.same; messages = i.messages; numbers = i.numbers; ids = next_window e.ids.peer i.ids })
-  next_kept e a i = i
 
   -- any call
   pub call_kept : (p : Policy) (e : End) (theirs : List (List ℕ)) (call : Call) (a : Answer) → KeptAt e → KeptAt (after_call p e theirs call a)

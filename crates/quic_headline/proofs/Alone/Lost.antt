@@ -5,15 +5,14 @@ use Rattle.std.specs.Prelude.{slice_get, option_map, if◌then◌else◌}
 use Rattle.std.specs.List.{list_any}
 use Rattle.std.proofs.lemmas.Bool.{or_parts}
 use Rattle.quic_packet.specs.Header.{key_phase}
-use Rattle.quic_packet.specs.Destination.{decoded, fixed_length_id}
 use Rattle.quic_packet.specs.Datagram.{Opening}
-use Rattle.quic_packet.specs.declared.packet.HeaderError.{HeaderError}
 use Rattle.quic_recovery_core.specs.Duplicates.{is_duplicate}
 use Rattle.quic_spaces.specs.Numbers.{number_opened}
 use Rattle.quic_streams_parts.specs.declared.answers.StreamEvent.{StreamEvent}
 use Rattle.quic_time.specs.Timers.{has_come}
 use Rattle.quic_machine.specs.declared.answers.State.{State}
 use Rattle.quic_machine.specs.declared.answers.State.TheVariants as states
+use Rattle.quic_machine.specs.declared.answers.DropReason.{DropReason}
 use Rattle.quic_machine.specs.declared.answers.DropReason.TheVariants as drops
 use Rattle.quic_machine.specs.declared.answers.LostReason.{LostReason}
 use Rattle.quic_machine.specs.declared.answers.Event.TheVariants as events
@@ -25,11 +24,10 @@ use Rattle.quic_machine.specs.Arrival.{Arrival, delivered_by, injected_by}
 use Rattle.quic_machine.specs.Policy.{Policy}
 use Rattle.quic_machine.specs.Control.{Control}
 use Rattle.quic_machine.specs.Heard.{Heard}
-use Rattle.quic_machine.specs.Ids.{known}
 use Rattle.quic_machine.specs.Closing.{Closing, ticked, loss_to_tell, after_told}
 use Rattle.quic_machine.specs.End.{End, with_closing, with_numbers}
-use Rattle.quic_machine.specs.Opens.{own_id_length, would_open}
-use Rattle.quic_machine.specs.Receive.{dropped, by_state, opened_to, opened_as, opening, unopened_in, headed, received_in, is_read, drawn_if}
+use Rattle.quic_machine.specs.Opens.{head, would_open}
+use Rattle.quic_machine.specs.Receive.{dropped, by_state, opened_to, opened_as, opening, unopened_in, headed, received_in, is_read, drawn_if, with_ids_drawn, has_migrated}
 use Rattle.quic_machine.specs.Poll.{Polled, polled_in}
 use Rattle.quic_machine.specs.Timeouts.{timed_out_in}
 use Rattle.quic_machine.specs.Calls.{closed_in, tells_of, streams_told, tells_message, end_tells, closing_told, message_told, others_told, end_after_event}
@@ -38,6 +36,7 @@ use Rattle.quic_headline.specs.Alone.{Lone, IsLoneStep, IsNew, FollowsAlone}
 use Rattle.quic_headline.specs.FewEvents.{lost_in, counted}
 use Rattle.quic_headline.specs.Reasons.{Explains}
 use Rattle.quic_headline.proofs.Packets.Apart.{by_waits, by_next_id}
+use Rattle.quic_headline.proofs.Packets.Moved.{by_migrated_if}
 use Rattle.quic_headline.proofs.Packets.Closes.{by_closes}
 use Rattle.quic_headline.proofs.Causes.Reasons.{IsExplained, call_keeps}
 use Rattle.quic_headline.proofs.Alone.Places.{made_holds}
@@ -78,9 +77,12 @@ module _ (e : End) (i : IsOver e.closing) where
 
   packet_over : (o : Option Opening) (p : Policy) (arrival : Arrival) → IsOver (opened_as o p arrival e).end.closing
   packet_over None p arrival = unopened_over e.closing.state refl arrival.last arrival
-  packet_over (Some o) p arrival = drawn_over (is_read (opened_to o arrival e).answer) p (opened_to o arrival e).end (opened_over o arrival)
+  packet_over (Some o) p arrival =
+      let out = with_ids_drawn p (opened_to o arrival e) in
+      let over = drawn_over (is_read (opened_to o arrival e).answer) p (opened_to o arrival e).end (opened_over o arrival) in
+      by_migrated_if (λ (x : End). IsOver x.closing) p o arrival.remote out.end (λ c. over) (λ c most. over) (has_migrated o arrival.remote e out) over
 
-  headed_over : (r : Result (List ℕ) HeaderError) (p : Policy) (arrival : Arrival) (d : List ℕ) → IsOver (headed r p e arrival d).end.closing
+  headed_over : (r : Result (List ℕ) DropReason) (p : Policy) (arrival : Arrival) (d : List ℕ) → IsOver (headed r p e arrival d).end.closing
   headed_over (Err error) p arrival d = i
   headed_over (Ok id) p arrival d = packet_over (opening p e d) p arrival
 
@@ -88,8 +90,8 @@ module _ (e : End) (i : IsOver e.closing) where
   received_over : (s : State) (p : Policy) (arrival : Arrival) (d : List ℕ) → IsOver (received_in s p e arrival d).end.closing
   received_over states.Failed p arrival d = i
   received_over states.Drained p arrival d = i
-  received_over states.Open p arrival d = headed_over (decoded (fixed_length_id own_id_length) (known e.ids) d) p arrival d
-  received_over states.Closing p arrival d = headed_over (decoded (fixed_length_id own_id_length) (known e.ids) d) p arrival d
+  received_over states.Open p arrival d = headed_over (head e arrival.remote d) p arrival d
+  received_over states.Closing p arrival d = headed_over (head e arrival.remote d) p arrival d
 
   delivered_over : (o : Option (List ℕ)) (p : Policy) (arrival : Arrival) → IsOver (after_delivered p e arrival o).closing
   delivered_over None p arrival = i
@@ -225,10 +227,10 @@ module _ (p : Policy) (theirs : List (List ℕ)) where
     met_has P i = subst P (sym (reads_closing x.control x.heard call x.end)) i
 
     -- what it leaves where it doesn't fail
-    left_has : (P : End → Type 0) → fails a ≡ false → P (after_call p met theirs call a) → P next.end
+    left_has : (P : Closing → Type 0) → fails a ≡ false → P (after_call p met theirs call a).closing → P next.end.closing
     left_has P served i = (
         let left : next.end ≡ end_left p x.control x.heard x.end theirs call a = subst (λ (b : Bool). IsLeft b p x.control x.heard x.end theirs call a next.end) served s.end in
-        subst P (sym left) i)
+        subst (λ (e : End). P e.closing) (sym left) i)
 
   -- once it was told, it is told no more
   none_lost : (i : ℕ) (x left : Lone) (cs : List Call) (told : List Answer) → FollowsAlone p theirs x cs told left → list_any fails (take i told) ≡ false → IsOver x.end.closing → counted lost_in (take i cs) (take i told) ≡ 0
@@ -240,7 +242,7 @@ module _ (p : Policy) (theirs : List (List ℕ)) where
       let both = or_parts (fails b) (list_any fails (take i told)) served in
       let here : IsOver (met x f.0 c b f.1).closing = met_has x f.0 c b f.1 IsOver over in
       let first = call_none p (met x f.0 c b f.1) theirs c b f.1.answer here in
-      let others = none_lost i f.0 left cs told f.2 both.1 (left_has x f.0 c b f.1 (λ (e : End). IsOver e.closing) both.0 (call_over p (met x f.0 c b f.1) theirs c b here)) in
+      let others = none_lost i f.0 left cs told f.2 both.1 (left_has x f.0 c b f.1 IsOver both.0 (call_over p (met x f.0 c b f.1) theirs c b here)) in
       omega arith
 
   -- and before that it may be told once
@@ -252,12 +254,12 @@ module _ (p : Policy) (theirs : List (List ℕ)) where
   once_lost (suc i) x left (c ∷ cs) (b ∷ told) f served explained =
       let both = or_parts (fails b) (list_any fails (take i told)) served in
       let here : IsExplained (met x f.0 c b f.1) = met_has x f.0 c b f.1 (λ (y : Closing). Explains y.state y.reason) explained in
-      let later = once_lost i f.0 left cs told f.2 both.1 (left_has x f.0 c b f.1 IsExplained both.0 (call_keeps p (met x f.0 c b f.1) theirs c b here)) in
+      let later = once_lost i f.0 left cs told f.2 both.1 (left_has x f.0 c b f.1 (λ (y : Closing). Explains y.state y.reason) both.0 (call_keeps p (met x f.0 c b f.1) theirs c b here)) in
       elim (call_lost p (met x f.0 c b f.1) theirs c b f.1.answer here) [
         | inl none ↦ omega arith
         | inr over ↦ (
             let first = lost_one c b in
-            let others = none_lost i f.0 left cs told f.2 both.1 (left_has x f.0 c b f.1 (λ (e : End). IsOver e.closing) both.0 over) in
+            let others = none_lost i f.0 left cs told f.2 both.1 (left_has x f.0 c b f.1 IsOver both.0 over) in
             omega arith)
       ]
 

@@ -21,6 +21,7 @@ use Rattle.quic_machine.specs.Receive.{received}
 use Rattle.quic_machine.specs.Machine.{says_last, after_delivered, after_call}
 use Rattle.quic_headline.specs.Runs.{In}
 use Rattle.quic_headline.specs.Alone.{Lone, IsNew, FollowsAlone, MessageCame, MessagesCame, handed_in}
+use Rattle.quic_headline.proofs.Packets.Moved.{by_migrated}
 use Rattle.quic_headline.proofs.Packets.Closes.{by_closes}
 use Rattle.quic_headline.proofs.Packets.Probes.{may_leave}
 use Rattle.quic_headline.proofs.Places.Told.{in_append}
@@ -116,6 +117,7 @@ module _ (came : List ℕ → Type 0) where
       asks_close = λ x j. j;
       exhausts = λ now x j. j;
       draws = λ words x j. j;
+      moves = λ q o remote x j. by_migrated (λ (y : End). P y.messages.queues) q o remote x (λ c. j) (λ c most. j);
     }) i
 
     -- any call, where those of what is handed in did
@@ -145,7 +147,7 @@ pub messages_come : (p : Policy) (theirs : List (List ℕ)) (x left : Lone) (cal
 messages_come p theirs x left cs told new f i message served at_place at_answer =
     let ds : List (List ℕ) = handed_in theirs (take i cs) in
     let came : List ℕ → Type 0 = MessageCame p ds in
-    let here : AtCall p theirs (λ (e : End). HaveCome came e.messages.queues) calls.Recv (answers.Recv (Some message)) = at_call p theirs (λ d. In d ds) (λ (e : End). HaveCome came e.messages.queues) (λ window blocked e h. h)
+    let here : AtCall p theirs (λ (e : End). HaveCome came e.messages.queues) calls.Recv (answers.Recv (Some message)) = at_call p theirs (λ d. In d ds) (λ (e : End). HaveCome came e.messages.queues) (λ window blocked pacing e h. h)
     (λ e c b is hands h. call_came came p e theirs h (λ d. In d ds) (λ d handed m stands. frame_brings p ds e d handed m stands) c b hands)
     i x left cs told calls.Recv (answers.Recv (Some message)) f served at_place at_answer (λ d among. among)
     (new_holds (λ (e : End). HaveCome came e.messages.queues) x.end (λ side settings windows theirs own_id peer_id remote now validated words m among. absurd among) new) in

@@ -10,9 +10,7 @@ use Rattle.quic_wire.specs.Value.{FrameValue, StreamValue}
 use Rattle.quic_wire.specs.Items.{items}
 use Rattle.quic_wire.specs.declared.frame.InvalidFrame.{InvalidFrame}
 use Rattle.quic_packet.specs.Header.{key_phase, reserved_bits}
-use Rattle.quic_packet.specs.Destination.{decoded, fixed_length_id}
 use Rattle.quic_packet.specs.Datagram.{Opening}
-use Rattle.quic_packet.specs.declared.packet.HeaderError.{HeaderError}
 use Rattle.quic_config.specs.Transport.{Settings}
 use Rattle.quic_parameters.specs.Parameters.{ParameterValues}
 use Rattle.quic_sets.specs.Parts.{Part, start}
@@ -40,20 +38,21 @@ use Rattle.quic_streams_laws.specs.StartLaws.{shape_new, shape_set_params}
 use Rattle.quic_streams_laws.specs.ShapeLaws.{sends_with}
 use Rattle.quic_machine.specs.declared.answers.State.{State}
 use Rattle.quic_machine.specs.declared.answers.State.TheVariants as states
+use Rattle.quic_machine.specs.declared.answers.DropReason.{DropReason}
 use Rattle.quic_machine.specs.declared.answers.DropReason.TheVariants as drops
 use Rattle.quic_machine.specs.declared.run.Call.{Call}
 use Rattle.quic_machine.specs.declared.run.Call.TheVariants as calls
 use Rattle.quic_machine.specs.declared.run.Answer.{Answer}
 use Rattle.quic_machine.specs.Arrival.{Arrival, delivered_by}
 use Rattle.quic_machine.specs.Policy.{Policy}
-use Rattle.quic_machine.specs.Ids.{known}
-use Rattle.quic_machine.specs.Opens.{own_id_length}
+use Rattle.quic_machine.specs.Opens.{head}
 use Rattle.quic_machine.specs.Calls.{is_open}
 use Rattle.quic_machine.specs.End.{End, with_numbers, first_streams}
-use Rattle.quic_machine.specs.Receive.{Fault, broke, too_many_pieces, closed_by_peer, fault_of, violation, is_empty, asks_in, is_urged, take_frame, unless_fault, take_items, take_payload, dropped, ends_as, by_state, opened_to, opened_as, opening, unopened_in, headed, received_in, received, is_read, drawn_if}
+use Rattle.quic_machine.specs.Receive.{Fault, broke, too_many_pieces, closed_by_peer, fault_of, violation, is_empty, asks_in, is_urged, take_frame, unless_fault, take_items, take_payload, dropped, ends_as, by_state, opened_to, opened_as, opening, unopened_in, headed, received_in, received, is_read, items_taken, drawn_if, with_ids_drawn, has_migrated}
 use Rattle.quic_machine.specs.Machine.{IsAnswer, says_last, after_delivered, after_call}
 use Rattle.quic_machine.specs.CallCases.{is_delivery}
 use Rattle.quic_machine.specs.FrameCases.{begun}
+use Rattle.quic_headline.proofs.Packets.Moved.{by_migrated_if}
 use Rattle.quic_headline.proofs.Halves.QuietSteps.{frame_quiet}
 use Rattle.quic_headline.proofs.Causes.Shown.{call_closes}
 use Rattle.quic_headline.proofs.Causes.Window.{HasWindow, frame_window}
@@ -238,8 +237,10 @@ module _ (window : ℕ) where
     state_few : (state : State) → e.closing.state ≡ state → (o : Opening) (arrival : Arrival) → WhileOpen (by_state state o arrival (with_numbers e (number_opened e.numbers o.number))).end
     state_few states.Open here o arrival =
         let begins = begun e arrival.now o.number in
-        let taken = take_payload o.first (items o.payload) begins in
-        ends_few taken.fault (asks_in (items o.payload)) (is_urged arrival.mark (items o.payload) begins) o.number arrival.mark taken.end (payload_few o.first (items o.payload) begins same (i (ap is_open here)))
+        let asks = asks_in (items o.payload) in
+        let is = items_taken o arrival e in
+        let taken = take_payload o.first is begins in
+        ends_few taken.fault asks (is_urged arrival.mark asks is begins) o.number arrival.mark taken.end (payload_few o.first is begins same (i (ap is_open here)))
     state_few states.Closing here o arrival = i
     state_few states.Drained here o arrival = i
     state_few states.Failed here o arrival = i
@@ -266,21 +267,24 @@ module _ (window : ℕ) where
 
     packet_few : (o : Option Opening) (p : Policy) (arrival : Arrival) → WhileOpen (opened_as o p arrival e).end
     packet_few None p arrival = unopened_few e.closing.state arrival.last arrival
-    packet_few (Some o) p arrival = drawn_few (is_read (opened_to o arrival e).answer) p (opened_to o arrival e).end (opened_few o arrival)
+    packet_few (Some o) p arrival =
+        let out = with_ids_drawn p (opened_to o arrival e) in
+        let few = drawn_few (is_read (opened_to o arrival e).answer) p (opened_to o arrival e).end (opened_few o arrival) in
+        by_migrated_if WhileOpen p o arrival.remote out.end (λ c. few) (λ c most. few) (has_migrated o arrival.remote e out) few
 
     -- any datagram
     received_few : (p : Policy) (arrival : Arrival) (d : List ℕ) → WhileOpen (received p e arrival d).end
     received_few p arrival d = go e.closing.state
       where
-        headed_few : (r : Result (List ℕ) HeaderError) → WhileOpen (headed r p e arrival d).end
+        headed_few : (r : Result (List ℕ) DropReason) → WhileOpen (headed r p e arrival d).end
         headed_few (Err error) = i
         headed_few (Ok id) = packet_few (opening p e d) p arrival
 
         go : (state : State) → WhileOpen (received_in state p e arrival d).end
         go states.Failed = i
         go states.Drained = i
-        go states.Open = headed_few (decoded (fixed_length_id own_id_length) (known e.ids) d)
-        go states.Closing = headed_few (decoded (fixed_length_id own_id_length) (known e.ids) d)
+        go states.Open = headed_few (head e arrival.remote d)
+        go states.Closing = headed_few (head e arrival.remote d)
 
     -- ---- any call
 

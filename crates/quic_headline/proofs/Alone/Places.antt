@@ -6,15 +6,16 @@ use Rattle.std.specs.List.{list_any}
 use Rattle.std.proofs.lemmas.Bool.{or_parts}
 use Rattle.quic_parameters.specs.Parameters.{ParameterValues}
 use Rattle.quic_parameters.specs.ParametersRead.{parameters_at}
+use Rattle.quic_congestion.specs.Pacer.{Pacing}
 use Rattle.quic_machine.specs.declared.run.Call.{Call}
 use Rattle.quic_machine.specs.declared.run.Call.TheVariants as calls
 use Rattle.quic_machine.specs.declared.run.Answer.{Answer}
 use Rattle.quic_machine.specs.Policy.{Policy}
-use Rattle.quic_machine.specs.Control.{Control}
+use Rattle.quic_machine.specs.Control.{Control, with_pacing}
 use Rattle.quic_machine.specs.Heard.{Heard}
 use Rattle.quic_machine.specs.End.{End, with_window, new_end, IsMade}
 use Rattle.quic_machine.specs.Validation.{with_blocked}
-use Rattle.quic_machine.specs.Machine.{IsAnswer, IsLeft, after_call, reads_window, end_left, fails}
+use Rattle.quic_machine.specs.Machine.{IsAnswer, IsLeft, after_call, reads_window, pacing_left, end_left, tells, fails}
 use Rattle.quic_headline.specs.Runs.{In}
 use Rattle.quic_headline.specs.Alone.{Lone, IsLoneStep, IsNew, FollowsAlone, handed_in}
 
@@ -56,18 +57,21 @@ pub record AtCall (p : Policy) (theirs : List (List ℕ)) (P : End → Type 0) (
   pub answer : IsAnswer p end theirs call a
 
 module _ (p : Policy) (theirs : List (List ℕ)) (H : List ℕ → Type 0) (P : End → Type 0)
-    (shows : (window : ℕ) (blocked : Bool) (e : End) → P e → P (with_blocked (with_window e window) blocked))
+    (shows : (window : ℕ) (blocked : Bool) (pacing : Pacing) (e : End) → P e → P (with_pacing (with_blocked (with_window e window) blocked) pacing))
     (step : (e : End) (call : Call) (a : Answer) → IsAnswer p e theirs call a → Hands theirs H call → P e → P (after_call p e theirs call a)) where
   -- whatever a call reads
   reads_holds : (control : Control) (heard : Heard) (call : Call) (e : End) → P e → P (reads_window control heard call e)
-  reads_holds control heard (calls.Poll now) e i = shows _ _ e i
+  reads_holds control heard (calls.Poll now) e i = shows _ _ e.path.pacing e i
   reads_holds control heard call e i = i
 
   -- behind a call that doesn't fail
   next_holds : (x next : Lone) (call : Call) (a : Answer) → IsLoneStep p theirs x call a next → fails a ≡ false → Hands theirs H call → P x.end → P next.end
   next_holds x next call a s served hands i =
       let left : next.end ≡ end_left p x.control x.heard x.end theirs call a = subst (λ (b : Bool). IsLeft b p x.control x.heard x.end theirs call a next.end) served s.end in
-      subst P (sym left) (step (reads_window x.control x.heard call x.end) call a s.answer hands (reads_holds x.control x.heard call x.end i))
+      let met : End = reads_window x.control x.heard call x.end in
+      let behind : End = after_call p met theirs call a in
+      let paced : Pacing = pacing_left (x.control (tells p met theirs call)) call met behind in
+      subst P (sym left) (shows behind.path.window behind.path.blocked paced behind (step met call a s.answer hands (reads_holds x.control x.heard call x.end i)))
 
   pub at_call : (i : ℕ) (x left : Lone) (cs : List Call) (told : List Answer) (call : Call) (a : Answer) → FollowsAlone p theirs x cs told left → list_any fails (take i told) ≡ false → slice_get cs i ≡ Some call → slice_get told i ≡ Some a
       → ((d : List ℕ) → In d (handed_in theirs (take i cs)) → H d) → P x.end → AtCall p theirs P call a

@@ -8,6 +8,7 @@ use Rattle.quic_parameters.specs.ParametersRead.{parameters_at}
 use Rattle.quic_parameters.specs.declared.transport_parameters.id.TransportParameterId.TheVariants.{InitialMaxData, InitialMaxStreamDataBidiLocal, InitialMaxStreamDataBidiRemote, InitialMaxStreamDataUni}
 use Rattle.quic_parameters.specs.declared.transport_parameters.error.TransportParametersError.{TransportParametersError}
 use Rattle.quic_config.specs.Transport.{Settings}
+use Rattle.quic_congestion.specs.Pacer.{Pacing}
 use Rattle.quic_streams_parts.specs.Table.{Table}
 use Rattle.quic_streams_state.specs.State.{Streams}
 use Rattle.quic_streams_laws.specs.GoesLaws.{Holding}
@@ -17,25 +18,26 @@ use Rattle.quic_machine.specs.declared.run.Call.TheVariants as calls
 use Rattle.quic_machine.specs.declared.run.Answer.{Answer}
 use Rattle.quic_machine.specs.Arrival.{Arrival}
 use Rattle.quic_machine.specs.Policy.{Policy}
-use Rattle.quic_machine.specs.Control.{Control}
-use Rattle.quic_machine.specs.Heard.{Heard}
+use Rattle.quic_machine.specs.Control.{with_pacing}
+use Rattle.quic_machine.specs.Validation.{with_blocked}
 use Rattle.quic_machine.specs.Parts.{Windows}
 use Rattle.quic_machine.specs.Closing.{close_asked}
 use Rattle.quic_machine.specs.Tracking.{TrackedPacket, acked_by}
-use Rattle.quic_machine.specs.IdFrames.{drawn}
-use Rattle.quic_machine.specs.End.{End, IsMade, new_end, streams_at, closed_by, with_closing, with_numbers}
+use Rattle.quic_machine.specs.IdFrames.{drawn, end_on_next_id}
+use Rattle.quic_machine.specs.End.{End, IsMade, new_end, streams_at, closed_by, with_closing, with_numbers, with_window}
 use Rattle.quic_spaces.specs.Numbers.{number_opened}
 use Rattle.quic_machine.specs.Receive.{Progress, is_above, names_ungiven, take_frame, after_taken, drained_at, exhausted, received}
 use Rattle.quic_machine.specs.FrameCases.{named, ack_taken, begun, apart_leaves}
 use Rattle.quic_machine.specs.StreamCalls.{is_on_streams}
 use Rattle.quic_machine.specs.PollCases.{ready_at}
 use Rattle.quic_machine.specs.CallCases.{is_delivery}
-use Rattle.quic_machine.specs.Machine.{IsAnswer, after_call, reads_window, gave, fails}
+use Rattle.quic_machine.specs.Machine.{IsAnswer, after_call, gave, fails}
 use Rattle.quic_headline.specs.Runs.{In, names}
 use Rattle.quic_headline.specs.Observer.{Sent}
 use Rattle.quic_headline.specs.Headline.{CodeIsSmall}
 use Rattle.quic_headline.specs.Alone.{IsNew}
 use Rattle.quic_headline.proofs.Packets.Invariant.{AreTracked}
+use Rattle.quic_headline.proofs.Packets.Apart.{by_next_id}
 use Rattle.quic_headline.proofs.Packets.Named.{IsCarriedBy, CarryIf, in_filter, tracked_carried, named_on, frame_fewer, by_frame}
 use Rattle.quic_headline.proofs.Packets.Ascending.{Ascends, ascends_call, ascends_received}
 use Rattle.quic_headline.proofs.Packets.TrackedSteps.{tracked_step}
@@ -52,8 +54,8 @@ use Rattle.quic_headline.proofs.Halves.Says.{CarriedSays, SentSay, says_grow, se
 use Rattle.quic_headline.proofs.Halves.Writes.{Writes}
 use Rattle.quic_headline.proofs.Halves.Writer.{poll_says, call_writes, call_grows, first_keeping}
 use Rattle.quic_headline.proofs.Halves.Arrives.{frame_leaves, settles_by}
-use Rattle.quic_headline.proofs.Halves.KnownIds.{AreWritten, frame_written, call_written}
-use Rattle.quic_headline.proofs.Halves.PileSteps.{HoldsAll, again_all, one_holds, drawn_holds}
+use Rattle.quic_headline.proofs.Halves.KnownIds.{AreWritten, frame_written, next_id_written, call_written}
+use Rattle.quic_headline.proofs.Halves.PileSteps.{HoldsAll, again_all, one_holds, next_holds, drawn_holds}
 use Rattle.quic_headline.proofs.Halves.PileCalls.{step_holds}
 use Rattle.quic_headline.proofs.Halves.PilePolls.{ready_holds}
 use Rattle.quic_headline.proofs.Halves.Ready.{waits_of, first_holds}
@@ -61,6 +63,7 @@ use Rattle.quic_headline.proofs.Halves.DataLimit.{HasSmallLimit, small_words, sm
 use Rattle.quic_headline.proofs.Halves.WordsCalls.{call_keeps}
 use Rattle.quic_headline.proofs.Alone.Taking.{by_taking}
 use Rattle.quic_headline.proofs.Alone.Numbers.{AreSmall, brings_small}
+use Rattle.quic_headline.proofs.Packets.Moving.{with_on_path, moving_keeps}
 
 -- what an end holds, on whose streams this was done, and which sent this
 record Held (done : ℕ → Wrote) (sents : List Sent) (e : End) : Type 0 where
@@ -123,6 +126,16 @@ module _ (done : ℕ → Wrote) (sents : List Sent) (says : SentSay done sents) 
   drawn_held : (words : ℕ → ℕ) (x : End) → Held done sents x → Held done sents (drawn words x)
   drawn_held words x h = record { writes = (let w = h.writes in record { keeps = w.keeps; waits = w.waits }); tracked = h.tracked; all = drawn_holds words x h.all; peer = h.peer; limit = h.limit }
 
+  -- and so does the next id of the peer
+  next_held : (x : End) (a : Answer) → Held done sents x → Held done sents (end_on_next_id x a)
+  next_held x a h = record {
+    writes = (let w = h.writes in by_next_id (λ (y : End). Writes done (streams_at y)) x a w (λ c. record { keeps = w.keeps; waits = w.waits }) (λ c most. record { keeps = w.keeps; waits = w.waits }));
+    tracked = by_next_id (λ (y : End). AreTracked sents y.tracking.packets) x a h.tracked (λ c. h.tracked) (λ c most. h.tracked);
+    all = next_holds x a h.peer h.all;
+    peer = next_id_written x a h.peer;
+    limit = by_next_id (λ (y : End). HasSmallLimit y.streams) x a h.limit (λ c. h.limit) (λ c most. h.limit);
+  }
+
   -- so does any datagram
   received_held : (p : Policy) (e : End) (arrival : Arrival) (d : List ℕ) → Held done sents e → Held done sents (received p e arrival d).end
   received_held p e arrival d h = by_taking p e arrival d (Held done sents) (record {
@@ -135,6 +148,7 @@ module _ (done : ℕ → Wrote) (sents : List Sent) (says : SentSay done sents) 
     asks_close = λ x j. same_held x (with_closing x (close_asked x.closing)) refl refl refl j;
     exhausts = λ now x j. same_held x (exhausted now x) refl refl refl j;
     draws = drawn_held;
+    moves = moving_keeps (Held done sents) (λ m x j. same_held x (with_on_path x m) refl refl refl j) next_held;
   }) h
 
 pub received_sendable : (p : Policy) (e : End) (arrival : Arrival) (d : List ℕ) → Sendable e → Sendable (received p e arrival d).end
@@ -182,15 +196,14 @@ module _ (p : Policy) (e : End) (theirs : List (List ℕ)) (call : Call) (a : An
   }
 
 -- whatever a call reads
-pub reads_sendable : (control : Control) (heard : Heard) (call : Call) (e : End) → Sendable e → Sendable (reads_window control heard call e)
-reads_sendable control heard (calls.Poll now) e s = record {
+pub shown_sendable : (window : ℕ) (blocked : Bool) (pacing : Pacing) (e : End) → Sendable e → Sendable (with_pacing (with_blocked (with_window e window) blocked) pacing)
+shown_sendable window blocked pacing e s = record {
   done = s.done;
   sents = s.sents;
   says = s.says;
-  held = same_held s.done s.sents s.says e (reads_window control heard (calls.Poll now) e) refl refl refl s.held;
+  held = same_held s.done s.sents s.says e (with_pacing (with_blocked (with_window e window) blocked) pacing) refl refl refl s.held;
   ascends = s.ascends;
 }
-reads_sendable control heard call e s = s
 
 -- ---- a poll
 

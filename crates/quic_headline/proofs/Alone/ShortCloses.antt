@@ -28,6 +28,7 @@ use Rattle.quic_machine.specs.InjectionCases.{by_injection}
 use Rattle.quic_machine.specs.LeaveCases.{by_expired, by_expiry, by_event}
 use Rattle.quic_machine.specs.Machine.{says_last, after_call, after_delivered}
 use Rattle.quic_headline.proofs.Packets.Apart.{by_waits, by_next_id}
+use Rattle.quic_headline.proofs.Packets.Moved.{by_migrated}
 use Rattle.quic_headline.proofs.Packets.Closes.{by_closes}
 use Rattle.quic_headline.proofs.Packets.Probes.{may_leave}
 
@@ -142,6 +143,7 @@ call_owes p e theirs (calls.Deliver delivery) a i = go (slice_get theirs deliver
       asks_close = λ x j. j;
       exhausts = λ now x j. error_owes reasons.KeyLimit (with_closing x (ticked x.closing now));
       draws = λ words x j. j;
+      moves = λ q o remote x j. by_migrated OwesShort q o remote x (λ c. j) (λ c most. j);
     }) p e (delivered_by (says_last a) delivery) d i
 call_owes p e theirs (calls.Inject injection) a i = by_injection p e (says_last a) injection OwesShort i (λ now. error_owes reasons.KeyLimit (with_closing e (ticked e.closing now)))
 call_owes p e theirs calls.Event a i = by_event e OwesShort i (λ told. i)

@@ -24,6 +24,7 @@ use Rattle.quic_headline.proofs.Packets.Named.{in_filter}
 use Rattle.quic_headline.proofs.Packets.OfPeer.{Of, peer_frame, peer_taken_up, peer_shortened, peer_call}
 use Rattle.quic_headline.proofs.Alone.Asked.{BringsId, brings_id}
 use Rattle.quic_headline.proofs.Alone.Taking.{by_taking}
+use Rattle.quic_headline.proofs.Packets.Moving.{moving_keeps}
 
 -- ---- the ids that are known
 
@@ -86,6 +87,7 @@ received_short p e arrival d k = by_taking p e arrival d (Of AreShort) (record {
   asks_close = λ x j. j;
   exhausts = λ now x j. j;
   draws = λ words x j. j;
+  moves = moving_keeps (Of AreShort) (λ m x j. j) next_id;
 }) k
 
 -- any call keeps them short

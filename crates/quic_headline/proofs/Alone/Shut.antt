@@ -11,14 +11,13 @@ use Rattle.quic_wire.specs.Close.{CloseValue}
 use Rattle.quic_wire.specs.declared.frame.InvalidFrame.{InvalidFrame}
 use Rattle.quic_packet.specs.Header.{key_phase, reserved_bits}
 use Rattle.quic_packet.specs.Datagram.{Opening}
-use Rattle.quic_packet.specs.Destination.{decoded, fixed_length_id}
-use Rattle.quic_packet.specs.declared.packet.HeaderError.{HeaderError}
 use Rattle.quic_recovery_core.specs.Duplicates.{is_duplicate}
 use Rattle.quic_spaces.specs.Numbers.{can_number, cut_against, expected, number_opened}
 use Rattle.quic_time.specs.Timers.{has_come}
 use Rattle.quic_machine.specs.Arrival.{Arrival, delivered_by, injected_by}
 use Rattle.quic_machine.specs.declared.answers.State.{State}
 use Rattle.quic_machine.specs.declared.answers.State.TheVariants as states
+use Rattle.quic_machine.specs.declared.answers.DropReason.{DropReason}
 use Rattle.quic_machine.specs.declared.answers.DropReason.TheVariants as drops
 use Rattle.quic_machine.specs.declared.answers.LostReason.{LostReason}
 use Rattle.quic_machine.specs.declared.answers.LostReason.TheVariants as reasons
@@ -33,15 +32,16 @@ use Rattle.quic_machine.specs.declared.run.Answer.TheVariants as answers
 use Rattle.quic_machine.specs.Policy.{Policy}
 use Rattle.quic_machine.specs.Closing.{Closing, ticked}
 use Rattle.quic_machine.specs.Ids.{known}
-use Rattle.quic_machine.specs.Opens.{own_id_length, in_phase, opens_behind, opens, would_open}
+use Rattle.quic_machine.specs.Opens.{in_phase, head, opens_behind, opens, would_open}
+use Rattle.quic_machine.specs.Migration.{items_at, is_there}
 use Rattle.quic_machine.specs.Calls.{closed_in}
 use Rattle.quic_machine.specs.End.{End, with_closing, with_numbers}
-use Rattle.quic_machine.specs.Receive.{Fault, broke, too_many_pieces, closed_by_peer, violation, is_empty, asks_in, is_urged, take_frame, unless_fault, take_items, take_payload, Outcome, dropped, ends_as, by_state, opened_to, opened_as, opening, unopened_in, headed, received_in, received, is_read, drawn_if, with_ids_drawn}
+use Rattle.quic_machine.specs.Receive.{Fault, broke, too_many_pieces, closed_by_peer, violation, is_empty, asks_in, is_urged, take_frame, unless_fault, take_items, take_payload, Outcome, dropped, ends_as, by_state, opened_to, opened_as, opening, unopened_in, headed, received_in, received, is_read, items_taken, drawn_if, with_ids_drawn, has_migrated, with_migration}
 use Rattle.quic_machine.specs.Poll.{Polled, gives_datagram, datagram_of, bounds, may_seal, polled}
 use Rattle.quic_machine.specs.Timeouts.{TimedOut, Expiry, expiry_at, loss_judged, loss_expired, after_busy, unless_idle, close_expired, timed_out_in, timed_out}
 use Rattle.quic_machine.specs.Machine.{IsAnswer, IsDelivered, says_last, injected_if, after_injected_if, after_delivered, after_call, fails}
 use Rattle.quic_machine.specs.DraftLaws.{IsClose}
-use Rattle.quic_machine.specs.LeaveCases.{Expired, by_busy, at_event, by_event}
+use Rattle.quic_machine.specs.LeaveCases.{Expired, by_busy, by_event}
 use Rattle.quic_machine.specs.LeaveCases as expiring
 use Rattle.quic_machine.specs.FrameCases.{Settling, named, begun, acked_keeps, losses_keep, frame_keeps, frame_leaves, items_keep, apart_leaves}
 use Rattle.quic_machine.specs.Steps as steps
@@ -51,6 +51,8 @@ use Rattle.quic_headline.specs.Causes.{AreUsedUp, seals_kept, internal_error}
 use Rattle.quic_headline.specs.Closes.{IsToldAs}
 use Rattle.quic_headline.specs.LoneCloses.{Expires, PeerCloses, Polls, IsRefused, aead_limit_reached}
 use Rattle.quic_headline.proofs.Packets.Apart.{by_next_id}
+use Rattle.quic_headline.proofs.Packets.Moved.{by_migrated_if, by_migration}
+use Rattle.quic_headline.proofs.Packets.Elsewhere.{among_taken}
 use Rattle.quic_headline.proofs.Packets.Owing.{closing_frame}
 use Rattle.quic_headline.proofs.Packets.Probes.{by_going}
 use Rattle.quic_headline.proofs.Packets.Sends.{by_sends}
@@ -101,7 +103,7 @@ frame_tells f e close is = go f (closing_frame f e close is) is
     go g is_close same = absurd is_close
 
 -- one stands among the frames of a payload
-abbrev Tells : List (Result FrameValue InvalidFrame) → CloseValue → Type 0
+abbrev pub Tells : List (Result FrameValue InvalidFrame) → CloseValue → Type 0
 Tells is close = (f : FrameValue) × In f (frames_of is) × IsToldAs f close
 
 items_tell : (is : List (Result FrameValue InvalidFrame)) (e : End) (close : CloseValue) → (take_items is e).fault ≡ Some (closed_by_peer close) → Tells is close
@@ -113,7 +115,14 @@ items_tell (Ok f ∷ is) e close said = go (take_frame f e).fault refl said (ite
     go (Some fault) there now rest = (f, inl refl, frame_tells f e close now)
 items_tell (Err x ∷ is) e close said = cc
 
-payload_tells : (first : ℕ) (is : List (Result FrameValue InvalidFrame)) (e : End) (close : CloseValue) → (take_payload first is e).fault ≡ Some (closed_by_peer close) → Tells is close
+-- where it came from elsewhere, too: a close is taken as it is
+pub stray_tells : (here : Bool) (is : List (Result FrameValue InvalidFrame)) (close : CloseValue) → Tells (items_at here is) close → Tells is close
+stray_tells here is close tells = elim (among_taken here is tells.0 tells.1) [
+  | inl stands ↦ (tells.0, stands, tells.2)
+  | inr is_padding ↦ absurd (subst (λ (f : FrameValue). IsToldAs f close) is_padding tells.2)
+]
+
+pub payload_tells : (first : ℕ) (is : List (Result FrameValue InvalidFrame)) (e : End) (close : CloseValue) → (take_payload first is e).fault ≡ Some (closed_by_peer close) → Tells is close
 payload_tells first is e close = go (not (reserved_bits first == 0) || is_empty is)
   where
     go : (b : Bool) → (if b then record { end = e; fault = Some violation } else take_items is e).fault ≡ Some (closed_by_peer close) → Tells is close
@@ -138,7 +147,7 @@ module _ (c : Closing) where
     apart = λ f e is i. apart_leaves Has f e is (λ x. i) (λ x most. i);
   })
 
-  payload_has : (first : ℕ) (is : List (Result FrameValue InvalidFrame)) (e : End) → Has e → Has (take_payload first is e).end
+  pub payload_has : (first : ℕ) (is : List (Result FrameValue InvalidFrame)) (e : End) → Has e → Has (take_payload first is e).end
   payload_has first is e i = go (not (reserved_bits first == 0) || is_empty is)
     where
       go : (b : Bool) → Has (if b then record { end = e; fault = Some violation } else take_items is e).end
@@ -269,8 +278,11 @@ module _ (p : Policy) (theirs : List (List ℕ)) (e : End) (delivery : Delivery)
   state_shuts : (s : State) → e.closing.state ≡ s → (o : Opening) → opens p (known e.ids) (expected e.numbers) d ≡ Some o → (arrival : Arrival) → Comes (by_state s o arrival (with_numbers e (number_opened e.numbers o.number)))
   state_shuts states.Open here o is arrival =
       let at : End = begun e arrival.now o.number in
-      let taken = take_payload o.first (items o.payload) at in
-      ends_shuts o is taken.fault (payload_tells o.first (items o.payload) at) (asks_in (items o.payload)) (is_urged arrival.mark (items o.payload) at) o.number arrival.now arrival.mark taken.end here (payload_has (ticked e.closing arrival.now) o.first (items o.payload) at refl)
+      let asks = asks_in (items o.payload) in
+      let within : List (Result FrameValue InvalidFrame) = items_taken o arrival e in
+      let taken = take_payload o.first within at in
+      ends_shuts o is taken.fault (λ close told. stray_tells (is_there arrival.remote e) (items o.payload) close (payload_tells o.first within at close told)) asks (is_urged arrival.mark asks within at) o.number arrival.now arrival.mark taken.end here
+      (payload_has (ticked e.closing arrival.now) o.first within at refl)
   state_shuts states.Closing here o is arrival = stays refl refl
   state_shuts states.Drained here o is arrival = stays refl refl
   state_shuts states.Failed here o is arrival = stays refl refl
@@ -296,11 +308,14 @@ module _ (p : Policy) (theirs : List (List ℕ)) (e : End) (delivery : Delivery)
 
   packet_shuts : (o : Option Opening) → ((x : Opening) → o ≡ Some x → key_phase x.first ≡ false → opens p (known e.ids) (expected e.numbers) d ≡ Some x) → (arrival : Arrival) → Comes (opened_as o p arrival e)
   packet_shuts None is arrival = unopened_shuts e.closing.state refl arrival.last arrival
-  packet_shuts (Some o) is arrival = drawn_shuts (is_read (opened_to o arrival e).answer) (opened_to o arrival e) (opened_shuts o (is o refl) arrival)
+  packet_shuts (Some o) is arrival =
+      let out = with_ids_drawn p (opened_to o arrival e) in
+      let left = drawn_shuts (is_read (opened_to o arrival e).answer) (opened_to o arrival e) (opened_shuts o (is o refl) arrival) in
+      by_migrated_if (λ (x : End). Shut p theirs e (calls.Deliver delivery) (answers.Deliver out.answer) x.closing) p o arrival.remote out.end (λ c. left) (λ c most. left) (has_migrated o arrival.remote e out) left
 
-  headed_shuts : (r : Result (List ℕ) HeaderError) → decoded (fixed_length_id own_id_length) (known e.ids) d ≡ r → (arrival : Arrival) → Comes (headed r p e arrival d)
-  headed_shuts (Err error) is arrival = stays refl refl
-  headed_shuts (Ok id) is arrival = packet_shuts (opening p e d) (λ o opens_so phase. opens_to p e arrival d id o is opens_so phase) arrival
+  headed_shuts : (r : Result (List ℕ) DropReason) (arrival : Arrival) → head e arrival.remote d ≡ r → Comes (headed r p e arrival d)
+  headed_shuts (Err error) arrival is = stays refl refl
+  headed_shuts (Ok id) arrival is = packet_shuts (opening p e d) (λ o opens_so phase. opens_to p e arrival d id o is opens_so phase) arrival
 
   received_shuts : (arrival : Arrival) → Comes (received p e arrival d)
   received_shuts arrival = go e.closing.state
@@ -308,8 +323,8 @@ module _ (p : Policy) (theirs : List (List ℕ)) (e : End) (delivery : Delivery)
       go : (s : State) → Comes (received_in s p e arrival d)
       go states.Failed = stays refl refl
       go states.Drained = stays refl refl
-      go states.Open = headed_shuts (decoded (fixed_length_id own_id_length) (known e.ids) d) refl arrival
-      go states.Closing = headed_shuts (decoded (fixed_length_id own_id_length) (known e.ids) d) refl arrival
+      go states.Open = headed_shuts (head e arrival.remote d) arrival refl
+      go states.Closing = headed_shuts (head e arrival.remote d) arrival refl
 
 -- by whether there is such a datagram
 delivered_shuts : (p : Policy) (theirs : List (List ℕ)) (e : End) (delivery : Delivery) (o : Option (List ℕ)) → slice_get theirs delivery.index ≡ o → (a : Answer) → IsDelivered p e delivery o a → fails a ≡ false
@@ -338,19 +353,19 @@ module _ (p : Policy) (theirs : List (List ℕ)) (e : End) (injection : Injectio
   hidden_packet (Some o) arrival hidden = go (key_phase o.first) hidden
     where
       go : (b : Bool) → is_some (if b then None else Some o) ≡ false
-          → Enters (with_ids_drawn p (if b then dropped drops.KeyPhase e else (if is_duplicate e.numbers.opened o.number then dropped drops.Duplicate e else by_state e.closing.state o arrival (with_numbers e (number_opened e.numbers o.number)))))
-      go true hidden = stays refl refl
+          → Enters (with_migration p o arrival.remote e (with_ids_drawn p (if b then dropped drops.KeyPhase e else (if is_duplicate e.numbers.opened o.number then dropped drops.Duplicate e else by_state e.closing.state o arrival (with_numbers e (number_opened e.numbers o.number))))))
+      go true hidden = by_migration Enters p o arrival.remote e (dropped drops.KeyPhase e) (stays refl refl) (λ moved taken opened. cc)
       go false hidden = cc
 
-  hidden_headed : (r : Result (List ℕ) HeaderError) (arrival : Arrival) (d : List ℕ) → is_some (opens_behind r p (expected e.numbers) d) ≡ false → Enters (headed r p e arrival d)
+  hidden_headed : (r : Result (List ℕ) DropReason) (arrival : Arrival) (d : List ℕ) → is_some (opens_behind r p (expected e.numbers) d) ≡ false → Enters (headed r p e arrival d)
   hidden_headed (Err error) arrival d hidden = stays refl refl
   hidden_headed (Ok id) arrival d hidden = hidden_packet (opening p e d) arrival hidden
 
   hidden_received : (s : State) (arrival : Arrival) (d : List ℕ) → would_open p e arrival.remote d ≡ false → Enters (received_in s p e arrival d)
   hidden_received states.Failed arrival d hidden = stays refl refl
   hidden_received states.Drained arrival d hidden = stays refl refl
-  hidden_received states.Open arrival d hidden = hidden_headed (decoded (fixed_length_id own_id_length) (known e.ids) d) arrival d hidden
-  hidden_received states.Closing arrival d hidden = hidden_headed (decoded (fixed_length_id own_id_length) (known e.ids) d) arrival d hidden
+  hidden_received states.Open arrival d hidden = hidden_headed (head e arrival.remote d) arrival d hidden
+  hidden_received states.Closing arrival d hidden = hidden_headed (head e arrival.remote d) arrival d hidden
 
   injected_shuts : (is_last : Bool) → Shut p theirs e (calls.Inject injection) (injected_if (would_open p e injection.remote injection.bytes) is_last p e injection) (after_injected_if (would_open p e injection.remote injection.bytes) is_last p e injection).closing
   injected_shuts is_last = go (would_open p e injection.remote injection.bytes) refl

@@ -38,6 +38,7 @@ use Rattle.quic_machine.specs.CallCases.{is_delivery, by_call}
 use Rattle.quic_headline.specs.Runs.{Next}
 use Rattle.quic_headline.specs.FewEvents.{blocked_in}
 use Rattle.quic_headline.proofs.Packets.Apart.{by_waits, by_next_id}
+use Rattle.quic_headline.proofs.Packets.Moved.{by_migrated}
 use Rattle.quic_headline.proofs.Packets.Probes.{poll_state}
 use Rattle.quic_headline.proofs.Halves.QuietSteps.{composed_quiet, frame_quiet}
 use Rattle.quic_headline.proofs.Halves.ReadCalls.{IsKept, if_done}
@@ -184,6 +185,7 @@ module _ (Fits : StreamValue → Type 0) (P : StreamsState → Type 0) (c : IsKe
       asks_close = λ x j. j;
       exhausts = λ now x j. j;
       draws = λ words x j. j;
+      moves = λ q o remote x j. by_migrated (λ (y : End). P y.streams) q o remote x (λ c. j) (λ c most. j);
     }) i
 
     -- any call, where the STREAM frames of what is handed in fit

@@ -41,6 +41,7 @@ use Rattle.quic_machine.specs.CallCases.{is_delivery, asks_event, by_call}
 use Rattle.quic_machine.specs.Machine.{IsAnswer, IsDelivered, says_last, after_delivered, after_call}
 use Rattle.quic_headline.specs.FewEvents.{told_in, size_of, came_in, blocked_in}
 use Rattle.quic_headline.proofs.Packets.Apart.{by_waits, by_next_id}
+use Rattle.quic_headline.proofs.Packets.Moved.{by_migrated}
 use Rattle.quic_headline.proofs.Packets.Closes.{by_closes}
 use Rattle.quic_headline.proofs.Packets.Probes.{may_leave}
 use Rattle.quic_headline.proofs.Alone.Taking.{by_items}
@@ -105,6 +106,7 @@ in_all n e i = omega arith
 delivery_tells : (p : Policy) (e : End) (arrival : Arrival) (d : List ℕ) → KeepsLength p.header.reveal → OpensNoMore p.packet.unseal → to_tell (received p e arrival d).end ≤ to_tell e + length d
 delivery_tells p e arrival d keeps opens = in_all n (received p e arrival d).end (by_items p e arrival d (λ is x. OwesAt (brings_in is) n x) (record {
   frame = λ f stands is x i. frame_owes f (brings_in is) n x i;
+  passes = λ f stands is x i. passed (brings f) (brings_in is) x i;
   stops = λ is x i. less (brings_in is) x i;
   notes = λ m x i. i;
   begins = λ now m is x i. i;
@@ -114,10 +116,14 @@ delivery_tells p e arrival d keeps opens = in_all n (received p e arrival d).end
   asks_close = λ x i. i;
   exhausts = λ now x i. i;
   draws = λ words x i. i;
+  moves = λ q o remote x i. by_migrated (OwesAt 0 n) q o remote x (λ c. i) (λ c most. i);
 }) starts (omega arith))
   where
     n : ℕ
     n = to_tell e + length d
+
+    passed : (m k : ℕ) (x : End) → OwesAt (m + k) n x → OwesAt k n x
+    passed m k x i = omega arith
 
     less : (k : ℕ) (x : End) → OwesAt k n x → OwesAt 0 n x
     less k x i = omega arith

@@ -1,13 +1,13 @@
 -- What a frame that was taken leaves of what is tallied: MAX_DATA and MAX_STREAM_DATA raise a
 -- limit, and STOP_SENDING stops a stream (RFC 9000, sections 19.5, 19.9 and 19.10).
-use Rattle.std.proofs.Common.{◌≡◌, ℕ, ◌<◌, ◌≤◌, Bool, true, false, not, nat_le, List, [], ◌∷◌, Option, Some, None, refl, sym, ap, ◌∙◌, subst, arith, inl, inr}
+use Rattle.std.proofs.Common.{◌≡◌, ℕ, ◌<◌, ◌≤◌, Bool, true, false, not, nat_le, List, [], ◌∷◌, Option, Some, None, refl, sym, ap, ◌∙◌, subst, arith, inl, inr, map, max}
 use Rattle.std.specs.Prelude.{max, nat_lt, ◌==◌, ◌&&◌, ◌||◌, if◌then◌else◌}
 use Rattle.std.specs.Option.{is_some}
 use Rattle.std.specs.List.{list_any}
 use Rattle.std.proofs.lemmas.Bool.{cond_both, cases_eq, cases_Bool, eq-eqb, ne_eqb, ltb-true, ltb-false, and_from}
 use Rattle.quic_wire_core.specs.declared.stream_id.Side.{Side}
 use Rattle.quic_wire_core.specs.StreamId.{dir_of, index_of}
-use Rattle.quic_wire.specs.Value.{FrameValue, StopSendingValue, StreamLimitValue, ack, stream, reset_stream, stop_sending, max_data, max_stream_data, max_streams, datagram, new_connection_id, retire_connection_id, path_response, ack_frequency}
+use Rattle.quic_wire.specs.Value.{FrameValue, StopSendingValue, StreamLimitValue, ack, stream, reset_stream, stop_sending, max_data, max_stream_data, max_streams, datagram, new_connection_id, retire_connection_id, path_response, ack_frequency, path_challenge}
 use Rattle.quic_streams_parts.specs.declared.answers.Breach.{Breach}
 use Rattle.quic_streams_parts.specs.declared.answers.Breach.TheVariants as breaches
 use Rattle.quic_streams_parts.specs.Dirs.{is_own, is_two_way}
@@ -25,9 +25,11 @@ use Rattle.quic_machine.specs.Tracking.{dir_named}
 use Rattle.quic_machine.specs.End.{End}
 use Rattle.quic_machine.specs.Receive.{fault_of, is_above, names_ungiven, take_frame}
 use Rattle.quic_machine.specs.FrameCases.{acked_keeps, named, ack_taken, passed, frames_taken, message_leaves, apart_leaves}
+use Rattle.quic_machine.specs.Migration.{as_elsewhere}
 use Rattle.quic_headline.specs.Amounts.{data_limit_in, stream_limit_in, stops_stream, greatest_in}
 use Rattle.quic_headline.proofs.Halves.Opened.{opened_now, side_now}
 use Rattle.quic_headline.proofs.Amounts.Tally.{Tally, IsTallied, IsFresh, HasSums, AreTallied, Tallies, AlikeAt, alike_at, half_tallied, tallied_kept, tallies_kept, tallies_settle, put_tallied, halves_alike, tallies_alike}
+use Rattle.quic_headline.proofs.Packets.Delivered.{frames_at}
 use Rattle.quic_streams_laws.specs.Keeping as changes
 
 -- with what a frame told
@@ -228,6 +230,35 @@ pub frames_tally : (t : Tally) (fs : List FrameValue) (e : End) → (passed fs e
 frames_tally t fs e none i =
     let all : Goes (and_frames fs t) [] (passed fs e).end = frames_taken (Goes (and_frames fs t)) (λ f left x fine g. record { so_far = and_frame f g.so_far; tallies = frame_tallies g.so_far f x fine g.tallies; same = g.same }) fs e none (record { so_far = t; tallies = i; same = refl }) in
     subst (λ (u : Tally). Tallies u (passed fs e).end.streams) all.same all.tallies
+
+-- those of path validation tell nothing, so what is taken of a packet from elsewhere tells the same
+and_frames_at : (here : Bool) (fs : List FrameValue) (t : Tally) → and_frames (frames_at here fs) t ≡ and_frames fs t
+and_frames_at true fs t = refl
+and_frames_at false fs t = go fs t
+  where
+    one : (f : FrameValue) (t : Tally) → and_frame (as_elsewhere f) t ≡ and_frame f t
+    one (path_challenge token) t = refl
+    one (path_response token) t = refl
+    one f t = refl
+
+    go : (gs : List FrameValue) (t : Tally) → and_frames (map as_elsewhere gs) t ≡ and_frames gs t
+    go [] t = refl
+    go (g ∷ gs) t = go gs (and_frame (as_elsewhere g) t) ∙ ap (λ (u : Tally). and_frames gs u) (one g t)
+
+pub frames_at_tally : (t : Tally) (here : Bool) (fs : List FrameValue) (e : End) → (passed (frames_at here fs) e).fault ≡ None → Tallies t e.streams → Tallies (and_frames fs t) (passed (frames_at here fs) e).end.streams
+frames_at_tally t here fs e none i = subst (λ (u : Tally). Tallies u (passed (frames_at here fs) e).end.streams) (and_frames_at here fs t) (frames_tally t (frames_at here fs) e none i)
+
+-- and its greatest is the same
+pub greatest_at : (tells : FrameValue → ℕ) → ((f : FrameValue) → tells (as_elsewhere f) ≡ tells f) → (here : Bool) (fs : List FrameValue) → greatest_in tells (frames_at here fs) ≡ greatest_in tells fs
+greatest_at tells same true fs = refl
+greatest_at tells same false [] = refl
+greatest_at tells same false (f ∷ fs) = ap (λ (n : ℕ). max n (greatest_in tells (frames_at false fs))) (same f) ∙ ap (λ (n : ℕ). max (tells f) n) (greatest_at tells same false fs)
+
+-- of the limit on a stream
+pub limit_same : (id : ℕ) (f : FrameValue) → stream_limit_in id (as_elsewhere f) ≡ stream_limit_in id f
+limit_same id (path_challenge token) = refl
+limit_same id (path_response token) = refl
+limit_same id f = refl
 
 -- what frames tell in all
 pub frames_limit : (id : ℕ) (fs : List FrameValue) (t : Tally) → (and_frames fs t).limit id ≡ max (greatest_in (stream_limit_in id) fs) (t.limit id)

@@ -20,7 +20,7 @@ use Rattle.quic_headline.specs.Runs.{Told, Packet, Intake}
 use Rattle.quic_headline.specs.Observer.{Sent}
 use Rattle.quic_headline.specs.Amounts.{greatest, data_limit_in, stream_limit_in, was_stopped, all_written}
 use Rattle.quic_headline.proofs.Packets.Group.{PacketsHold, meets}
-use Rattle.quic_headline.proofs.Packets.Delivered.{Arrivals, arrived}
+use Rattle.quic_headline.proofs.Packets.Delivered.{Arrivals, arrived, frames_at, with_taken}
 use Rattle.quic_headline.proofs.Places.Parties.{told_of, Party, called, came_to, Beginning, begun_as}
 use Rattle.quic_headline.proofs.Places.Groups.{Way, Calls, Group}
 use Rattle.quic_headline.proofs.Places.Coming.{by_coming}
@@ -30,7 +30,8 @@ use Rattle.quic_headline.proofs.Halves.Words.{is_write}
 use Rattle.quic_headline.proofs.Amounts.Pieces.{sizes, sizes_more, filled}
 use Rattle.quic_headline.proofs.Amounts.Tally.{Tally, IsFresh, IsTallied, Tallies, call_tallies, tallies_alike}
 use Rattle.quic_headline.proofs.Amounts.Accepts.{and_call, writing_tallies, quiet_sizes, quiet_amount}
-use Rattle.quic_headline.proofs.Amounts.Frames.{and_frames, frames_tally, frames_limit, frames_all, frames_stopped, frames_rest}
+use Rattle.quic_headline.proofs.Amounts.Frames.{and_frames, frames_limit, frames_all, frames_stopped, frames_rest, frames_at_tally}
+use Rattle.quic_headline.proofs.Halves.Moved.{streams_stay}
 
 -- ---- what the lists say
 
@@ -94,12 +95,13 @@ module _ (B : Way) (packets : (x y : Party) → B x y → PacketsHold x y) (x y 
       go false quiet = quiet_more x.made.streams (came_to x y).took x.told t (after_call x.policy x.end y.given call a).streams quiet (call_tallies (tally_of x.made.streams (came_to x y).took x.told) x.policy x.end y.given call a apart quiet c.answer (i.still before))
 
   -- each case of a delivery
-  comes_tallies : is_write call ≡ false → (now : ℕ) (s : Sent) → Arrivals x.end now s.number s.frames (came_to x y) (λ (o : Outcome) (j : Intake). After o.end j)
-  comes_tallies quiet now s = record {
+  comes_tallies : is_write call ≡ false → (now : ℕ) (s : Sent) (here : Bool) → Arrivals x.end now s.number s.frames (frames_at here s.frames) (came_to x y) (λ (o : Outcome) (j : Intake). After o.end j)
+  comes_tallies quiet now s here = record {
     ignored = λ reason still. more (came_to x y).took x.end.streams (i.still still);
     noted = λ state reason still. (let clash : states.Closing ≡ states.Open = sym state ∙ still in cc);
-    takes = λ words state new none urged mark still. more (record { number = s.number; frames = s.frames } ∷ (came_to x y).took) (arrived x.end now s.number s.frames).end.streams
-        (packet_more x.made.streams (came_to x y).took x.told (record { number = s.number; frames = s.frames }) (arrived x.end now s.number s.frames).end.streams (frames_tally (tally_of x.made.streams (came_to x y).took x.told) s.frames (begun x.end now s.number) none (i.still state)));
+    takes = λ words state new none urged mark still. more (record { number = s.number; frames = s.frames } ∷ (came_to x y).took) (arrived x.end now s.number (frames_at here s.frames)).end.streams
+        (packet_more x.made.streams (came_to x y).took x.told (record { number = s.number; frames = s.frames }) (arrived x.end now s.number (frames_at here s.frames)).end.streams (frames_at_tally (tally_of x.made.streams (came_to x y).took x.told) here s.frames (begun x.end now s.number) none (i.still state)));
+    moves = λ p o same remote z opened j still. streams_stay (Tallies (tally_of x.made.streams (with_taken (came_to x y) s.number s.frames).took (x.told ++ t ∷ []))) p o remote z (j opened);
     drains = λ words state new close is still. cc;
     refuses = λ words state new f is still. cc;
     exhausts = λ state still. cc;
@@ -113,7 +115,7 @@ module _ (B : Way) (packets : (x y : Party) → B x y → PacketsHold x y) (x y 
     still = by_coming x y a c.joined c.served (meets y x (packets y x c.takes)) After call c.answer (record {
       apart = apart_tallies;
       none = λ delivery is still. quiet_more x.made.streams (came_to x y).took x.told t x.end.streams (ap is_write is) (i.still still);
-      comes = λ delivery is s among. comes_tallies (ap is_write is) delivery.now s;
+      comes = λ delivery is s among here. comes_tallies (ap is_write is) delivery.now s here;
     });
   }
 

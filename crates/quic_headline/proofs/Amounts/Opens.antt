@@ -22,18 +22,20 @@ use Rattle.quic_machine.specs.declared.run.Answer.{Answer}
 use Rattle.quic_machine.specs.End.{End}
 use Rattle.quic_machine.specs.Calls.{is_open}
 use Rattle.quic_machine.specs.Receive.{take_frame}
-use Rattle.quic_machine.specs.FrameCases.{begun, passed, frames_keep}
+use Rattle.quic_machine.specs.FrameCases.{begun, frames_keep}
 use Rattle.quic_machine.specs.Machine.{IsAnswer, after_call}
 use Rattle.quic_headline.specs.Runs.{Intake, In, ids_of, id_by, and_id}
 use Rattle.quic_headline.proofs.Packets.Group.{meets}
 use Rattle.quic_headline.proofs.Places.Told.{ids_append, in_append}
-use Rattle.quic_headline.proofs.Places.Parties.{told_of, Party, called}
+use Rattle.quic_headline.proofs.Places.Parties.{told_of, Party, called, came_to}
 use Rattle.quic_headline.proofs.Places.Groups.{Way, Calls, Group}
 use Rattle.quic_headline.proofs.Places.Coming.{by_coming}
 use Rattle.quic_headline.proofs.Halves.Ghosts.{wrote, IsWriting}
 use Rattle.quic_headline.proofs.Halves.QuietSteps.{frame_quiet, sent_within}
 use Rattle.quic_headline.proofs.Halves.ReadCalls.{any_kept, call_kept}
 use Rattle.quic_headline.proofs.Halves.Opened.{IsOpened, IsOf, opened_stays, side_stays}
+use Rattle.quic_headline.proofs.Packets.Delivered.{frames_at}
+use Rattle.quic_headline.proofs.Halves.Moved.{in_arrivals}
 
 -- ---- ids
 
@@ -114,9 +116,7 @@ module _ (B : Way) (w : IsWriting B) (x y : Party) (call : Call) (a : Answer) (c
   kept P k here = by_coming x y a c.joined c.served (meets y x (w.packets y x c.takes)) (λ (e : End) (j : Intake). P e.streams) call c.answer (record {
     apart = λ apart. call_kept P (any_kept P k) x.policy x.end y.given (sent_within (wrote x.told) x.end.streams (w.written x y c.gives)) here call a c.answer apart (λ dir same. by_accept P k dir x.end.streams (λ may. tt) here);
     none = λ delivery is. here;
-    comes = λ delivery is s among. (
-        let all : P (passed s.frames (begun x.end delivery.now s.number)).end.streams = frames_keep (λ (e : End). P e.streams) frame s.frames (begun x.end delivery.now s.number) here in
-        record { ignored = λ reason. here; noted = λ state reason. here; takes = λ words state new none urged mark. all; drains = λ words state new close fault. all; refuses = λ words state new f fault. all; exhausts = λ state. here });
+    comes = λ delivery is s among from. in_arrivals P x.end delivery.now s.number s.frames (frames_at from s.frames) (came_to x y) here (frames_keep (λ (e : End). P e.streams) frame (frames_at from s.frames) (begun x.end delivery.now s.number) here);
   })
     where
       frame : (f : FrameValue) (e : End) → P e.streams → P (take_frame f e).end.streams

@@ -10,7 +10,7 @@ use Rattle.quic_wire_core.specs.declared.stream_id.Dir.TheVariants.{Bi, Uni}
 use Rattle.quic_wire_core.specs.StreamId.{other_side}
 use Rattle.quic_parameters.specs.Parameters.{ParameterValues}
 use Rattle.quic_parameters.specs.ParametersRead.{parameters_at}
-use Rattle.quic_wire.specs.Value.{FrameValue, StreamCountValue, max_streams}
+use Rattle.quic_wire.specs.Value.{FrameValue, StreamCountValue, max_streams, path_challenge, path_response}
 use Rattle.quic_streams_parts.specs.declared.answers.Breach.TheVariants.{FrameEncoding}
 use Rattle.quic_streams_parts.specs.Dirs.{Counts, of, with_of}
 use Rattle.quic_streams_parts.specs.Table.{at}
@@ -33,12 +33,13 @@ use Rattle.quic_machine.specs.Receive.{Outcome, fault_of, take_frame}
 use Rattle.quic_machine.specs.FrameCases.{begun, passed, frames_taken}
 use Rattle.quic_machine.specs.CallCases.{is_delivery}
 use Rattle.quic_machine.specs.Machine.{World, IsAnswer, after_call, end_at}
+use Rattle.quic_machine.specs.Migration.{as_elsewhere}
 use Rattle.quic_headline.specs.Runs.{Run, Packet, Intake, AreServed, state_at, until}
 use Rattle.quic_headline.specs.Observer.{Sent, took}
 use Rattle.quic_headline.specs.Headline.{IsHonest, IsRun}
 use Rattle.quic_headline.specs.Amounts.{making_at, peer_parameters, greatest_in, greatest, data_limit_in, stream_limit_in, data_limit, stream_limit}
 use Rattle.quic_headline.specs.PeerLimits.{first_count, count_in, count_limit, KeepsTo, LimitsAreThePeers}
-use Rattle.quic_headline.proofs.Packets.Delivered.{Arrivals}
+use Rattle.quic_headline.proofs.Packets.Delivered.{Arrivals, frames_at, with_taken}
 use Rattle.quic_headline.proofs.Packets.Group.{PacketsHold, meets}
 use Rattle.quic_headline.proofs.Packets.Stays.{placed_call}
 use Rattle.quic_headline.proofs.Places.Parties.{Party, called, came_to}
@@ -52,6 +53,8 @@ use Rattle.quic_headline.proofs.Unread.OpeningOwn.{call_own, frame_own}
 use Rattle.quic_headline.proofs.Amounts.Tally.{Tally, IsTallied, IsFresh, Tallies}
 use Rattle.quic_headline.proofs.Amounts.Group.{tally_of}
 use Rattle.quic_headline.proofs.Amounts.Clause.{Whole, whole, first_is, all_is}
+use Rattle.quic_headline.proofs.Halves.Moved.{streams_stay}
+use Rattle.quic_headline.proofs.Amounts.Frames.{greatest_at}
 
 -- ---- how many streams are told
 
@@ -116,6 +119,15 @@ module _ (n : Dir → ℕ) where
   packet_tells : (frames : List FrameValue) (e : End) → (passed frames e).fault ≡ None → Tells n frames e.streams.opening.own e.streams.opening.own_limit → (dir : Dir) → of dir (passed frames e).end.streams.opening.own_limit ≡ n dir
   packet_tells frames e none i dir = (let last = frames_taken (λ (left : List FrameValue) (x : End). Tells n left x.streams.opening.own x.streams.opening.own_limit) frame_tells frames e none i dir in omega arith)
 
+-- frames of path validation tell none
+count_same : (dir : Dir) (f : FrameValue) → count_in dir (as_elsewhere f) ≡ count_in dir f
+count_same Bi (path_challenge token) = refl
+count_same Bi (path_response token) = refl
+count_same Bi f = refl
+count_same Uni (path_challenge token) = refl
+count_same Uni (path_response token) = refl
+count_same Uni f = refl
+
 -- ---- the group
 
 -- as many may be opened as the end that was made so may, and as frames told
@@ -142,13 +154,14 @@ module _ (B : Way) (packets : (x y : Party) → B x y → PacketsHold x y) (x y 
   apart_counts call apart is before = call_own (λ own limit. (dir : Dir) → of dir limit ≡ max (of dir x.made.streams.opening.own_limit) (greatest (count_in dir) (came_to x y).took)) x.policy x.end y.given call a apart refl is before
 
   -- each case of a delivery
-  comes_counts : (now : ℕ) (s : Sent) → Arrivals x.end now s.number s.frames (came_to x y) (λ (o : Outcome) (i : Intake). After o.end i)
-  comes_counts now s = record {
+  comes_counts : (now : ℕ) (s : Sent) (here : Bool) → Arrivals x.end now s.number s.frames (frames_at here s.frames) (came_to x y) (λ (o : Outcome) (i : Intake). After o.end i)
+  comes_counts now s here = record {
     ignored = λ reason. k.counts;
     noted = λ state reason opened. (let clash : states.Closing ≡ states.Open = sym state ∙ opened in cc);
     takes = λ words state new none urged mark opened dir.
-        packet_tells (λ d. max (of d x.made.streams.opening.own_limit) (max (greatest_in (count_in d) s.frames) (greatest (count_in d) (came_to x y).took))) s.frames (begun x.end now s.number) none
-        (λ d. (let was = k.counts state d in omega arith)) dir;
+        packet_tells (λ d. max (of d x.made.streams.opening.own_limit) (max (greatest_in (count_in d) s.frames) (greatest (count_in d) (came_to x y).took))) (frames_at here s.frames) (begun x.end now s.number) none
+        (λ d. (let was = k.counts state d in let same = greatest_at (count_in d) (count_same d) here s.frames in omega arith)) dir;
+    moves = λ p o same remote z opened j still. streams_stay (λ (v : StreamsState). (dir : Dir) → of dir v.opening.own_limit ≡ max (of dir x.made.streams.opening.own_limit) (greatest (count_in dir) (with_taken (came_to x y) s.number s.frames).took)) p o remote z (j opened);
     drains = λ words state new close is opened. cc;
     refuses = λ words state new f is opened. cc;
     exhausts = λ state opened. cc;
@@ -160,7 +173,7 @@ module _ (B : Way) (packets : (x y : Party) → B x y → PacketsHold x y) (x y 
     counts = by_coming x y a c.joined c.served (meets y x (packets y x c.takes)) After call c.answer (record {
       apart = λ apart opened. apart_counts call apart c.answer (k.counts (was_open x.policy x.end y.given call a opened));
       none = λ delivery is. k.counts;
-      comes = λ delivery is s among. comes_counts delivery.now s;
+      comes = λ delivery is s among here. comes_counts delivery.now s here;
     });
   }
 

@@ -40,7 +40,8 @@ use Rattle.quic_headline.proofs.Packets.Quiet.{HaveHeardNothing}
 use Rattle.quic_headline.specs.AppLimited.{WasPolled, HasToGo, MayCount}
 use Rattle.quic_headline.specs.Telling.{ControllersAreTold}
 use Rattle.quic_headline.proofs.Packets.Apart.{by_waits, by_next_id}
-use Rattle.quic_headline.proofs.Packets.Group.{PacketsHold, has_room}
+use Rattle.quic_headline.proofs.Packets.Moved.{by_migrated}
+use Rattle.quic_headline.proofs.Packets.Group.{has_room}
 use Rattle.quic_headline.proofs.Packets.Probes.{by_going}
 use Rattle.quic_headline.proofs.Packets.Sight.{Sight}
 use Rattle.quic_headline.proofs.Places.Parties.{Party, with_shown, shown_at}
@@ -60,10 +61,10 @@ use Rattle.quic_headline.proofs.Held.Clause.{Shortly, shortly, heard_first, mess
 use Rattle.quic_headline.proofs.Messages.Lists.{waiting_is}
 use Rattle.quic_headline.proofs.Rest.Between.{step_leaves}
 use Rattle.quic_headline.proofs.Sizes.Moves.{did_there}
-use Rattle.quic_headline.proofs.Steps.Made.{one_behind, served_before, made_served, made_end}
+use Rattle.quic_headline.proofs.Steps.Made.{one_behind, served_before, made_served, left_at, made_end}
 use Rattle.quic_headline.proofs.Steps.Probing.{same_answer}
 use Rattle.quic_headline.proofs.Timers.Still.{was_open}
-use Rattle.quic_headline.proofs.Timers.Watched.{timers_behind}
+use Rattle.quic_headline.proofs.Timers.Watched.{Observed, timers_behind}
 use Rattle.quic_headline.proofs.AppLimited.Rests.{IsResting, paced, full, idle, resting, blocked_rests}
 use Rattle.quic_headline.proofs.Packets.Heard.{by_taken}
 
@@ -93,6 +94,7 @@ receives_same e = record {
   asks_close = λ x i. i;
   exhausts = λ now x i. i;
   draws = λ words x i. i;
+  moves = λ p o remote x i. by_migrated (SameCount e) p o remote x (λ c. i) (λ c most. i);
 }
 
 judged_same : (e : End) (moment : Option ℕ) (x : End) → SameCount e x → SameCount e (loss_judged moment x)
@@ -281,8 +283,8 @@ module _ (r : Run) (end : World) (honest : IsHonest r) (run : IsRun r end) (quie
       reads : (b : Bool) → e.path.blocked ≡ b → (met r side i now v next leads gave).path.blocked ≡ b
       reads b is_read = subst (λ (u : World). (with_shown (end_at side u) (shown_at side u)).path.blocked ≡ b) (sym before_is) is_read
 
-      all_hold : (by : Side) (j : ℕ) → AreServed r j → Placed PacketsHold r end by j
-      all_hold by j served = placed_less Shortly PacketsHold r end by j (λ x y h. h.0.0.0) (placed Shortly shortly r end honest run by j served)
+      all_hold : (by : Side) (j : ℕ) → AreServed r j → Placed Observed r end by j
+      all_hold by j served = placed_less Shortly Observed r end by j (λ x y h. (h.0.0.0, h.0.1)) (placed Shortly shortly r end honest run by j served)
 
       -- datagrams have bytes
       sized : 0 < current_mtu f.path
@@ -386,7 +388,7 @@ module _ (r : Run) (end : World) (honest : IsHonest r) (run : IsRun r end) (quie
   own_next : (side : Side) (call : Call) (a : Answer) (i : ℕ) (v : View) (w next : World) → IsMade r i side call a w next → LeadsTo r (suc i) next → slice_get r.views i ≡ Some v → Counts side i w → Counts side (suc i) next
   own_next side (calls.Poll now) a i v w next m leads there before still = poll_counts i side now a v w next m leads there still
   own_next side call a i v w next m leads there before still =
-      let made : end_at side next ≡ after_call (policy_at side r.keys) (end_at side w) (given_by (other_side side) w) call a = made_end r i side call a w next m in
+      let made : end_at side next ≡ left_at r side w call a = made_end r i side call a w next m in
       let opened : (end_at side w).closing.state ≡ states.Open = was_open (policy_at side r.keys) (end_at side w) (given_by (other_side side) w) call a (sym (ap (λ (z : End). z.closing.state) made) ∙ still) in
       subst (λ (b : Bool). MayCount r side (suc i) b) (sym (ap (λ (z : End). z.path.app_limited) made ∙ count_stays (policy_at side r.keys) (end_at side w) (given_by (other_side side) w) call a refl))
       (counts_still r side i (record { side = side; call = call }) m.at.event (no_poll side call refl) (end_at side w).path.app_limited (before opened))

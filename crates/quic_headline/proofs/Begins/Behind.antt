@@ -1,13 +1,16 @@
 -- What waits behind a call waited before it, or has a cause.
-use Rattle.std.proofs.Common.{◌≡◌, ℕ, ◌<◌, max, Bool, true, false, ◌||◌, ◌&&◌, List, [], ◌++◌, length, map, drop, append-nil, Option, Some, None, Ok, refl, sym, ap, ◌∙◌, subst, ◌⊎◌, inl, inr, arith}
-use Rattle.std.specs.Prelude.{nat_lt, not, ltb, leb}
+use Rattle.std.proofs.Common.{◌≡◌, ℕ, ◌<◌, max, Bool, true, false, ◌||◌, ◌&&◌, List, [], ◌++◌, length, map, drop, append-nil, Option, Some, None, Ok, refl, sym, ap, ◌∙◌, subst, ◌⊎◌, inl, inr, arith, ◌+◌, Result}
+use Rattle.std.specs.Prelude.{◌↔◌, nat_lt, not, ltb, leb, ◌==◌}
 use Rattle.std.specs.Option.{is_some, is_none, option_map}
 use Rattle.std.specs.List.{list_any}
-use Rattle.std.proofs.lemmas.Bool.{or_left, or_right, or_cases, and_from, and_parts, lt-ltb, ltb-true}
+use Rattle.std.proofs.lemmas.Bool.{or_left, or_right, or_cases, and_from, and_parts, lt-ltb, ltb-true, ne_eqb}
 use Rattle.quic_wire_core.specs.declared.shared.IssuedCid.{IssuedCid}
+use Rattle.quic_wire_core.specs.declared.shared.EcnCodepoint.{EcnCodepoint}
 use Rattle.quic_ids.specs.CidQueue.{next_after}
 use Rattle.quic_machine.specs.Poll.{polled}
-use Rattle.quic_wire.specs.Value.{FrameValue}
+use Rattle.quic_wire.specs.Value.{FrameValue, padding}
+use Rattle.quic_wire.specs.Items.{items}
+use Rattle.quic_wire.specs.declared.frame.InvalidFrame.{InvalidFrame}
 use Rattle.quic_send_buffer.specs.Buffered.{IsBuffered, written as buffered, is_lost, is_unsent}
 use Rattle.quic_sets.proofs.Offsets.Edits.{has_is}
 use Rattle.quic_spaces.specs.Numbers.{Numbers, number_opened}
@@ -32,26 +35,30 @@ use Rattle.quic_machine.specs.End.{End, words_drawn}
 use Rattle.quic_machine.specs.Timeouts.{timed_out_in, timed_out}
 use Rattle.quic_machine.specs.Ids.{words_behind}
 use Rattle.quic_machine.specs.IdFrames.{drawn, drawing}
-use Rattle.quic_machine.specs.Receive.{Outcome, asks_in, after_taken}
+use Rattle.quic_machine.specs.Receive.{Outcome, asks_in, after_taken, is_urged, migrated_if}
 use Rattle.quic_machine.specs.FrameCases.{begun}
-use Rattle.quic_machine.specs.CallCases.{is_poll}
+use Rattle.quic_machine.specs.CallCases.{is_poll, is_timeout}
+use Rattle.quic_machine.specs.Migration.{has_moved, is_there, migrated}
 use Rattle.quic_machine.specs.Machine.{IsAnswer, fails, gave}
+use Rattle.quic_machine.specs.Policy.{Policy}
+use Rattle.quic_machine.specs.Calls.{is_open}
 use Rattle.quic_headline.specs.Runs.{Told, Packet, Intake, In, and_told}
-use Rattle.quic_headline.specs.Observer.{Sent, Flight, after_frames, Watch, first_watch, news, clock_behind, moment_of, is_past, is_timely, watch_moment, watch_given, watch_told}
+use Rattle.quic_headline.specs.Observer.{Sent, Flight, after_frames, Watch, first_watch, news, clock_behind, moment_of, is_past, is_timely, watch_moment, watch_given, watch_told, has_changed}
 use Rattle.quic_headline.specs.Duties.{AllData, StreamCount, on_half, has_new_id}
 use Rattle.quic_headline.specs.Moments.{went}
 use Rattle.quic_headline.specs.Requests.{Asking, asking_of, wants_anew}
+use Rattle.quic_headline.specs.InUse.{brought, next_of, brought_by}
 use Rattle.quic_headline.specs.Waited.{asks_ping, is_path_challenge, wakes}
-use Rattle.quic_headline.specs.Begins.{Control, LimitOf, NewId, Retirement, Thing, Ack, Ping, Immediate, Challenge, Response, Probe, Byte, Fin, Frame, byte_waits, IsPending, Bears, Seen, came, brings, WasLost, may_end, brings_data, is_retirement, retires, uses_next, is_passed, passes_over, fails_to_probe, HasCause}
+use Rattle.quic_headline.specs.Begins.{Control, LimitOf, NewId, Retirement, Thing, Ack, Ping, Immediate, Challenge, Response, Probe, Byte, Fin, Frame, byte_waits, IsPending, Bears, Seen, came, brings, WasLost, may_end, brings_data, is_retirement, retires, uses_next, is_passed, uses_past, moves_past, passes_over, fails_to_probe, HasCause}
 use Rattle.quic_headline.proofs.Packets.Intakes.{folded_more}
 use Rattle.quic_headline.proofs.Packets.Group.{PacketsHold, meets}
 use Rattle.quic_headline.proofs.Packets.Sight.{Sight}
-use Rattle.quic_headline.proofs.Packets.Delivered.{Arrivals, arrived, with_taken}
+use Rattle.quic_headline.proofs.Packets.Delivered.{arrived, with_taken, ArrivalsFrom, frames_at, among_at, moves_by}
 use Rattle.quic_headline.proofs.Packets.Flying.{Waits, held, frames_fly, ticked_waits, numbers_wait}
 use Rattle.quic_headline.proofs.Packets.Watching.{came_with, timed_with, untimely, watched_intake, one_new, none_comes, told_timed, with_delivery, nothing_delivered, packet_delivered, at_time, timeout_flies}
 use Rattle.quic_headline.proofs.Places.Parties.{sent_by, sent_if, sents_by, told_of, Party, called, came_to, lens, watch_of, AreJoined}
 use Rattle.quic_headline.proofs.Places.Groups.{Way, Nothing, And, Calls, Group, both, beside, over, less_calls}
-use Rattle.quic_headline.proofs.Places.Coming.{came_more, by_coming}
+use Rattle.quic_headline.proofs.Places.Coming.{came_more, by_coming_from}
 use Rattle.quic_headline.proofs.Places.Steps.{only_polls_give, poll_answer}
 use Rattle.quic_headline.proofs.Places.Everything as everything
 use Rattle.quic_headline.proofs.Places.Theorems.{ready}
@@ -64,7 +71,8 @@ use Rattle.quic_headline.proofs.Timers.Watched.{Observed, drop_all, went_is}
 use Rattle.quic_headline.proofs.Timers.Still.{was_open}
 use Rattle.quic_headline.proofs.Requests.Asks.{by_of, is_anew, anew_known}
 use Rattle.quic_headline.proofs.Requests.Group.{Counted, counted_group}
-use Rattle.quic_headline.proofs.NextIds.Group.{IdsHold, next_above, using_of, NextKnown, next_group}
+use Rattle.quic_headline.proofs.NextIds.Peer.{next_is, Knows}
+use Rattle.quic_headline.proofs.NextIds.Group.{NextKnown, next_group, brought_at}
 use Rattle.quic_headline.proofs.Waited.Alive.{timed, wakes_at, past_is}
 use Rattle.quic_headline.proofs.Waited.Pings.{of_ping, of_immediate, call_pinged, call_hastened, polled_pinged}
 use Rattle.quic_headline.proofs.AcksDue.Group.{haste_of}
@@ -73,9 +81,17 @@ use Rattle.quic_headline.proofs.Waited.Urged.{Urging, Wished, wished_group, urge
 use Rattle.quic_headline.proofs.Begins.Probed.{told_probes}
 use Rattle.quic_headline.proofs.Begins.Halves.{Any, Waits as HalfWaits, all_pend, pends_more, none_reset, byte_is, fin_is}
 use Rattle.quic_headline.proofs.Begins.Walk.{Pends, pend_more}
-use Rattle.quic_headline.proofs.Begins.Apart.{is_skipped, SignalsBy, signals_same, frames_signals, polled_signals, quiet_signals}
+use Rattle.quic_headline.proofs.Begins.Apart.{is_skipped, SignalsBy, LeavesBy, signals_same, frames_signals, polled_signals, quiet_signals, leaves_pend}
+use Rattle.quic_headline.proofs.Begins.Moved.{moves_over, challenging, moved_waits, item_challenges, challenges_read}
 use Rattle.quic_headline.proofs.Begins.Flights.{By, BegunAt, Begun, ids_begun, begun_loses, begun_flies}
 use Rattle.quic_headline.proofs.Begins.Steps.{Left, left_of, polled_left}
+use Rattle.quic_headline.proofs.Packets.Strays.{any_at}
+use Rattle.quic_headline.proofs.Packets.Routed.{moved_path, flight_at}
+use Rattle.quic_headline.proofs.Packets.Stays.{keeps_frames}
+use Rattle.quic_headline.proofs.NextIds.Asking.{AsksNone, AllAskNone}
+use Rattle.quic_headline.proofs.NextIds.Coming.{packet_passes}
+use Rattle.quic_headline.proofs.Halves.Moved.{streams_stay}
+use Rattle.quic_packet.specs.Datagram.{Opening}
 
 -- ---- what is known
 
@@ -106,6 +122,10 @@ holds x y h = h.0.0.0.0.0.1.0.writes.keeps.holds
 pub sight : (x y : Party) → Known x y → Sight x y
 sight x y h = h.0.0.0.0.1
 
+-- what the observer of an end knows behind a call
+abbrev pub watch_next : Party → Party → Call → Answer → Watch
+watch_next x y call a = watch_told (lens x y) (told_of call a x.end.closing.state) (watch_of x y)
+
 -- What holds of two ends where one is called, and behind it.
 pub record Stepped (x y : Party) (call : Call) (a : Answer) : Type 0 where
   pub calls : Calls Known x y call a
@@ -116,98 +136,110 @@ pub record Stepped (x y : Party) (call : Call) (a : Answer) : Type 0 where
   pub takes : Known y x
   pub behind : Known (called x y.given call a) y
   pub opened : (called x y.given call a).end.closing.state ≡ states.Open
+  -- which id of the peer the end uses, and whether that stays where the path changes
+  pub using : ℕ
+  pub used : x.end.ids.peer.active ≡ using
+  pub stays : Bool
+  pub tells : has_changed (watch_of x y) (watch_next x y call a) ≡ true → (stays ≡ true) ↔ ((called x y.given call a).end.ids.peer.active ≡ x.end.ids.peer.active)
 
 -- what is seen of the call
-abbrev pub seen_of : Party → Party → Call → Answer → Seen
-seen_of x y call a = record {
+abbrev pub seen_of : (x y : Party) (call : Call) (a : Answer) → Stepped x y call a → Seen
+seen_of x y call a s = record {
   told = x.told;
   now = told_of call a x.end.closing.state;
   before = watch_of x y;
-  behind = watch_told (lens x y) (told_of call a x.end.closing.state) (watch_of x y);
+  behind = watch_next x y call a;
   unanswered = (wants_of x y).packets;
   due = (haste_of (called x y.given call a) y).due;
   marked = (wants_of (called x y.given call a) y).marked;
   alive = (wants_of x y).alive;
   asking = asking_of x.made;
-  using = (using_of x y).number;
+  using = s.using;
+  stays = s.stays;
   side = x.side;
   params = x.made.peer_params;
   gave = (watch_of x y).own;
 }
 
 -- it waited, or has a cause
-abbrev pub Caused : Party → Party → Call → Answer → Thing → Type 0
-Caused x y call a q = IsPending x.end q ⊎ HasCause (seen_of x y call a) q
+abbrev pub Caused : (x y : Party) (call : Call) (a : Answer) → Stepped x y call a → Thing → Type 0
+Caused x y call a s q = IsPending x.end q ⊎ HasCause (seen_of x y call a s) q
 
 module _ (x y : Party) (call : Call) (a : Answer) (s : Stepped x y call a) where
   abbrev next : Party
   next = called x y.given call a
 
   abbrev seen : Seen
-  seen = seen_of x y call a
+  seen = seen_of x y call a s
 
   pub was : x.end.closing.state ≡ states.Open
   was = was_open x.policy x.end y.given call a s.opened
 
   -- what the observer knows behind the call
   behind_is : watch_of next y ≡ seen.behind
-  behind_is = folded_more (watch_told (lens x y)) x.told (told_of call a x.end.closing.state) (first_watch x.final x.began x.initial_rtt x.initial_delay)
+  behind_is = folded_more (watch_told (lens x y)) x.told (told_of call a x.end.closing.state) (first_watch x.final x.began x.made.path.remote x.initial_rtt x.initial_delay)
+
+  -- the observer finds whether the path changes
+  changes : has_changed seen.before seen.behind ≡ has_moved x.end next.end
+  changes =
+      ap (λ (n : ℕ). not (n == (watch_of x y).route.generation)) (ap (λ (w : Watch). w.route.generation) (sym behind_is) ∙ sym (sight next y s.behind).watched.path)
+      ∙ ap (λ (n : ℕ). not (next.end.path.generation == n)) (sym (sight x y s.gives).watched.path)
 
   -- what came
   came_is : came seen ≡ news (came_to x y) (came_to next y)
   came_is =
-      ap (λ (i : Intake). news i seen.behind.intake) (watched_intake (lens x y) x.told (first_watch x.final x.began x.initial_rtt x.initial_delay))
-      ∙ ap (λ (i : Intake). news (came_to x y) i) (ap (λ (w : Watch). w.intake) (sym behind_is) ∙ watched_intake (lens x y) next.told (first_watch x.final x.began x.initial_rtt x.initial_delay))
+      ap (λ (i : Intake). news i seen.behind.intake) (watched_intake (lens x y) x.told (first_watch x.final x.began x.made.path.remote x.initial_rtt x.initial_delay))
+      ∙ ap (λ (i : Intake). news (came_to x y) i) (ap (λ (w : Watch). w.intake) (sym behind_is) ∙ watched_intake (lens x y) next.told (first_watch x.final x.began x.made.path.remote x.initial_rtt x.initial_delay))
 
 -- what goes at a call is what its end sends
-pub went_here : (x y : Party) (call : Call) (a : Answer) → Stepped x y call a → went (seen_of x y call a).before (seen_of x y call a).behind ≡ sents_by x.policy x.end call a
-went_here x y call a s = went_is (watch_of x y) (seen_of x y call a).behind (sents_by x.policy x.end call a) (
+pub went_here : (x y : Party) (call : Call) (a : Answer) (s : Stepped x y call a) → went (seen_of x y call a s).before (seen_of x y call a s).behind ≡ sents_by x.policy x.end call a
+went_here x y call a s = went_is (watch_of x y) (seen_of x y call a s).behind (sents_by x.policy x.end call a) (
     ap (λ (w : Watch). w.own) (sym (behind_is x y call a s)) ∙ (sight (called x y.given call a) y s.behind).own ∙ ap (λ (ss : List Sent). ss ++ sents_by x.policy x.end call a) (sym (sight x y s.gives).own))
 
 -- the observer has the clock of the end behind a call
-clock_behind_is : (x y : Party) (call : Call) (a : Answer) (s : Stepped x y call a) → (seen_of x y call a).behind.clock ≡ (called x y.given call a).end.closing.clock
+clock_behind_is : (x y : Party) (call : Call) (a : Answer) (s : Stepped x y call a) → (seen_of x y call a s).behind.clock ≡ (called x y.given call a).end.closing.clock
 clock_behind_is x y call a s = ap (λ (w : Watch). w.clock) (sym (behind_is x y call a s)) ∙ ((sight (called x y.given call a) y s.behind).watched.flight s.opened).tells.clock
 
 -- so it is of a moment that is taken over
-timeout_clock : (x y : Party) (now : ℕ) (a : Answer) (s : Stepped x y (calls.Timeout now) a) → (seen_of x y (calls.Timeout now) a).behind.clock ≡ (ticked x.end.closing now).clock
+timeout_clock : (x y : Party) (now : ℕ) (a : Answer) (s : Stepped x y (calls.Timeout now) a) → (seen_of x y (calls.Timeout now) a s).behind.clock ≡ (ticked x.end.closing now).clock
 timeout_clock x y now a s = clock_behind_is x y (calls.Timeout now) a s ∙ ap (λ (c : Closing). c.clock) (timed x.policy x.end now (was x y (calls.Timeout now) a s) s.opened).closing
 
 -- ---- an acknowledgement
 
 -- where one is due behind a call, it was, or the observer finds why
-pub ack_begins : (x y : Party) (call : Call) (a : Answer) → Stepped x y call a → IsPending (called x y.given call a).end Ack → Caused x y call a Ack
+pub ack_begins : (x y : Party) (call : Call) (a : Answer) (s : Stepped x y call a) → IsPending (called x y.given call a).end Ack → Caused x y call a s Ack
 ack_begins x y call a s due = urges x y call a (less_calls Known Urging (λ z v h. ((packets z v h, sight z v h), h.1.0)) x y call a s.calls) s.opened due
 
 -- ---- PING, probes and messages
 
 -- it waited, it is asked for, or the time without a packet is over
-other_ping : (x y : Party) (call : Call) (a : Answer) → Stepped x y call a → is_poll call ≡ false → (wakes_at x.end call ≡ true → wakes (seen_of x y call a).now (seen_of x y call a).behind.clock (seen_of x y call a).alive ≡ true) → IsPending (called x y.given call a).end Ping → Caused x y call a Ping
+other_ping : (x y : Party) (call : Call) (a : Answer) (s : Stepped x y call a) → is_poll call ≡ false → (wakes_at x.end call ≡ true → wakes (seen_of x y call a s).now (seen_of x y call a s).behind.clock (seen_of x y call a s).alive ≡ true) → IsPending (called x y.given call a).end Ping → Caused x y call a s Ping
 other_ping x y call a s silent woken set = elim (or_cases (asks_ping call) (wakes_at x.end call || x.end.waiting.signals.ping) (sym (call_pinged x.policy x.end y.given call a silent s.opened) ∙ set)) [
   | inl asked ↦ inr (or_left (asks_ping call) _ asked)
   | inr other ↦ elim (or_cases (wakes_at x.end call) x.end.waiting.signals.ping other) [
-    | inl wakes_up ↦ inr (or_right (asks_ping call) _ (or_left (wakes (seen_of x y call a).now (seen_of x y call a).behind.clock (seen_of x y call a).alive) _ (woken wakes_up)))
+    | inl wakes_up ↦ inr (or_right (asks_ping call) _ (or_left (wakes (seen_of x y call a s).now (seen_of x y call a s).behind.clock (seen_of x y call a s).alive) _ (woken wakes_up)))
     | inr was_set ↦ inl was_set
   ]
 ]
 
 -- a probe waits at a poll in vain
-vain_poll : (x y : Party) (now : ℕ) (a : Answer) → Stepped x y (calls.Poll now) a → 0 < x.end.tracking.probes → sent_if (gave (answers.Poll (polled x.policy x.end now).answer)) (sent_by x.policy x.end now) ≡ [] → fails_to_probe (seen_of x y (calls.Poll now) a) ≡ true
+vain_poll : (x y : Party) (now : ℕ) (a : Answer) (s : Stepped x y (calls.Poll now) a) → 0 < x.end.tracking.probes → sent_if (gave (answers.Poll (polled x.policy x.end now).answer)) (sent_by x.policy x.end now) ≡ [] → fails_to_probe (seen_of x y (calls.Poll now) a s) ≡ true
 vain_poll x y now a s some none =
     and_from (nat_lt 0 v.before.flight.probes) (not (nat_lt 0 (length (went v.before v.behind))))
     (let same = ((sight x y s.gives).watched.flight (was x y (calls.Poll now) a s)).probes in lt-ltb 0 v.before.flight.probes (omega arith))
     (ap (λ (ss : List Sent). not (nat_lt 0 (length ss))) (went_here x y (calls.Poll now) a s ∙ ap (λ (b : Answer). sent_if (gave b) (sent_by x.policy x.end now)) (poll_answer x.policy x.end now a s.answer s.served) ∙ none))
   where
     v : Seen
-    v = seen_of x y (calls.Poll now) a
+    v = seen_of x y (calls.Poll now) a s
 
-pub ping_begins : (x y : Party) (call : Call) (a : Answer) → Stepped x y call a → IsPending (called x y.given call a).end Ping → Caused x y call a Ping
+pub ping_begins : (x y : Party) (call : Call) (a : Answer) (s : Stepped x y call a) → IsPending (called x y.given call a).end Ping → Caused x y call a s Ping
 ping_begins x y (calls.Poll now) a s set = elim (polled_pinged of_ping x.policy x.end now s.opened set).before [
   | inl before ↦ inl before
   | inr waited ↦ inr (or_right (wakes v.now v.behind.clock v.alive) _ (vain_poll x y now a s waited.0 waited.1))
 ]
   where
     v : Seen
-    v = seen_of x y (calls.Poll now) a
+    v = seen_of x y (calls.Poll now) a s
 ping_begins x y (calls.Timeout now) a s set = other_ping x y (calls.Timeout now) a s refl (λ woke.
     ap (λ (z : State). is_timely z (calls.Timeout now) && is_past v.alive v.behind.clock) opened
     ∙ past_is v.alive v.behind.clock
@@ -216,77 +248,38 @@ ping_begins x y (calls.Timeout now) a s set = other_ping x y (calls.Timeout now)
     ∙ woke) set
   where
     v : Seen
-    v = seen_of x y (calls.Timeout now) a
+    v = seen_of x y (calls.Timeout now) a s
 
     opened : x.end.closing.state ≡ states.Open
     opened = was x y (calls.Timeout now) a s
 ping_begins x y call a s set = other_ping x y call a s refl (λ woke. cc) set
 
 -- IMMEDIATE_ACK waited, or a probe does in vain
-pub immediate_begins : (x y : Party) (call : Call) (a : Answer) → Stepped x y call a → IsPending (called x y.given call a).end Immediate → Caused x y call a Immediate
+pub immediate_begins : (x y : Party) (call : Call) (a : Answer) (s : Stepped x y call a) → IsPending (called x y.given call a).end Immediate → Caused x y call a s Immediate
 immediate_begins x y (calls.Poll now) a s set = elim (polled_pinged of_immediate x.policy x.end now s.opened set).before [
   | inl before ↦ inl before
   | inr waited ↦ inr (vain_poll x y now a s waited.0 waited.1)
 ]
 immediate_begins x y call a s set = inl (sym (call_hastened x.policy x.end y.given call a refl s.opened) ∙ set)
 
-pub probe_begins : (x y : Party) (call : Call) (a : Answer) → Stepped x y call a → IsPending (called x y.given call a).end Probe → Caused x y call a Probe
+pub probe_begins : (x y : Party) (call : Call) (a : Answer) (s : Stepped x y call a) → IsPending (called x y.given call a).end Probe → Caused x y call a s Probe
 probe_begins x y call a s some = elim (told_probes (lens x y) (told_of call a x.end.closing.state) (watch_of x y) (subst (λ (n : ℕ). 0 < n) (sym here) some)) [
   | inl waited ↦ inl (subst (λ (n : ℕ). 0 < n) ((sight x y s.gives).watched.flight (was x y call a s)).probes waited)
   | inr expires ↦ inr expires
 ]
   where
-    here : (seen_of x y call a).behind.flight.probes ≡ (called x y.given call a).end.tracking.probes
+    here : (seen_of x y call a s).behind.flight.probes ≡ (called x y.given call a).end.tracking.probes
     here = ap (λ (w : Watch). w.flight.probes) (sym (behind_is x y call a s)) ∙ ((sight (called x y.given call a) y s.behind).watched.flight s.opened).probes
 
 -- ---- path validation
 
--- whether PATH_CHALLENGE came between
-abbrev Asked : Intake → Intake → Bool
-Asked i j = list_any (λ p. list_any is_path_challenge p.frames) (news i j)
-
--- a delivery leaves PATH_CHALLENGE as it was, or none, and PATH_RESPONSE waits where it did, or
--- PATH_CHALLENGE came
-delivered_signals : (x y : Party) (delivery : Delivery) (a : Answer) (s : Stepped x y (calls.Deliver delivery) a)
-    → SignalsBy (Asked (came_to x y) (came_to (called x y.given (calls.Deliver delivery) a) y)) x.end.waiting.signals (called x y.given (calls.Deliver delivery) a).end.waiting.signals
-delivered_signals x y delivery a s = by_coming x y a s.joined s.served (meets y x (packets y x s.takes)) (λ (e : End) (j : Intake). e.closing.state ≡ states.Open → SignalsBy (Asked (came_to x y) j) x.end.waiting.signals e.waiting.signals) (calls.Deliver delivery) s.answer (record {
-  apart = λ apart. cc;
-  none = λ other same opened. signals_same (Asked (came_to x y) (came_to x y)) x.end.waiting.signals;
-  comes = λ other same d among. record {
-    ignored = λ reason opened. signals_same (Asked (came_to x y) (came_to x y)) x.end.waiting.signals;
-    noted = λ state reason opened. (let clash : states.Closing ≡ states.Open = sym state ∙ opened in cc);
-    takes = λ words state new none urged mark opened. (let left = frames_signals d.frames (begun x.end other.now d.number) in (
-      left.0,
-      λ is. elim (left.1 is) [
-        | inl waited ↦ inl waited
-        | inr one ↦ inr (ap (λ (ps : List Packet). list_any (λ p. list_any is_path_challenge p.frames) ps) (one_new (came_to x y) d.number d.frames) ∙ or_left (list_any is_path_challenge d.frames) false one)
-      ],
-    ));
-    drains = λ words state new close is opened. cc;
-    refuses = λ words state new f is opened. cc;
-    exhausts = λ state opened. cc;
-  };
-}) s.opened
-
 -- so each waited, or has a cause
-abbrev pub SignalsBegin : Party → Party → Call → Answer → Type 0
-SignalsBegin x y call a = (IsPending (called x y.given call a).end Challenge → Caused x y call a Challenge) × (IsPending (called x y.given call a).end Response → Caused x y call a Response)
+abbrev pub SignalsBegin : (x y : Party) (call : Call) (a : Answer) → Stepped x y call a → Type 0
+SignalsBegin x y call a s = (IsPending (called x y.given call a).end Challenge → Caused x y call a s Challenge) × (IsPending (called x y.given call a).end Response → Caused x y call a s Response)
 
 -- where nothing asks for them
-quiet_begin : (x y : Party) (call : Call) (a : Answer) → SignalsBy false x.end.waiting.signals (called x y.given call a).end.waiting.signals → SignalsBegin x y call a
-quiet_begin x y call a by = ((λ set. inl (by.0 set)), λ set. elim (by.1 set) [ inl waited ↦ inl waited | inr none ↦ absurd (let clash : false ≡ true = none in cc) ])
-
-pub signals_begin : (x y : Party) (call : Call) (a : Answer) → Stepped x y call a → SignalsBegin x y call a
-signals_begin x y (calls.Poll now) a s = quiet_begin x y (calls.Poll now) a (polled_signals x.policy x.end now s.opened)
-signals_begin x y (calls.Timeout now) a s = ((λ set. inr refl), λ set. inl (sym (ap is_some (timed x.policy x.end now (was x y (calls.Timeout now) a s) s.opened).response) ∙ set))
-signals_begin x y (calls.Deliver delivery) a s = (let by = delivered_signals x y delivery a s in (
-  (λ set. inl (by.0 set)),
-  (λ set. elim (by.1 set) [
-    | inl waited ↦ inl waited
-    | inr brought ↦ inr (ap (λ (ps : List Packet). list_any (λ p. list_any is_path_challenge p.frames) ps) (came_is x y (calls.Deliver delivery) a s) ∙ brought)
-  ]),
-))
-signals_begin x y call a s = quiet_begin x y call a (quiet_signals x.policy x.end y.given call a refl refl refl)
+quiet_begin : (x y : Party) (call : Call) (a : Answer) (s : Stepped x y call a) → SignalsBy false x.end.waiting.signals (called x y.given call a).end.waiting.signals → SignalsBegin x y call a s
+quiet_begin x y call a s by = ((λ set. inl (by.0 set)), λ set. elim (by.1 set) [ inl waited ↦ inl waited | inr none ↦ absurd (let clash : false ≡ true = none in cc) ])
 
 -- ---- streams, and what waits beside their bytes
 
@@ -338,11 +331,29 @@ left_is F e i = ((λ id o is. byte_is Any F e.streams id o i.halves is), (λ id 
 abbrev Brings : (FrameValue → Bool) → Intake → Intake → Type 0
 Brings test i j = list_any (λ p. list_any test p.frames) (news i j) ≡ true
 
--- what waits behind what came, which has these frames at most
+-- whether PATH_CHALLENGE came between
+abbrev Asked : Intake → Intake → Bool
+Asked i j = list_any (λ p. list_any is_path_challenge p.frames) (news i j)
+
+-- The path changes by what came: behind that, the peer is asked anew, and numbers begin to wait to
+-- be retired that the next id passes over.
+record MovesOn (x y : Party) (left e : End) (j : Intake) : Type 0 where
+  moved : has_moved x.end e ≡ true
+  active : left.ids.peer.active ≡ x.end.ids.peer.active
+  next : next_after left.ids.peer ≡ next_of x.end.ids.peer.active (brought j.took)
+  streams : e.streams ≡ left.streams
+  asks : is_some e.waiting.signals.response ≡ true → Asked (came_to x y) j ≡ true
+  waits : LeavesBy true false (λ n. moves_over left e n) (challenging left.waiting) e.waiting
+
+-- What waits behind what came, which has these frames at most: what they leave, and what the change
+-- of the path by them does, if it changes.
 record Arrived (x y : Party) (delivery : Delivery) (e : End) (j : Intake) : Type 0 where
   frames : List FrameValue
-  brought : (test : FrameValue → Bool) → list_any test frames ≡ true → Brings test (came_to x y) j
-  begins : let v = with_delivery x.terms (watch_of x y) x.end.closing.state delivery j in BegunAt (λ q. IsPending x.end q) x.end.ids.peer.active (watch_of x y).flight.flying (watch_of x y).flight.acked frames v.flight.flying v.flight.acked e.streams e.waiting.frames
+  brought : (test : FrameValue → Bool) → test padding ≡ false → list_any test frames ≡ true → Brings test (came_to x y) j
+  left : End
+  begins : let v = with_delivery x.terms (watch_of x y) x.end.closing.state delivery j in BegunAt (λ q. IsPending x.end q) x.end.ids.peer.active (watch_of x y).flight.flying (watch_of x y).flight.acked frames v.flight.flying v.flight.acked left.streams left.waiting.frames
+  signals : SignalsBy (Asked (came_to x y) j) x.end.waiting.signals left.waiting.signals
+  moves : (e ≡ left) ⊎ MovesOn x y left e j
 
 -- before anything came
 nothing_begun : (x y : Party) → Known x y → (frames : List FrameValue) → Begun (λ q. IsPending x.end q) x.end.ids.peer.active (watch_of x y).flight.flying (watch_of x y).flight.acked frames (watch_of x y).flight.flying (watch_of x y).flight.acked x.end
@@ -369,148 +380,295 @@ module _ (x y : Party) (delivery : Delivery) (a : Answer) (s : Stepped x y (call
   i = came_to x y
 
   intake : w.intake ≡ i
-  intake = watched_intake (lens x y) x.told (first_watch x.final x.began x.initial_rtt x.initial_delay)
+  intake = watched_intake (lens x y) x.told (first_watch x.final x.began x.made.path.remote x.initial_rtt x.initial_delay)
 
   -- nothing came
   same_arrived : Arrived x y delivery x.end i
   same_arrived = record {
     frames = [];
-    brought = λ test is. cc;
+    brought = λ test none is. cc;
+    left = x.end;
     begins = subst (λ (v : Watch). BegunAt (λ q. IsPending x.end q) x.end.ids.peer.active w.flight.flying w.flight.acked [] v.flight.flying v.flight.acked x.end.streams x.end.waiting.frames)
         (sym (ap (λ (j : Intake). with_delivery x.terms w x.end.closing.state delivery j) (sym intake) ∙ nothing_delivered x.terms w x.end.closing.state delivery)) (nothing_begun x y s.gives []).0;
+    signals = signals_same (Asked i i) x.end.waiting.signals;
+    moves = inl refl;
   }
 
-  -- a packet is taken
-  taken_arrived : (d : Sent) → x.end.closing.state ≡ states.Open → (arrived x.end delivery.now d.number d.frames).fault ≡ None → (f : End) (ids : List IssuedCid) → ((n : ℕ) → has_new_id n ids ≡ true → has_new_id n (arrived x.end delivery.now d.number d.frames).end.waiting.frames.new_cids ≡ true) → f.streams ≡ (arrived x.end delivery.now d.number d.frames).end.streams → f.waiting.frames ≡ record (arrived x.end delivery.now d.number d.frames).end.waiting.frames { new_cids = ids }
-      → Arrived x y delivery f (with_taken i d.number d.frames)
-  taken_arrived d opened none f ids same streams waiting = record {
-    frames = d.frames;
-    brought = came;
-    begins = let all = frames_fly x.terms now d.frames (Begun Start used flew before d.frames) (begun_flies Start used flew before d.frames) w.flight (begun x.end delivery.now d.number) none (record { waits = begins; holds = nothing_begun x y s.gives d.frames }) in
-        subst (λ (v : Watch). BegunAt Start used flew before d.frames v.flight.flying v.flight.acked f.streams f.waiting.frames) (sym there)
-        (subst (λ (p : _). BegunAt Start used flew before d.frames after.flying after.acked f.streams p) (sym waiting)
-        (subst (λ (t : StreamsState). BegunAt Start used flew before d.frames after.flying after.acked t (record left.waiting.frames { new_cids = ids })) (sym streams) (ids_begun Start used flew before d.frames after.flying after.acked left ids same all.holds.0)));
-  }
-    where
-      left : End
-      left = (arrived x.end delivery.now d.number d.frames).end
+  -- a packet is taken, of which these frames are
+  module _ (d : Sent) (seen : List FrameValue) (opened : x.end.closing.state ≡ states.Open) (none : (arrived x.end delivery.now d.number seen).fault ≡ None)
+      (fewer : (test : FrameValue → Bool) → test padding ≡ false → list_any test seen ≡ true → list_any test d.frames ≡ true)
+      (flight : after_frames x.terms (max w.clock delivery.now) seen w.flight ≡ after_frames x.terms (max w.clock delivery.now) d.frames w.flight) where
+    abbrev left : End
+    left = (arrived x.end delivery.now d.number seen).end
 
-      Start : Thing → Type 0
-      Start q = IsPending x.end q
+    abbrev j : Intake
+    j = with_taken i d.number d.frames
 
-      used : ℕ
-      used = x.end.ids.peer.active
+    abbrev Start : Thing → Type 0
+    Start q = IsPending x.end q
 
-      flew : List Sent
-      flew = w.flight.flying
+    abbrev used : ℕ
+    used = x.end.ids.peer.active
 
-      before : List Sent
-      before = w.flight.acked
+    abbrev flew : List Sent
+    flew = w.flight.flying
 
-      came : (test : FrameValue → Bool) → list_any test d.frames ≡ true → Brings test i (with_taken i d.number d.frames)
-      came test is = ap (λ (ps : List Packet). list_any (λ p. list_any test p.frames) ps) (one_new i d.number d.frames) ∙ or_left (list_any test d.frames) false is
+    abbrev before : List Sent
+    before = w.flight.acked
 
-      now : ℕ
-      now = max w.clock delivery.now
+    those : (test : FrameValue → Bool) → test padding ≡ false → list_any test seen ≡ true → Brings test i j
+    those test pads is = ap (λ (ps : List Packet). list_any (λ p. list_any test p.frames) ps) (one_new i d.number d.frames) ∙ or_left (list_any test d.frames) false (fewer test pads is)
 
-      after : Flight
-      after = after_frames x.terms now d.frames w.flight
+    abbrev now : ℕ
+    now = max w.clock delivery.now
 
-      there : with_delivery x.terms w x.end.closing.state delivery (with_taken i d.number d.frames) ≡ record w { intake = with_taken w.intake d.number d.frames; clock = now; flight = after }
-      there = ap (λ (j : Intake). with_delivery x.terms w x.end.closing.state delivery (with_taken j d.number d.frames)) (sym intake) ∙ packet_delivered x.terms w x.end.closing.state delivery d.number d.frames opened
+    abbrev after : Flight
+    after = after_frames x.terms now seen w.flight
 
-      waits : Waits x.terms w.clock w.flight (held x.end)
-      waits = (sight x y s.gives).watched.flight opened
+    there : (with_delivery x.terms w x.end.closing.state delivery j).flight ≡ after
+    there = ap (λ (k : Intake). (with_delivery x.terms w x.end.closing.state delivery (with_taken k d.number d.frames)).flight) (sym intake) ∙ ap (λ (v : Watch). v.flight) (packet_delivered x.terms w x.end.closing.state delivery d.number d.frames opened) ∙ sym flight
 
-      numbers : Numbers
-      numbers = number_opened x.end.numbers d.number
+    waits : Waits x.terms w.clock w.flight (held x.end)
+    waits = (sight x y s.gives).watched.flight opened
 
-      begins : Waits x.terms now w.flight (held (begun x.end delivery.now d.number))
-      begins = ticked_waits x.terms w.clock delivery.now w.flight (record (held x.end) { numbers = numbers }) (numbers_wait x.terms w.clock w.flight (held x.end) numbers refl waits)
+    abbrev numbers : Numbers
+    numbers = number_opened x.end.numbers d.number
+
+    begins : Waits x.terms now w.flight (held (begun x.end delivery.now d.number))
+    begins = ticked_waits x.terms w.clock delivery.now w.flight (record (held x.end) { numbers = numbers }) (numbers_wait x.terms w.clock w.flight (held x.end) numbers refl waits)
+
+    -- what they leave, where other ids may be drawn of those that wait
+    taken_begun : (ids : List IssuedCid) → ((n : ℕ) → has_new_id n ids ≡ true → has_new_id n left.waiting.frames.new_cids ≡ true)
+        → (let v = with_delivery x.terms w x.end.closing.state delivery j in BegunAt Start used flew before seen v.flight.flying v.flight.acked left.streams (record left.waiting.frames { new_cids = ids }))
+    taken_begun ids same =
+        let all = frames_fly x.terms now seen (Begun Start used flew before seen) (begun_flies Start used flew before seen) w.flight (begun x.end delivery.now d.number) none (record { waits = begins; holds = nothing_begun x y s.gives seen }) in
+        subst (λ (f : Flight). BegunAt Start used flew before seen f.flying f.acked left.streams (record left.waiting.frames { new_cids = ids })) (sym there) (ids_begun Start used flew before seen after.flying after.acked left ids same all.holds.0)
+
+    taken_signals : SignalsBy (Asked i j) x.end.waiting.signals left.waiting.signals
+    taken_signals =
+        let by = frames_signals seen (begun x.end delivery.now d.number) in
+        (by.0, λ is. elim (by.1 is) [ inl waited ↦ inl waited | inr one ↦ inr (those is_path_challenge refl one) ])
+
+    -- the path stays
+    taken_arrived : (words : ℕ → ℕ) (urged : Bool) (mark : Option EcnCodepoint) → Arrived x y delivery (drawn words (after_taken d.number (asks_in (map Ok d.frames)) urged mark left)) j
+    taken_arrived words urged mark = (let f : End = after_taken d.number (asks_in (map Ok d.frames)) urged mark left in record {
+      frames = seen;
+      brought = those;
+      left = drawn words f;
+      begins = taken_begun (drawing words f).waiting (λ n is. sym (numbers_same words f n) ∙ is);
+      signals = taken_signals;
+      moves = inl refl;
+    })
+
+    -- the path changes
+    moved_arrived : (p : Policy) (o : Opening) → items o.payload ≡ map Ok d.frames → AllAskNone seen → brought_by seen ≡ brought_by d.frames → (urged : Bool) (mark : Option EcnCodepoint)
+        → Arrived x y delivery (migrated p o delivery.remote (drawn p.words (after_taken d.number (asks_in (map Ok d.frames)) urged mark left))) j
+    moved_arrived p o reads ask same urged mark = (
+        let f : End = after_taken d.number (asks_in (map Ok d.frames)) urged mark left in
+        let there : End = drawn p.words f in
+        let waits = moved_waits p o delivery.remote there in
+        let passes = packet_passes (brought i.took) used seen (begun x.end delivery.now d.number) none ask (s.gives.0.1.1.knows opened) refl in
+        let knows : Knows (brought j.took) [] left.ids.peer = subst (λ (ns : List ℕ). Knows (ns ++ brought i.took) [] left.ids.peer) same passes.knows in
+        record {
+          frames = seen;
+          brought = those;
+          left = there;
+          begins = taken_begun (drawing p.words f).waiting (λ n is. sym (numbers_same p.words f n) ∙ is);
+          signals = taken_signals;
+          moves = inr (record {
+            moved = ap (λ (n : ℕ). not (n == x.end.path.generation)) ((moved_path p o delivery.remote there).1 ∙ ap (λ (n : ℕ). n + 1) (keeps_frames seen (begun x.end delivery.now d.number)).generation) ∙ ap not (ne_eqb (x.end.path.generation + 1) x.end.path.generation (λ is. omega arith));
+            active = passes.used_is;
+            next = next_is (brought j.took) left.ids.peer knows ∙ ap (λ (n : ℕ). next_of n (brought j.took)) passes.used_is;
+            streams = streams_stay (λ (z : StreamsState). z ≡ left.streams) p o delivery.remote there refl;
+            asks = λ set. elim (waits.signals.1 set) [
+              | inl was ↦ absurd (let clash : false ≡ true = was in cc)
+              | inr asked ↦ ap (λ (ps : List Packet). list_any (λ p. list_any is_path_challenge p.frames) ps) (one_new i d.number d.frames)
+                  ∙ or_left (list_any is_path_challenge d.frames) false (sym (challenges_read d.frames) ∙ (ap (λ (is : List (Result FrameValue InvalidFrame)). list_any item_challenges is) (sym reads) ∙ asked))
+            ];
+            waits = record { signals = ((λ set. refl), λ set. inr refl); frames = waits.frames; new_ids = waits.new_ids; retirements = waits.retirements };
+          });
+        })
 
   delivered : (called x y.given (calls.Deliver delivery) a).end.closing.state ≡ states.Open → Arrived x y delivery (called x y.given (calls.Deliver delivery) a).end (came_to (called x y.given (calls.Deliver delivery) a) y)
-  delivered = by_coming x y a s.joined s.served (meets y x (packets y x s.takes)) (λ (e : End) (j : Intake). e.closing.state ≡ states.Open → Arrived x y delivery e j) (calls.Deliver delivery) s.answer (record {
+  delivered = by_coming_from x y a s.joined s.served (meets y x (packets y x s.takes)) (λ (b : Answer) (e : End) (j : Intake). e.closing.state ≡ states.Open → Arrived x y delivery e j) (calls.Deliver delivery) s.answer (record {
     apart = λ apart. cc;
     none = λ other same opened. same_arrived;
-    comes = λ other same d among. (let is : delivery ≡ other = cc in subst (λ (z : Delivery). Arrivals x.end z.now d.number d.frames i (λ (o : Outcome) (j : Intake). o.end.closing.state ≡ states.Open → Arrived x y delivery o.end j)) is (record {
-      ignored = λ reason opened. same_arrived;
-      noted = λ state reason opened. (let clash : states.Closing ≡ states.Open = sym state ∙ opened in cc);
-      takes = λ words state new none urged mark opened. (let f : End = after_taken d.number (asks_in (map Ok d.frames)) urged mark (arrived x.end delivery.now d.number d.frames).end in taken_arrived d state none (drawn words f) (drawing words f).waiting (λ n is. sym (numbers_same words f n) ∙ is) refl refl);
-      drains = λ words state new close fault opened. cc;
-      refuses = λ words state new f fault opened. cc;
-      exhausts = λ state opened. cc;
-    }));
+    comes = λ other same d among. (
+        let is : delivery ≡ other = cc in
+        subst (λ (z : Delivery). ArrivalsFrom z.remote z.ecn x.end z.now d.number d.frames i (λ (o : Outcome) (j : Intake). o.end.closing.state ≡ states.Open → Arrived x y delivery o.end j)) is (arrivals d among));
   })
+    where
+      arrivals : (d : Sent) → In d y.sents → ArrivalsFrom delivery.remote delivery.ecn x.end delivery.now d.number d.frames i (λ (o : Outcome) (j : Intake). o.end.closing.state ≡ states.Open → Arrived x y delivery o.end j)
+      arrivals d among = record {
+        ignored = λ reason opened. same_arrived;
+        noted = λ state reason opened. (let clash : states.Closing ≡ states.Open = sym state ∙ opened in cc);
+        takes = λ p o reads state new none opened. moves none p o reads state (moves_by delivery.remote d.number d.frames x.end && is_open (after p none).closing.state);
+        drains = λ words state new close fault opened. cc;
+        refuses = λ words state new f fault opened. cc;
+        exhausts = λ state opened. cc;
+      }
+        where
+          here : Bool
+          here = is_there delivery.remote x.end
+
+          seen : List FrameValue
+          seen = frames_at here d.frames
+
+          urged : Bool
+          urged = is_urged delivery.ecn (asks_in (map Ok d.frames)) (map Ok seen) (begun x.end delivery.now d.number)
+
+          after : Policy → (arrived x.end delivery.now d.number seen).fault ≡ None → End
+          after p none = drawn p.words (after_taken d.number (asks_in (map Ok d.frames)) urged delivery.ecn (arrived x.end delivery.now d.number seen).end)
+
+          fewer : (test : FrameValue → Bool) → test padding ≡ false → list_any test seen ≡ true → list_any test d.frames ≡ true
+          fewer test pads is = any_at test pads here d.frames is
+
+          flight : after_frames x.terms (max w.clock delivery.now) seen w.flight ≡ after_frames x.terms (max w.clock delivery.now) d.frames w.flight
+          flight = flight_at x.terms (max w.clock delivery.now) here d.frames w.flight
+
+          ask : AllAskNone seen
+          ask = among_at AsksNone tt here d.frames (s.takes.0.1.1.asks d among)
+
+          moves : (none : (arrived x.end delivery.now d.number seen).fault ≡ None) (p : Policy) (o : Opening) → items o.payload ≡ map Ok d.frames → x.end.closing.state ≡ states.Open → (b : Bool) → Arrived x y delivery (migrated_if b p o delivery.remote (after p none)) (with_taken i d.number d.frames)
+          moves none p o reads state true = moved_arrived d seen state none fewer flight p o reads ask (brought_at here d.frames) urged delivery.ecn
+          moves none p o reads state false = taken_arrived d seen state none fewer flight p.words urged delivery.ecn
 
 -- ---- what has begun has a cause
 
 -- what is behind the first of two lists
-behind_acked : (before after new : List Sent) → after ≡ before ++ new → drop (length before) after ≡ new
-behind_acked before after new is = ap (λ (xs : List Sent). drop (length before) xs) is ∙ drop_all before new
+behind_acked : (before later new : List Sent) → later ≡ before ++ new → drop (length before) later ≡ new
+behind_acked before later new is = ap (λ (xs : List Sent). drop (length before) xs) is ∙ drop_all before new
 
--- an observer finds which id of the peer an open end uses, and which it knows
-ids_hold : (x y : Party) (call : Call) (a : Answer) → Stepped x y call a → IdsHold (watch_of x y).intake.took (using_of x y).number x.end.ids.peer
-ids_hold x y call a s = subst (λ (i : Intake). IdsHold i.took (using_of x y).number x.end.ids.peer) (sym (watched_intake (lens x y) x.told (first_watch x.final x.began x.initial_rtt x.initial_delay))) (s.gives.0.1.1.holds (was x y call a s))
+-- an observer finds which id of the peer is next at an open end
+known_next : (x y : Party) (call : Call) (a : Answer) (s : Stepped x y call a) → next_after x.end.ids.peer ≡ next_of s.using (brought (watch_of x y).intake.took)
+known_next x y call a s =
+    next_is (brought (came_to x y).took) x.end.ids.peer (s.gives.0.1.1.knows (was x y call a s))
+    ∙ ap (λ (n : ℕ). next_of n (brought (came_to x y).took)) s.used
+    ∙ ap (λ (i : Intake). next_of s.using (brought i.took)) (sym (watched_intake (lens x y) x.told (first_watch x.final x.began x.made.path.remote x.initial_rtt x.initial_delay)))
 
 -- where these are in flight behind the call, and these were acknowledged, and frames that it
 -- brought are among these
-module _ (x y : Party) (call : Call) (a : Answer) (s : Stepped x y call a) (frames : List FrameValue) (brought : (test : FrameValue → Bool) → list_any test frames ≡ true → brings test (seen_of x y call a) ≡ true) (new : List Sent)
-    (more : (seen_of x y call a).behind.flight.acked ≡ (watch_of x y).flight.acked ++ new) where
-  caused : (q : Thing) → By (λ z. IsPending x.end z) x.end.ids.peer.active (watch_of x y).flight.flying (watch_of x y).flight.acked frames (seen_of x y call a).behind.flight.flying new q → Caused x y call a q
+module _ (x y : Party) (call : Call) (a : Answer) (s : Stepped x y call a) (frames : List FrameValue) (brought : (test : FrameValue → Bool) → test padding ≡ false → list_any test frames ≡ true → brings test (seen_of x y call a s) ≡ true) (new : List Sent)
+    (more : (seen_of x y call a s).behind.flight.acked ≡ (watch_of x y).flight.acked ++ new) where
+  caused : (q : Thing) → By (λ z. IsPending x.end z) x.end.ids.peer.active (watch_of x y).flight.flying (watch_of x y).flight.acked frames (seen_of x y call a s).behind.flight.flying new q → Caused x y call a s q
   caused q (inl start) = inl start
   caused q (inr (inl lost)) = inr (by_kind q lost.bore (record {
     sent = lost.sent;
     flew = lost.flies;
     gone = lost.gone;
-    unnamed = λ i. lost.unnamed (subst (λ (ss : List Sent). In lost.sent ss) (behind_acked (watch_of x y).flight.acked (seen_of x y call a).behind.flight.acked new more) i);
+    unnamed = λ i. lost.unnamed (subst (λ (ss : List Sent). In lost.sent ss) (behind_acked (watch_of x y).flight.acked (seen_of x y call a s).behind.flight.acked new more) i);
     bore = lost.bore;
   }))
     where
-      by_kind : (z : Thing) → Bears lost.sent z → WasLost (seen_of x y call a) z → HasCause (seen_of x y call a) z
+      by_kind : (z : Thing) → Bears lost.sent z → WasLost (seen_of x y call a s) z → HasCause (seen_of x y call a s) z
       by_kind (Byte id o) bore l = inr l
       by_kind (Fin id) bore l = inr l
       by_kind (Frame c) bore l = inr (inl l)
       by_kind z bore l = absurd bore
-  caused (Frame (LimitOf AllData)) (inr (inr raised)) = inr (inl (or_right _ (brings brings_data (seen_of x y call a)) (brought brings_data raised)))
-  caused (Frame (LimitOf (StreamCount dir))) (inr (inr raised)) = inr (inl (or_right _ (brings may_end (seen_of x y call a)) (brought may_end raised)))
-  caused (Frame (NewId number)) (inr (inr raised)) = inr (inl (brought is_retirement raised))
+  caused (Frame (LimitOf AllData)) (inr (inr raised)) = inr (inl (or_right _ (brings brings_data (seen_of x y call a s)) (brought brings_data refl raised)))
+  caused (Frame (LimitOf (StreamCount dir))) (inr (inr raised)) = inr (inl (or_right _ (brings may_end (seen_of x y call a s)) (brought may_end refl raised)))
+  caused (Frame (NewId number)) (inr (inr raised)) = inr (inl (brought is_retirement refl raised))
   caused (Frame (Retirement number)) (inr (inr raised)) = (
-      let used : ℕ = (using_of x y).number in
-      let may : list_any (retires used number) frames ≡ true = subst (λ (n : ℕ). list_any (retires n number) frames ≡ true) (ids_hold x y call a s).used_is raised in
-      inr (inl (or_right _ (brings (retires used number) (seen_of x y call a)) (brought (retires used number) may))))
+      let may : list_any (retires s.using number) frames ≡ true = subst (λ (n : ℕ). list_any (retires n number) frames ≡ true) s.used raised in
+      inr (inl (or_right (passes_over (seen_of x y call a s) number) (brings (retires s.using number) (seen_of x y call a s)) (brought (retires s.using number) refl may))))
   caused q (inr (inr raised)) = absurd raised
 
 -- what waits of streams and beside their bytes
-abbrev pub StreamsBegin : Party → Party → Call → Answer → Type 0
-StreamsBegin x y call a = Left (Caused x y call a) (called x y.given call a).end
+abbrev pub StreamsBegin : (x y : Party) (call : Call) (a : Answer) → Stepped x y call a → Type 0
+StreamsBegin x y call a s = Left (Caused x y call a s) (called x y.given call a).end
 
 -- a delivery
-pub delivery_begins : (x y : Party) (delivery : Delivery) (a : Answer) → Stepped x y (calls.Deliver delivery) a → StreamsBegin x y (calls.Deliver delivery) a
-delivery_begins x y delivery a s = left_of (Caused x y call a) (called x y.given call a).end (pend_more _ (Caused x y call a) _ _ (caused x y call a s r.frames (λ test is. here test (r.brought test is)) at.new at.more) at.pends)
-  where
-    call : Call
-    call = calls.Deliver delivery
+module _ (x y : Party) (delivery : Delivery) (a : Answer) (s : Stepped x y (calls.Deliver delivery) a) where
+  abbrev told : Call
+  told = calls.Deliver delivery
 
-    r : Arrived x y delivery (called x y.given call a).end (came_to (called x y.given call a) y)
-    r = delivered x y delivery a s s.opened
+  abbrev behind : Party
+  behind = called x y.given told a
 
-    -- behind the call the observer knows what it knows once this came
-    behind : (seen_of x y call a).behind ≡ with_delivery x.terms (watch_of x y) x.end.closing.state delivery (came_to (called x y.given call a) y)
-    behind =
-        ap (λ (b : Bool). watch_given b (lens x y) (timed_with (lens x y) (told_of call a x.end.closing.state) (watch_of x y))) (only_polls_give x.policy x.end y.given call a refl s.answer)
-        ∙ ap (λ (b : Bool). watch_moment b x.terms (came_with (lens x y) (told_of call a x.end.closing.state) (watch_of x y))) (untimely x.end.closing.state call refl)
-        ∙ ap (λ (j : Intake). with_delivery x.terms (watch_of x y) x.end.closing.state delivery j)
-        (ap (λ (i : Intake). and_told x.policy y.final (told_of call a x.end.closing.state) i) (watched_intake (lens x y) x.told (first_watch x.final x.began x.initial_rtt x.initial_delay)) ∙ sym (came_more x y call a))
+  abbrev of_call : Seen
+  of_call = seen_of x y told a s
 
-    at : BegunAt (λ q. IsPending x.end q) x.end.ids.peer.active (watch_of x y).flight.flying (watch_of x y).flight.acked r.frames (seen_of x y call a).behind.flight.flying (seen_of x y call a).behind.flight.acked (called x y.given call a).end.streams (called x y.given call a).end.waiting.frames
-    at = subst (λ (v : Watch). BegunAt (λ q. IsPending x.end q) x.end.ids.peer.active (watch_of x y).flight.flying (watch_of x y).flight.acked r.frames v.flight.flying v.flight.acked (called x y.given call a).end.streams (called x y.given call a).end.waiting.frames) (sym behind) r.begins
+  r : Arrived x y delivery behind.end (came_to behind y)
+  r = delivered x y delivery a s s.opened
 
-    here : (test : FrameValue → Bool) → Brings test (came_to x y) (came_to (called x y.given call a) y) → brings test (seen_of x y call a) ≡ true
-    here test is = ap (λ (ps : List Packet). list_any (λ p. list_any test p.frames) ps) (came_is x y call a s) ∙ is
+  -- behind the call the observer knows what it knows once this came
+  flight_behind : of_call.behind.flight ≡ (with_delivery x.terms (watch_of x y) x.end.closing.state delivery (came_to behind y)).flight
+  flight_behind =
+      ap (λ (b : Bool). (watch_given b (lens x y) (timed_with (lens x y) (told_of told a x.end.closing.state) (watch_of x y))).flight) (only_polls_give x.policy x.end y.given told a refl s.answer)
+      ∙ ap (λ (b : Bool). (watch_moment b x.terms (came_with (lens x y) (told_of told a x.end.closing.state) (watch_of x y))).flight) (untimely x.end.closing.state told refl)
+      ∙ ap (λ (j : Intake). (with_delivery x.terms (watch_of x y) x.end.closing.state delivery j).flight)
+      (ap (λ (i : Intake). and_told x.policy y.final (told_of told a x.end.closing.state) i) (watched_intake (lens x y) x.told (first_watch x.final x.began x.made.path.remote x.initial_rtt x.initial_delay)) ∙ sym (came_more x y told a))
+
+  begun_at : BegunAt (λ q. IsPending x.end q) x.end.ids.peer.active (watch_of x y).flight.flying (watch_of x y).flight.acked r.frames of_call.behind.flight.flying of_call.behind.flight.acked r.left.streams r.left.waiting.frames
+  begun_at = subst (λ (f : Flight). BegunAt (λ q. IsPending x.end q) x.end.ids.peer.active (watch_of x y).flight.flying (watch_of x y).flight.acked r.frames f.flying f.acked r.left.streams r.left.waiting.frames) (sym flight_behind) r.begins
+
+  here : (test : FrameValue → Bool) → Brings test (came_to x y) (came_to behind y) → brings test of_call ≡ true
+  here test is = ap (λ (ps : List Packet). list_any (λ p. list_any test p.frames) ps) (came_is x y told a s) ∙ is
+
+  -- what the frames leave has a cause
+  left_pends : Pends (Caused x y told a s) r.left
+  left_pends = pend_more _ (Caused x y told a s) _ _ (caused x y told a s r.frames (λ test none is. here test (r.brought test none is)) begun_at.new begun_at.more) begun_at.pends
+
+  -- where the path changes, so has a number that the next id passes over
+  module _ (m : MovesOn x y r.left behind.end (came_to behind y)) where
+    changed : has_changed of_call.before of_call.behind ≡ true
+    changed = changes x y told a s ∙ m.moved
+
+    retired : (n : ℕ) → moves_over r.left behind.end n ≡ true → Caused x y told a s (Frame (Retirement n))
+    retired n is =
+        let both = and_parts (nat_lt r.left.ids.peer.active behind.end.ids.peer.active) (is_passed n r.left.ids.peer.active (next_after r.left.ids.peer)) is in
+        let above = ltb-true r.left.ids.peer.active behind.end.ids.peer.active both.0 in
+        let same = m.active in
+        let next : next_after r.left.ids.peer ≡ next_of s.using (brought of_call.behind.intake.took) =
+        m.next
+        ∙ ap (λ (k : ℕ). next_of k (brought (came_to behind y).took)) s.used
+        ∙ ap (λ (i : Intake). next_of s.using (brought i.took)) (sym (ap (λ (v : Watch). v.intake) (sym (behind_is x y told a s)) ∙ watched_intake (lens x y) behind.told (first_watch x.final x.began x.made.path.remote x.initial_rtt x.initial_delay))) in
+        let passes : is_passed n s.using (next_of s.using (brought of_call.behind.intake.took)) ≡ true =
+        ap (λ (o : Option ℕ). is_passed n s.using o) (sym next) ∙ ap (λ (k : ℕ). is_passed n k (next_after r.left.ids.peer)) (sym s.used ∙ sym same) ∙ both.1 in
+        let passed : moves_past of_call n ≡ true =
+        and_from (has_changed of_call.before of_call.behind) _ changed (and_from (not s.stays) _ (goes s.stays refl (λ stays. (let kept = (s.tells changed).0 stays in omega arith))) passes) in
+        inr (inl (or_left (passes_over of_call n) (brings (retires s.using n) of_call) (or_right (uses_past of_call n) (moves_past of_call n) passed)))
+      where
+        goes : (b : Bool) → s.stays ≡ b → (s.stays ≡ true → ⊥) → not b ≡ true
+        goes true is stays = absurd (stays is)
+        goes false is stays = refl
+
+    moved_pends : Pends (Caused x y told a s) behind.end
+    moved_pends = leaves_pend (Caused x y told a s) (record r.left { waiting = challenging r.left.waiting }) behind.end true false (λ n. moves_over r.left behind.end n) m.waits m.streams (λ none n. cc) retired left_pends
+
+    moved_signals : SignalsBegin x y told a s
+    moved_signals = (
+      (λ set. inr (or_right (is_timeout told) (has_changed of_call.before of_call.behind) changed)),
+      (λ set. inr (here is_path_challenge (m.asks set))),
+    )
+
+  pub delivery_begins : StreamsBegin x y told a s
+  delivery_begins = left_of (Caused x y told a s) behind.end (elim r.moves [
+    | inl same ↦ subst (Pends (Caused x y told a s)) (sym same) left_pends
+    | inr moved ↦ moved_pends moved
+  ])
+
+  delivery_signals : SignalsBegin x y told a s
+  delivery_signals = elim r.moves [
+    | inl same ↦ (
+      (λ set. inl (r.signals.0 (ap (λ (e : End). is_some e.waiting.signals.challenge) (sym same) ∙ set))),
+      (λ set. elim (r.signals.1 (ap (λ (e : End). is_some e.waiting.signals.response) (sym same) ∙ set)) [
+        | inl waited ↦ inl waited
+        | inr asked ↦ inr (here is_path_challenge asked)
+      ]),
+    )
+    | inr moved ↦ moved_signals moved
+  ]
+
+pub signals_begin : (x y : Party) (call : Call) (a : Answer) (s : Stepped x y call a) → SignalsBegin x y call a s
+signals_begin x y (calls.Poll now) a s = quiet_begin x y (calls.Poll now) a s (polled_signals x.policy x.end now s.opened)
+signals_begin x y (calls.Timeout now) a s = ((λ set. inr refl), λ set. inl (sym (ap is_some (timed x.policy x.end now (was x y (calls.Timeout now) a s) s.opened).response) ∙ set))
+signals_begin x y (calls.Deliver delivery) a s = delivery_signals x y delivery a s
+signals_begin x y call a s = quiet_begin x y call a s (quiet_signals x.policy x.end y.given call a refl refl refl)
 
 -- a timeout
-pub timeout_begins : (x y : Party) (now : ℕ) (a : Answer) → Stepped x y (calls.Timeout now) a → StreamsBegin x y (calls.Timeout now) a
-timeout_begins x y now a s = left_of (Caused x y call a) (called x y.given call a).end (pend_more _ (Caused x y call a) _ _ (caused x y call a s [] (λ test is. cc) at.new at.more) at.pends)
+pub timeout_begins : (x y : Party) (now : ℕ) (a : Answer) (s : Stepped x y (calls.Timeout now) a) → StreamsBegin x y (calls.Timeout now) a s
+timeout_begins x y now a s = left_of (Caused x y call a s) (called x y.given call a).end (pend_more _ (Caused x y call a s) _ _ (caused x y call a s [] (λ test none is. cc) at.new at.more) at.pends)
   where
     call : Call
     call = calls.Timeout now
@@ -527,7 +685,7 @@ timeout_begins x y now a s = left_of (Caused x y call a) (called x y.given call 
     t : Told
     t = told_of call a x.end.closing.state
 
-    behind : (seen_of x y call a).behind ≡ at_time x.terms w now
+    behind : (seen_of x y call a s).behind ≡ at_time x.terms w now
     behind =
         told_timed (lens x y) t w (only_polls_give x.policy x.end y.given call a refl s.answer) (none_comes (lens x y) t w.intake refl)
         ∙ ap (λ (z : State). watch_moment (is_timely z call) x.terms (record w { clock = clock_behind w.clock (moment_of z false call) })) opened
@@ -536,16 +694,16 @@ timeout_begins x y now a s = left_of (Caused x y call a) (called x y.given call 
     flies = timeout_flies (Begun (λ q. IsPending x.end q) used w.flight.flying w.flight.acked []) (begun_loses (λ q. IsPending x.end q) used w.flight.flying w.flight.acked []) (λ flying acked c pending timers signals validation e i. i)
         x.policy x.terms w x.end now ((sight x y s.gives).stands opened) ((sight x y s.gives).watched.flight opened) (nothing_begun x y s.gives [])
 
-    at : BegunAt (λ q. IsPending x.end q) used w.flight.flying w.flight.acked [] (seen_of x y call a).behind.flight.flying (seen_of x y call a).behind.flight.acked (timed_out x.policy x.end now).end.streams (timed_out x.policy x.end now).end.waiting.frames
+    at : BegunAt (λ q. IsPending x.end q) used w.flight.flying w.flight.acked [] (seen_of x y call a s).behind.flight.flying (seen_of x y call a s).behind.flight.acked (timed_out x.policy x.end now).end.streams (timed_out x.policy x.end now).end.waiting.frames
     at =
         subst (λ (v : Watch). BegunAt (λ q. IsPending x.end q) used w.flight.flying w.flight.acked [] v.flight.flying v.flight.acked (timed_out x.policy x.end now).end.streams (timed_out x.policy x.end now).end.waiting.frames) (sym behind)
         (subst (λ (z : State). BegunAt (λ q. IsPending x.end q) used w.flight.flying w.flight.acked [] (at_time x.terms w now).flight.flying (at_time x.terms w now).flight.acked (timed_out_in z x.policy x.end now).end.streams (timed_out_in z x.policy x.end now).end.waiting.frames) (sym opened) flies.0)
 
 -- a poll
-pub poll_begins : (x y : Party) (now : ℕ) (a : Answer) → Stepped x y (calls.Poll now) a → StreamsBegin x y (calls.Poll now) a
-poll_begins x y now a s = polled_left (Caused x y call a) x.policy x.end now (watch_of x y).flight.flying seen_waits.tells.waits
+pub poll_begins : (x y : Party) (now : ℕ) (a : Answer) (s : Stepped x y (calls.Poll now) a) → StreamsBegin x y (calls.Poll now) a s
+poll_begins x y now a s = polled_left (Caused x y call a s) x.policy x.end now (watch_of x y).flight.flying seen_waits.tells.waits
     (λ some u among c bears. inr (inr (inr (record { polls = refl; waited = subst (λ (n : ℕ). 0 < n) (sym seen_waits.probes) some; sent = u; flies = among; bears = bears })))) (λ anew. inr (inl (sym known_anew ∙ anew)))
-    (pend_more (λ q. IsPending x.end q) (Caused x y call a) x.end.streams x.end.waiting.frames (λ q is. inl is) (pends_start x y s.gives)) s.opened
+    (pend_more (λ q. IsPending x.end q) (Caused x y call a s) x.end.streams x.end.waiting.frames (λ q is. inl is) (pends_start x y s.gives)) s.opened
   where
     call : Call
     call = calls.Poll now
@@ -561,8 +719,7 @@ poll_begins x y now a s = polled_left (Caused x y call a) x.policy x.end now (wa
         ∙ ap (λ (ss : List Sent). wants_anew (asking_of x.made) ss (watch_of x y).flight) (sym (sight x y s.gives).own)
 
 -- an observer finds which ids of the peer are passed over where the next one is used
-pub skipped_is : (x y : Party) (call : Call) (a : Answer) → Stepped x y call a → (n : ℕ) → is_skipped call a x.end.ids.peer n ≡ passes_over (seen_of x y call a) n
+pub skipped_is : (x y : Party) (call : Call) (a : Answer) (s : Stepped x y call a) (n : ℕ) → is_skipped call a x.end.ids.peer n ≡ uses_past (seen_of x y call a s) n
 skipped_is x y call a s n =
-    let holds = ids_hold x y call a s in
-    ap (λ (used : ℕ). uses_next call a && is_passed n used (next_after x.end.ids.peer)) holds.used_is
-    ∙ ap (λ (next : Option ℕ). uses_next call a && is_passed n (using_of x y).number next) (next_above (watch_of x y).intake.took (using_of x y).number x.end.ids.peer holds)
+    ap (λ (used : ℕ). uses_next call a && is_passed n used (next_after x.end.ids.peer)) s.used
+    ∙ ap (λ (next : Option ℕ). uses_next call a && is_passed n s.using next) (known_next x y call a s)

@@ -1,6 +1,6 @@
 -- So what waits behind a call waited before it, or has a cause, at each place of an honest run.
 use Rattle.std.proofs.Common.{◌≡◌, ℕ, suc, ◌≤◌, max, Bool, true, false, List, [], ◌∷◌, ◌++◌, length, Option, Some, None, refl, sym, ap, ◌∙◌, subst, ◌⊎◌, inl, inr, arith}
-use Rattle.std.specs.Prelude.{◌==◌, not}
+use Rattle.std.specs.Prelude.{◌↔◌, ◌==◌, not}
 use Rattle.std.specs.List.{list_any}
 use Rattle.std.proofs.lemmas.Bool.{or_left, or_cases, and_from, and_parts, eqb-true, eq-eqb, both_ways}
 use Rattle.quic_wire_core.specs.declared.stream_id.Side.{Side}
@@ -25,22 +25,25 @@ use Rattle.quic_machine.specs.declared.run.Answer.{Answer}
 use Rattle.quic_machine.specs.End.{End, streams_at}
 use Rattle.quic_machine.specs.Calls.{is_open}
 use Rattle.quic_machine.specs.Control as window
+use Rattle.quic_machine.specs.Control.{with_pacing}
+use Rattle.quic_machine.specs.Ids.{Ids}
+use Rattle.quic_congestion.specs.Pacer.{Pacing}
 use Rattle.quic_machine.specs.StreamCalls.{is_on_streams, after_on_streams}
 use Rattle.quic_machine.specs.CallCases.{is_delivery, is_poll, is_timeout}
 use Rattle.quic_machine.specs.Machine.{World, gave, reads_window, changed, end_at, control_at, heard_at}
 use Rattle.quic_machine.specs.Heard.{Heard}
 use Rattle.quic_machine.specs.RunLaws.{as_many_views}
 use Rattle.quic_headline.specs.Runs.{Run, Told, Intake, In, folded, until, state_at, given_of, AreServed, written}
-use Rattle.quic_headline.specs.Observer.{Sent, HoldsOffset, HoldsEnd, Watch, first_watch, watch, watch_told, watch_from, lens_of}
+use Rattle.quic_headline.specs.Observer.{Sent, HoldsOffset, HoldsEnd, Watch, first_watch, watch, watch_told, watch_from, lens_of, has_changed, generation_at, path_changes}
 use Rattle.quic_headline.specs.Headline.{IsHonest, IsRun, IsAt}
-use Rattle.quic_headline.specs.InUse.{in_use}
+use Rattle.quic_headline.specs.InUse.{in_use, TellsStays}
 use Rattle.quic_headline.specs.Amounts.{greatest, data_limit_in, stream_limit_in, data_limit, stream_limit}
 use Rattle.quic_headline.specs.Duties.{AllData, StreamCount, WasGiven}
 use Rattle.quic_headline.specs.Moments.{went}
 use Rattle.quic_headline.specs.Requests.{asking_at}
 use Rattle.quic_headline.specs.AcksDue.{is_immediate_ack, haste_told, no_haste, is_due}
 use Rattle.quic_headline.specs.Waited.{stands, is_ping, wants, wants_told, no_wants}
-use Rattle.quic_headline.specs.Begins.{Control, LimitOf, Blocked, BlockedOn, NewId, Retirement, Thing, Ack, Ping, Immediate, Challenge, Response, Probe, Message, Byte, Fin, Frame, IsPending, Seen, brings, finds_blocked, may_end, brings_data, says_blocked, says_blocked_on, has_said, has_said_on, retires, passes_over, asks_for, HasCause, HasGone, seen_at, still, BeginsAt, WaitingBegins, Request}
+use Rattle.quic_headline.specs.Begins.{Control, LimitOf, Blocked, BlockedOn, NewId, Retirement, Thing, Ack, Ping, Immediate, Challenge, Response, Probe, Message, Byte, Fin, Frame, IsPending, Seen, brings, finds_blocked, may_end, brings_data, says_blocked, says_blocked_on, has_said, has_said_on, retires, uses_past, moves_past, passes_over, asks_for, HasCause, HasGone, seen_at, still, BeginsAt, WaitingBegins, Request}
 use Rattle.quic_headline.specs.Begins as new
 use Rattle.quic_headline.proofs.Packets.Intakes.{folded_more}
 use Rattle.quic_headline.proofs.Packets.Watching.{watched_intake}
@@ -50,14 +53,15 @@ use Rattle.quic_headline.proofs.Places.Steps.{poll_answer}
 use Rattle.quic_headline.proofs.Places.Placed.{Placed, placed, party_at, stands_in}
 use Rattle.quic_headline.proofs.Halves.Ghosts.{wrote}
 use Rattle.quic_headline.proofs.Halves.QuietSteps.{sent_within}
+use Rattle.quic_headline.proofs.Timers.Still.{was_open}
 use Rattle.quic_headline.proofs.Timers.Watched.{Observed}
+use Rattle.quic_headline.proofs.NextIds.Used.{in_use_is}
 use Rattle.quic_headline.proofs.Timers.AckMoments.{call_answered}
 use Rattle.quic_headline.proofs.Timers.Quiet.{Unnamed, quiet_group}
 use Rattle.quic_headline.proofs.Amounts.Tally.{Tallies, half_tallied}
 use Rattle.quic_headline.proofs.Amounts.Group.{tally_of, Tallied, tallied_group}
 use Rattle.quic_headline.proofs.Requests.Drafts.{polled_requests, none_waits}
-use Rattle.quic_headline.proofs.NextIds.Group.{using_of}
-use Rattle.quic_headline.proofs.Steps.Made.{MadeAt, made_at, made_served, made_end, served_before, told_next, told_here, one_behind, calling, CallHolds, call_holds, whole}
+use Rattle.quic_headline.proofs.Steps.Made.{MadeAt, made_at, made_served, left_at, made_end, served_before, told_next, told_here, one_behind, calling, reads_either, CallHolds, call_holds, whole}
 use Rattle.quic_headline.proofs.Waited.Pings.{of_ping, of_immediate, polled_pinged}
 use Rattle.quic_headline.proofs.Waited.Flags.{Flag, all, counts, blocked, challenge, response, flag, says as flag_says}
 use Rattle.quic_headline.proofs.Waited.Group.{polled_flags, wants_of}
@@ -67,7 +71,7 @@ use Rattle.quic_headline.proofs.Begins.Walk.{Pends, pend_more}
 use Rattle.quic_headline.proofs.Begins.Gone.{polled_goes}
 use Rattle.quic_headline.proofs.Begins.Steps.{Left, streams_left, quiet_left}
 use Rattle.quic_headline.specs.InFlight.{is_ack_frequency}
-use Rattle.quic_headline.proofs.Begins.Behind.{Known, known, packets, holds, sight, seen_of, Caused, went_here, was, ack_begins, ping_begins, immediate_begins, probe_begins, signals_begin, pends_start, written_is, waits_within, left_is, delivery_begins, timeout_begins, poll_begins, skipped_is, Stepped}
+use Rattle.quic_headline.proofs.Begins.Behind.{Known, known, packets, holds, sight, watch_next, seen_of, Caused, went_here, was, ack_begins, ping_begins, immediate_begins, probe_begins, signals_begin, pends_start, written_is, waits_within, left_is, delivery_begins, timeout_begins, poll_begins, skipped_is, Stepped}
 use Rattle.quic_headline.proofs.Begins.SaidWalk.{AtMost, IsWithin, blocked_frame, half_says}
 use Rattle.quic_headline.proofs.Begins.Said.{SaidHolds, said_group}
 
@@ -124,13 +128,13 @@ module _ (x y : Party) (call : Call) (a : Answer) (s : Stepped x y call a) (h : 
   open_now = was x y call a s
 
   abbrev before : Seen
-  before = seen_of x y call a
+  before = seen_of x y call a s
 
   tallies : Tallies (tally_of x.made.streams (came_to x y).took x.told) x.end.streams
   tallies = t.still open_now
 
   intake_is : (watch_of x y).intake ≡ came_to x y
-  intake_is = watched_intake (lens x y) x.told (first_watch x.final x.began x.initial_rtt x.initial_delay)
+  intake_is = watched_intake (lens x y) x.told (first_watch x.final x.began x.made.path.remote x.initial_rtt x.initial_delay)
 
   all_limit : x.end.streams.sending.limit ≡ data_limit before.params before.before.intake.took
   all_limit =
@@ -188,14 +192,14 @@ module _ (x y : Party) (call : Call) (a : Answer) (s : Stepped x y call a) (h : 
 -- ---- what waits
 
 -- another call, but for how far bytes were written
-abbrev Almost : Party → Party → Call → Answer → Thing → Type 0
-Almost x y call a (Byte id o) = IsPending x.end (Byte id o) ⊎ (length (written id x.told) ≤ o)
-Almost x y call a q = Caused x y call a q
+abbrev Almost : (x y : Party) (call : Call) (a : Answer) → Stepped x y call a → Thing → Type 0
+Almost x y call a s (Byte id o) = IsPending x.end (Byte id o) ⊎ (length (written id x.told) ≤ o)
+Almost x y call a s q = Caused x y call a s q
 
-other_begins : (x y : Party) (call : Call) (a : Answer) → is_delivery call ≡ false → is_poll call ≡ false → is_timeout call ≡ false → Stepped x y call a → SaidHolds x y → Tallied x y → Left (Almost x y call a) (called x y.given call a).end
+other_begins : (x y : Party) (call : Call) (a : Answer) → is_delivery call ≡ false → is_poll call ≡ false → is_timeout call ≡ false → (s : Stepped x y call a) → SaidHolds x y → Tallied x y → Left (Almost x y call a s) (called x y.given call a).end
 other_begins x y call a apart silent other s h t = go (is_on_streams call) refl
   where
-    almost : (q : Thing) → IsPending x.end q → Almost x y call a q
+    almost : (q : Thing) → IsPending x.end q → Almost x y call a s q
     almost Ack is = inl is
     almost Ping is = inl is
     almost Immediate is = inl is
@@ -207,17 +211,18 @@ other_begins x y call a apart silent other s h t = go (is_on_streams call) refl
     almost (Fin id) is = inl is
     almost (Frame c) is = inl is
 
-    start : Pends (Almost x y call a) x.end
-    start = pend_more (λ q. IsPending x.end q) (Almost x y call a) x.end.streams x.end.waiting.frames almost (pends_start x y s.gives)
+    start : Pends (Almost x y call a s) x.end
+    start = pend_more (λ q. IsPending x.end q) (Almost x y call a s) x.end.streams x.end.waiting.frames almost (pends_start x y s.gives)
 
-    go : (b : Bool) → is_on_streams call ≡ b → Left (Almost x y call a) (called x y.given call a).end
-    go true on = streams_left (Almost x y call a) x.policy x.end y.given start call a (λ c is unsaid. inr (inl (asked_is x y call a s h t c is unsaid))) (λ id is. inr (inl is)) (λ id h is. sent_within (wrote x.told) x.end.streams (holds x y s.gives) id h is)
+    go : (b : Bool) → is_on_streams call ≡ b → Left (Almost x y call a s) (called x y.given call a).end
+    go true on = streams_left (Almost x y call a s) x.policy x.end y.given start call a (λ c is unsaid. inr (inl (asked_is x y call a s h t c is unsaid))) (λ id is. inr (inl is)) (λ id h is. sent_within (wrote x.told) x.end.streams (holds x y s.gives) id h is)
         (λ id h is none o above. inr (subst (λ (n : ℕ). n ≤ o) (written_is (wrote x.told id) h (half_holds (wrote x.told) x.end.streams (holds x y s.gives) id h is) none) above)) s.answer on
-    go false off = quiet_left (Almost x y call a) x.policy x.end y.given start call a (λ n skips. inr (inl (or_left (passes_over (seen_of x y call a) n) (brings (retires (using_of x y).number n) (seen_of x y call a)) (sym (skipped_is x y call a s n) ∙ skips)))) off apart silent other
+    go false off = quiet_left (Almost x y call a s) x.policy x.end y.given start call a (λ n skips. inr (inl (or_left (passes_over (seen_of x y call a s) n) (brings (retires s.using n) (seen_of x y call a s))
+        (or_left (uses_past (seen_of x y call a s) n) (moves_past (seen_of x y call a s) n) (sym (skipped_is x y call a s n) ∙ skips))))) off apart silent other
 
 -- ---- all of it
 
-begins : (x y : Party) (call : Call) (a : Answer) → Stepped x y call a → SaidHolds x y → Tallied x y → (q : Thing) → IsPending (called x y.given call a).end q → Caused x y call a q
+begins : (x y : Party) (call : Call) (a : Answer) (s : Stepped x y call a) → SaidHolds x y → Tallied x y → (q : Thing) → IsPending (called x y.given call a).end q → Caused x y call a s q
 begins x y call a s h t Ack is = ack_begins x y call a s is
 begins x y call a s h t Ping is = ping_begins x y call a s is
 begins x y call a s h t Immediate is = immediate_begins x y call a s is
@@ -297,21 +302,34 @@ reads_pends control heard (calls.Poll now) e (Fin id) is = is
 reads_pends control heard (calls.Poll now) e (Frame c) is = is
 reads_pends control heard call e q is = is
 
+-- nor does another pacer
+paced_pends : (pacing : Pacing) (e : End) (q : Thing) → IsPending (with_pacing e pacing) q → IsPending e q
+paced_pends pacing e Ack is = is
+paced_pends pacing e Ping is = is
+paced_pends pacing e Immediate is = is
+paced_pends pacing e Challenge is = is
+paced_pends pacing e Response is = is
+paced_pends pacing e Probe is = is
+paced_pends pacing e (Message m) is = is
+paced_pends pacing e (Byte id o) is = is
+paced_pends pacing e (Fin id) is = is
+paced_pends pacing e (Frame c) is = is
+
 -- and leaves the state
 reads_closing : (control : window.Control) (heard : Heard) (call : Call) (e : End) → (reads_window control heard call e).closing.state ≡ e.closing.state
 reads_closing control heard (calls.Poll now) e = refl
 reads_closing control heard call e = refl
 
 -- what the observer knows behind a call
-watched_behind : (x y : Party) (call : Call) (a : Answer) → watch_of (called x y.given call a) y ≡ (seen_of x y call a).behind
-watched_behind x y call a = folded_more (watch_told (lens x y)) x.told (told_of call a x.end.closing.state) (first_watch x.final x.began x.initial_rtt x.initial_delay)
+watched_behind : (x y : Party) (call : Call) (a : Answer) → watch_of (called x y.given call a) y ≡ watch_next x y call a
+watched_behind x y call a = folded_more (watch_told (lens x y)) x.told (told_of call a x.end.closing.state) (first_watch x.final x.began x.made.path.remote x.initial_rtt x.initial_delay)
 
 -- a call at one end leaves the other
 other_stays : (side : Side) (w : World) (e : End) (ds : List (List ℕ)) (control : window.Control) (heard : Heard) → end_at (other_side side) (changed side w e ds control heard) ≡ end_at (other_side side) w
 other_stays Client w e ds control heard = refl
 other_stays Server w e ds control heard = refl
 
-module _ (r : Run) (end : World) (honest : IsHonest r) (run : IsRun r end) (side : Side) (i : ℕ) (call : Call) (a : Answer) (served : AreServed r (suc i)) (here : IsAt r i side call a) where
+module _ (r : Run) (end : World) (honest : IsHonest r) (run : IsRun r end) (side : Side) (stays : ℕ → Bool) (kept : TellsStays r side stays) (i : ℕ) (call : Call) (a : Answer) (served : AreServed r (suc i)) (here : IsAt r i side call a) where
   made : MadeAt r i side call a
   made = made_at Wide wide r end honest run i side call a here served
 
@@ -327,7 +345,10 @@ module _ (r : Run) (end : World) (honest : IsHonest r) (run : IsRun r end) (side
   abbrev y : Party
   y = party_at r i front (other_side side) h.theirs
 
-  left : end_at side made.behind ≡ (called x y.given call a).end
+  abbrev pacing : Pacing
+  pacing = (left_at r side front call a).path.pacing
+
+  left : end_at side made.behind ≡ with_pacing (called x y.given call a).end pacing
   left = made_end r i side call a front made.behind made.made
 
   -- the state before it, and what is told with it
@@ -349,15 +370,39 @@ module _ (r : Run) (end : World) (honest : IsHonest r) (run : IsRun r end) (side
       ∙ ap (λ (ts : List Told). until r side i ++ ts) (told_here side (state_at r side i) call a ∙ ap (λ (z : State). told_of call a z ∷ []) state)
 
   -- what an observer wants, by what was told
-  wants_same : (told : List Told) → folded (wants_told (lens_of r side)) told (no_wants (watch_from (end_at side r.start) (given_of r side))) ≡ folded (wants_told (lens x y)) told (no_wants (first_watch x.final x.began x.initial_rtt x.initial_delay))
+  wants_same : (told : List Told) → folded (wants_told (lens_of r side)) told (no_wants (watch_from (end_at side r.start) (given_of r side))) ≡ folded (wants_told (lens x y)) told (no_wants (first_watch x.final x.began x.made.path.remote x.initial_rtt x.initial_delay))
   wants_same told = refl
 
   -- and what it finds due
-  haste_same : (told : List Told) → folded (haste_told (lens_of r side)) told (no_haste (watch_from (end_at side r.start) (given_of r side))) ≡ folded (haste_told (lens x y)) told (no_haste (first_watch x.final x.began x.initial_rtt x.initial_delay))
+  haste_same : (told : List Told) → folded (haste_told (lens_of r side)) told (no_haste (watch_from (end_at side r.start) (given_of r side))) ≡ folded (haste_told (lens x y)) told (no_haste (first_watch x.final x.began x.made.path.remote x.initial_rtt x.initial_delay))
   haste_same told = refl
 
+  -- the ids of the peer, as the end met the call, and behind it
+  ids_met : x.end.ids ≡ (end_at side front).ids
+  ids_met = reads_either (λ (e : End). e.ids ≡ (end_at side front).ids) (control_at side front) (heard_at side front) call (end_at side front) refl refl
+
+  changed_is : has_changed (watch_of x y) (watch_next x y call a) ≡ path_changes r side i
+  changed_is = ap (λ (v : Watch). has_changed v (watch_next x y call a)) (sym h.seen) ∙ ap (λ (v : Watch). has_changed (watch r side i) v) (sym (h.seen_behind ∙ watched_behind x y call a))
+
   opened_stepped : (called x y.given call a).end.closing.state ≡ states.Open → Stepped x y call a
-  opened_stepped opened = record { calls = less_calls Wide Known (λ z v k. k.0.0) x y call a (whole Wide r i side call a front h); joined = h.joined; answer = made.made.step.answer; served = made_served r i side call a front made.behind made.made; gives = h.gives.0.0; takes = h.takes.0.0; behind = h.behind.0.0; opened = opened }
+  opened_stepped opened = record {
+    calls = less_calls Wide Known (λ z v k. k.0.0) x y call a (whole Wide r i side call a front h);
+    joined = h.joined;
+    answer = made.made.step.answer;
+    served = made_served r i side call a front made.behind made.made;
+    gives = h.gives.0.0;
+    takes = h.takes.0.0;
+    behind = h.behind.0.0;
+    opened = opened;
+    using = in_use r stays side i;
+    used = ap (λ (ids : Ids). ids.peer.active) ids_met
+        ∙ sym (in_use_is r end honest run side stays kept i front before_served made.made.leads (sym (reads_closing (control_at side front) (heard_at side front) call (end_at side front)) ∙ was_open x.policy x.end y.given call a opened));
+    stays = stays (generation_at r side (suc i));
+    tells = λ changed. (
+        let told = kept i front made.behind served made.made.leads made.leads (sym changed_is ∙ changed) in
+        subst (λ (n : ℕ). (stays (generation_at r side (suc i)) ≡ true) ↔ (n ≡ x.end.ids.peer.active)) (ap (λ (e : End). e.ids.peer.active) left)
+        (subst (λ (ids : Ids). (stays (generation_at r side (suc i)) ≡ true) ↔ ((end_at side made.behind).ids.peer.active ≡ ids.peer.active)) (sym ids_met) told));
+  }
 
   -- what is seen of these
   abbrev seen_with : State → Watch → Watch → Bool → Bool → Seen
@@ -371,15 +416,17 @@ module _ (r : Run) (end : World) (honest : IsHonest r) (run : IsRun r end) (side
     marked = marked;
     alive = (wants_of x y).alive;
     asking = asking_at r side;
-    using = in_use r side i;
+    using = in_use r stays side i;
+    stays = stays (generation_at r side (suc i));
     side = side;
     params = (end_at side r.start).peer_params;
     gave = before.own;
   }
 
   -- what is seen in the run is seen so
-  seen_same : seen_at r side i call a ≡ seen_of x y call a
-  seen_same =
+  seen_same : (opened : (called x y.given call a).end.closing.state ≡ states.Open) → seen_at r stays side i call a ≡ seen_of x y call a (opened_stepped opened)
+  unfolding h opened_stepped
+  seen_same opened =
       ap (λ z. seen_with z (watch r side i) (watch r side (suc i)) (is_due r side (suc i)) (wants r side (suc i)).marked) state
       ∙ ap (λ b. seen_with x.end.closing.state b (watch r side (suc i)) (is_due r side (suc i)) (wants r side (suc i)).marked) h.seen
       ∙ ap (λ b. seen_with x.end.closing.state (watch_of x y) b (is_due r side (suc i)) (wants r side (suc i)).marked) (h.seen_behind ∙ watched_behind x y call a)
@@ -389,16 +436,18 @@ module _ (r : Run) (end : World) (honest : IsHonest r) (run : IsRun r end) (side
       (ap (λ (ts : List Told). (folded (wants_told (lens_of r side)) ts (no_wants (watch_from (end_at side r.start) (given_of r side)))).marked) told_more ∙ ap (λ q. q.marked) (wants_same (called x y.given call a).told))
     where
       v : Seen
-      v = seen_of x y call a
+      v = seen_of x y call a (opened_stepped opened)
 
-  begins_here : (end_at side made.behind).closing.state ≡ states.Open → BeginsAt (seen_at r side i call a) (end_at side front) (end_at side made.behind)
+  begins_here : (end_at side made.behind).closing.state ≡ states.Open → BeginsAt (seen_at r stays side i call a) (end_at side front) (end_at side made.behind)
   begins_here opened q is =
-      let stepped = opened_stepped (ap (λ (e : End). e.closing.state) (sym left) ∙ opened) in
-      let pending : IsPending (called x y.given call a).end q = subst (λ (e : End). IsPending e q) left is in
+      let still_open = ap (λ (e : End). e.closing.state) (sym left) ∙ opened in
+      let stepped = opened_stepped still_open in
+      let same = seen_same still_open in
+      let pending : IsPending (called x y.given call a).end q = paced_pends pacing (called x y.given call a).end q (subst (λ (e : End). IsPending e q) left is) in
       elim (begins x y call a stepped h.gives.1 h.gives.0.1.1 q pending) [
         | inl before ↦ still (reads_pends (control_at side front) (heard_at side front) call (end_at side front) q before) (λ gone. gone_waits x y call a stepped q
-            (subst (λ (ss : List Sent). HasGone ss q) (ap (λ (v : Seen). went v.before v.behind) seen_same ∙ went_here x y call a stepped) gone) pending)
-        | inr cause ↦ new.begins (subst (λ (v : Seen). HasCause v q) (sym seen_same) cause)
+            (subst (λ (ss : List Sent). HasGone ss q) (ap (λ (v : Seen). went v.before v.behind) same ∙ went_here x y call a stepped) gone) pending)
+        | inr cause ↦ new.begins (subst (λ (v : Seen). HasCause v q) (sym same) cause)
       ]
 
   -- the other end stays as it is
@@ -406,10 +455,10 @@ module _ (r : Run) (end : World) (honest : IsHonest r) (run : IsRun r end) (side
   other_same = ap (λ (u : World). end_at (other_side side) u) made.made.step.others ∙ other_stays side front (end_at side made.behind) _ _ _
 
 pub waiting_begins : (r : Run) (end : World) → IsHonest r → IsRun r end → WaitingBegins r
-waiting_begins r end honest run side i call a w v served here leads leads_behind =
-    let found : MadeAt r i side call a = made r end honest run side i call a served here in
+waiting_begins r end honest run side stays i call a w v kept served here leads leads_behind =
+    let found : MadeAt r i side call a = made r end honest run side stays kept i call a served here in
     let before : w ≡ found.before = one_behind r i w found.before (served_before r.answers i served) leads found.made.leads in
     let behind : v ≡ found.behind = one_behind r (suc i) v found.behind served leads_behind found.leads in
-    subst (λ (u : World). ((end_at side u).closing.state ≡ states.Open → BeginsAt (seen_at r side i call a) (end_at side w) (end_at side u)) × ((q : Thing) → IsPending (end_at (other_side side) u) q → IsPending (end_at (other_side side) w) q)) (sym behind)
-    (subst (λ (u : World). ((end_at side found.behind).closing.state ≡ states.Open → BeginsAt (seen_at r side i call a) (end_at side u) (end_at side found.behind)) × ((q : Thing) → IsPending (end_at (other_side side) found.behind) q → IsPending (end_at (other_side side) u) q)) (sym before)
-    ((λ opened. begins_here r end honest run side i call a served here opened), (λ q is. subst (λ (e : End). IsPending e q) (other_same r end honest run side i call a served here) is)))
+    subst (λ (u : World). ((end_at side u).closing.state ≡ states.Open → BeginsAt (seen_at r stays side i call a) (end_at side w) (end_at side u)) × ((q : Thing) → IsPending (end_at (other_side side) u) q → IsPending (end_at (other_side side) w) q)) (sym behind)
+    (subst (λ (u : World). ((end_at side found.behind).closing.state ≡ states.Open → BeginsAt (seen_at r stays side i call a) (end_at side u) (end_at side found.behind)) × ((q : Thing) → IsPending (end_at (other_side side) found.behind) q → IsPending (end_at (other_side side) u) q)) (sym before)
+    ((λ opened. begins_here r end honest run side stays kept i call a served here opened), (λ q is. subst (λ (e : End). IsPending e q) (other_same r end honest run side stays kept i call a served here) is)))

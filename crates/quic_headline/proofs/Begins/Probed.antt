@@ -56,7 +56,7 @@ all_fewer (s ∷ ss) f some = sent_fewer s f (all_fewer ss (and_sent s f) some)
 
 datagram_fewer : (taker : Policy) (ds : List (List ℕ)) (w : Watch) → Fewer w.flight (watch_sent taker ds w).flight
 datagram_fewer taker [] w some = some
-datagram_fewer taker (d ∷ ds) w some = all_fewer (sent_as (opened_packet taker.header taker.packet (own_id_length + 1) (next_number w.own) d) (acknowledged w.intake.took) w.clock d) w.flight some
+datagram_fewer taker (d ∷ ds) w some = all_fewer (sent_as (opened_packet taker.header taker.packet (own_id_length + 1) (next_number w.own) d) (acknowledged w.intake.took) w.clock w.route.generation d) w.flight some
 
 given_fewer : (b : Bool) (l : Lens) (w : Watch) → Fewer w.flight (watch_given b l w).flight
 given_fewer true l w some = datagram_fewer l.taker w.left w some

@@ -28,6 +28,7 @@ use Rattle.quic_headline.proofs.Places.Told.{in_append}
 use Rattle.quic_headline.proofs.Messages.Counted.{received_leaves}
 use Rattle.quic_headline.proofs.Messages.Kept.{frame_messages, call_messages}
 use Rattle.quic_headline.proofs.Packets.Heard.{by_taken}
+use Rattle.quic_headline.proofs.Packets.Moved.{by_migrated}
 
 module _ (m : List ℕ) where
   -- what stays for another was there
@@ -86,6 +87,7 @@ module _ (m : List ℕ) where
     asks_close = λ x i. i;
     exhausts = λ now x i. i;
     draws = λ words x i. i;
+    moves = λ q o remote x i. by_migrated (λ (f : End). Fewer e f.messages.queues) q o remote x (λ c. i) (λ c most. drops e most x.messages.queues i);
   }) p e arrival d (λ i. i)
 
   pub call_queues : (p : Policy) (e : End) (theirs : List (List ℕ)) (call : Call) (a : Answer) → In m (after_call p e theirs call a).messages.queues.outgoing → In m e.messages.queues.outgoing ⊎ In m (sent_by call a)

@@ -6,7 +6,7 @@ use Rattle.std.specs.Option.{is_some, option_map}
 use Rattle.std.specs.List.{list_any}
 use Rattle.std.specs.Ordering.{nat_cmp}
 use Rattle.std.specs.BTreeMap.{is_at}
-use Rattle.std.proofs.lemmas.Bool.{or_cases, or_left, and_parts, both_ways, eqb-true, cases_eq}
+use Rattle.std.proofs.lemmas.Bool.{or_cases, or_left, and_parts, both_ways, eqb-true, cases_eq, eq-eqb}
 use Rattle.quic_wire_core.specs.StreamId.{dir_of}
 use Rattle.quic_wire_core.specs.declared.stream_id.Dir.{Dir}
 use Rattle.quic_wire_core.specs.declared.stream_id.Dir.TheVariants.{Bi, Uni}
@@ -78,6 +78,8 @@ use Rattle.quic_headline.proofs.Begins.Controls.{fewer_wait}
 use Rattle.quic_headline.proofs.Begins.SaidWalk.{most_within, blocked_frame, HalfSays, SaysOf, Says, Of, frame_says, call_left, taken_left}
 use Rattle.quic_headline.proofs.Begins.Steps.{ready_pends, quiet_left}
 use Rattle.quic_headline.proofs.Begins.Walk.{Pends, pend_more}
+use Rattle.quic_headline.proofs.Packets.Delivered.{frames_at}
+use Rattle.quic_headline.proofs.Packets.Moved.{by_migrated}
 
 -- ---- where less was given
 
@@ -431,9 +433,9 @@ module _ (x y : Party) (call : Call) (a : Answer) (s : Stepped x y call a) (quie
       inr (frame.0, record { sent = u; among = subst (λ (ss : List Sent). In u ss) (sight x y s.gives).own (quiet.quiet.own u among); carried = frame.1 })
 
   -- what waits behind a call for which nothing is written
-  caused_id : (id : ℕ) → finds_blocked (λ j. j == id) call a ≡ false → Caused x y call a (Frame (BlockedOn id)) → Ids id
+  caused_id : (id : ℕ) → finds_blocked (λ j. j == id) call a ≡ false → Caused x y call a s (Frame (BlockedOn id)) → Ids id
   caused_id id silent (inl before) = inl before
-  caused_id id silent (inr (inl asks)) = absurd (both_ways (finds_blocked (λ j. j == id) call a) silent (and_parts (finds_blocked (λ j. j == id) call a) (not (has_said_on id (seen_of x y call a))) asks).0)
+  caused_id id silent (inr (inl asks)) = absurd (both_ways (finds_blocked (λ j. j == id) call a) silent (and_parts (finds_blocked (λ j. j == id) call a) (not (has_said_on id (seen_of x y call a s))) asks).0)
   caused_id id silent (inr (inr (inl lost))) = flew lost.sent lost.flew id lost.bore
   caused_id id silent (inr (inr (inr probed))) = flew probed.sent probed.flies id probed.bears
 
@@ -510,10 +512,11 @@ delivered_told x y delivery a s quiet t =
     both = by_coming x y a s.joined s.served (meets y x (packets y x s.takes)) (λ (e : End) (j : Intake). Left e) call s.answer (record {
       apart = λ apart. cc;
       none = λ other same. before;
-      comes = λ other same d among. (let after : Left (passed d.frames (begun x.end other.now d.number)).end = frames_keep Left frame d.frames (begun x.end other.now d.number) before in record {
+      comes = λ other same d among here. (let taken : List FrameValue = frames_at here d.frames in let after : Left (passed taken (begun x.end other.now d.number)).end = frames_keep Left frame taken (begun x.end other.now d.number) before in record {
         ignored = λ reason. before;
         noted = λ state reason. before;
         takes = λ words state new none urged mark. after;
+        moves = λ p o same remote z opened j. by_migrated Left p o remote z (λ c. j) (λ c most. j);
         drains = λ words state new close fault. after;
         refuses = λ words state new f fault. after;
         exhausts = λ state. before;
@@ -608,7 +611,22 @@ said_group B knows quiet = record {
   writer = λ x y call a c i back. record {
     first = i.first;
     all = i.all;
-    still = λ opened. (let s : Stepped x y call a = record { calls = less_calls B Known knows x y call a c; joined = c.joined; answer = c.answer; served = c.served; gives = knows x y c.gives; takes = knows y x c.takes; behind = knows (called x y.given call a) y c.gives_behind; opened = opened } in
+    still = λ opened. (
+        let used : ℕ = (called x y.given call a).end.ids.peer.active in
+        let s : Stepped x y call a = record {
+          calls = less_calls B Known knows x y call a c;
+          joined = c.joined;
+          answer = c.answer;
+          served = c.served;
+          gives = knows x y c.gives;
+          takes = knows y x c.takes;
+          behind = knows (called x y.given call a) y c.gives_behind;
+          opened = opened;
+          using = x.end.ids.peer.active;
+          used = refl;
+          stays = used == x.end.ids.peer.active;
+          tells = λ changed. (eqb-true used x.end.ids.peer.active, eq-eqb used x.end.ids.peer.active);
+        } in
         any_told x y call a s (quiet x y c.gives) (i.still (was x y call a s)));
   };
   reader = λ x y call a c there i. record { first = i.first; all = i.all; still = i.still };

@@ -9,13 +9,12 @@ use Rattle.quic_wire.specs.Value.{FrameValue}
 use Rattle.quic_wire.specs.declared.frame.InvalidFrame.{InvalidFrame}
 use Rattle.quic_packet.specs.Header.{key_phase, reserved_bits}
 use Rattle.quic_packet.specs.Datagram.{Opening}
-use Rattle.quic_packet.specs.Destination.{decoded, fixed_length_id}
-use Rattle.quic_packet.specs.declared.packet.HeaderError.{HeaderError}
 use Rattle.quic_recovery_core.specs.Duplicates.{is_duplicate}
 use Rattle.quic_spaces.specs.Numbers.{can_number, number_opened}
 use Rattle.quic_machine.specs.Arrival.{Arrival, delivered_by}
 use Rattle.quic_machine.specs.declared.answers.State.{State}
 use Rattle.quic_machine.specs.declared.answers.State.TheVariants as states
+use Rattle.quic_machine.specs.declared.answers.DropReason.{DropReason}
 use Rattle.quic_machine.specs.declared.answers.DropReason.TheVariants as drops
 use Rattle.quic_machine.specs.declared.answers.LostReason.{LostReason}
 use Rattle.quic_machine.specs.declared.answers.LostReason.TheVariants as reasons
@@ -27,14 +26,13 @@ use Rattle.quic_machine.specs.declared.run.Answer.{Answer}
 use Rattle.quic_machine.specs.declared.run.Answer.TheVariants as answers
 use Rattle.quic_machine.specs.declared.run.View.{View}
 use Rattle.quic_machine.specs.Policy.{Policy}
-use Rattle.quic_machine.specs.Ids.{known}
 use Rattle.quic_machine.specs.Closing.{Closing, ticked}
 use Rattle.quic_machine.specs.Heard.{Heard}
 use Rattle.quic_machine.specs.Validation.{is_blocked, with_blocked}
 use Rattle.quic_machine.specs.Control.{Control}
 use Rattle.quic_machine.specs.End.{End, with_closing, with_numbers, with_window, closed_by}
-use Rattle.quic_machine.specs.Opens.{own_id_length}
-use Rattle.quic_machine.specs.Receive.{Fault, broke, too_many_pieces, closed_by_peer, violation, is_empty, asks_in, is_urged, take_frame, take_items, take_payload, dropped, ends_as, by_state, opened_to, opened_as, opening, headed, received_in, is_read, drawn_if, unopened_in}
+use Rattle.quic_machine.specs.Opens.{head}
+use Rattle.quic_machine.specs.Receive.{Fault, broke, too_many_pieces, closed_by_peer, violation, is_empty, asks_in, is_urged, take_frame, take_items, take_payload, dropped, ends_as, by_state, opened_to, opened_as, opening, headed, received_in, is_read, items_taken, drawn_if, with_ids_drawn, has_migrated, unopened_in}
 use Rattle.quic_machine.specs.Poll.{Polled, bounds, may_seal, polled}
 use Rattle.quic_machine.specs.Calls.{closed_in}
 use Rattle.quic_machine.specs.Machine.{World, Policies, IsLeft, IsStep, IsAnswer, end_at, view_of, after_call, after_delivered, end_left, reads_window, says_last, fails, Follows}
@@ -49,6 +47,7 @@ use Rattle.quic_headline.specs.Causes.{reason_in, ApplicationClosed}
 use Rattle.quic_headline.proofs.Packets.Apart.{by_waits, by_next_id}
 use Rattle.quic_headline.proofs.Packets.Closes.{by_closes}
 use Rattle.quic_headline.proofs.Packets.Heard.{by_taken}
+use Rattle.quic_headline.proofs.Packets.Moved.{by_migrated_if}
 use Rattle.quic_headline.proofs.Packets.Probes.{may_leave}
 use Rattle.quic_headline.proofs.Places.Placed.{start_is}
 
@@ -88,8 +87,10 @@ module _ (e : End) where
   state_had : (s : State) (o : Opening) (arrival : Arrival) (x : End) → Had e x → Had e (by_state s o arrival x).end
   state_had states.Open o arrival x i =
       let begins : End = with_closing x (ticked x.closing arrival.now) in
-      let taken = take_payload o.first (items o.payload) begins in
-      ends_had taken.fault (asks_in (items o.payload)) (is_urged arrival.mark (items o.payload) begins) o.number arrival.mark taken.end (payload_had o.first (items o.payload) begins i)
+      let asks = asks_in (items o.payload) in
+      let within = items_taken o arrival x in
+      let taken = take_payload o.first within begins in
+      ends_had taken.fault asks (is_urged arrival.mark asks within begins) o.number arrival.mark taken.end (payload_had o.first within begins i)
   state_had states.Closing o arrival x i = i
   state_had states.Drained o arrival x i = i
   state_had states.Failed o arrival x i = i
@@ -118,17 +119,20 @@ module _ (e : End) where
 
   packet_had : (o : Option Opening) (p : Policy) (arrival : Arrival) → Had e (opened_as o p arrival e).end
   packet_had None p arrival = unopened_had e.closing.state arrival.last arrival
-  packet_had (Some o) p arrival = drawn_had (is_read (opened_to o arrival e).answer) p (opened_to o arrival e).end (opened_had o arrival)
+  packet_had (Some o) p arrival =
+      let out = with_ids_drawn p (opened_to o arrival e) in
+      let left = drawn_had (is_read (opened_to o arrival e).answer) p (opened_to o arrival e).end (opened_had o arrival) in
+      by_migrated_if (Had e) p o arrival.remote out.end (λ c. left) (λ c most. left) (has_migrated o arrival.remote e out) left
 
-  headed_had : (r : Result (List ℕ) HeaderError) (p : Policy) (arrival : Arrival) (d : List ℕ) → Had e (headed r p e arrival d).end
+  headed_had : (r : Result (List ℕ) DropReason) (p : Policy) (arrival : Arrival) (d : List ℕ) → Had e (headed r p e arrival d).end
   headed_had (Err error) p arrival d is = is
   headed_had (Ok id) p arrival d is = packet_had (opening p e d) p arrival is
 
   received_had : (s : State) (p : Policy) (arrival : Arrival) (d : List ℕ) → Had e (received_in s p e arrival d).end
   received_had states.Failed p arrival d is = is
   received_had states.Drained p arrival d is = is
-  received_had states.Open p arrival d is = headed_had (decoded (fixed_length_id own_id_length) (known e.ids) d) p arrival d is
-  received_had states.Closing p arrival d is = headed_had (decoded (fixed_length_id own_id_length) (known e.ids) d) p arrival d is
+  received_had states.Open p arrival d is = headed_had (head e arrival.remote d) p arrival d is
+  received_had states.Closing p arrival d is = headed_had (head e arrival.remote d) p arrival d is
 
   delivered_had : (o : Option (List ℕ)) (p : Policy) (arrival : Arrival) → Had e (after_delivered p e arrival o)
   delivered_had None p arrival is = is

@@ -13,6 +13,7 @@ use Rattle.quic_machine.specs.declared.run.Answer.{Answer}
 use Rattle.quic_machine.specs.declared.run.Answer.TheVariants as answers
 use Rattle.quic_machine.specs.Policy.{Policy}
 use Rattle.quic_machine.specs.End.{End}
+use Rattle.quic_machine.specs.Migration.{is_there}
 use Rattle.quic_machine.specs.Receive.{Fault, broke, too_many_pieces, closed_by_peer, error_of, reason_of}
 use Rattle.quic_machine.specs.FrameCases.{begun}
 use Rattle.quic_machine.specs.Machine.{World, after_call}
@@ -24,17 +25,17 @@ use Rattle.quic_headline.specs.Runs.{Run, Told, In, handed, AreServed}
 use Rattle.quic_headline.specs.Observer.{Sent}
 use Rattle.quic_headline.specs.Headline.{IsHonest, IsRun}
 use Rattle.quic_headline.specs.Causes.{IsBlameless, NoBlame, PacketCame, IsTakenOrCrowded, TakenOrTooMany}
-use Rattle.quic_headline.proofs.Packets.Delivered.{arrived}
+use Rattle.quic_headline.proofs.Packets.Delivered.{among_at, arrived}
 use Rattle.quic_headline.proofs.Packets.Intakes.{none_handed}
 use Rattle.quic_headline.proofs.Packets.Group.{PacketsHold, meets}
 use Rattle.quic_headline.proofs.Places.Parties.{told_of, Party, called, came_to}
 use Rattle.quic_headline.proofs.Places.Groups.{Way, Nothing, And, Calls, Group, both}
 use Rattle.quic_headline.proofs.Places.Placed.{party_at, Placed, placed}
 use Rattle.quic_headline.proofs.Halves.Wrote.{wrote}
-use Rattle.quic_headline.proofs.Halves.Ghosts.{Saying}
+use Rattle.quic_headline.proofs.Halves.Ghosts.{SaysOf, Saying}
 use Rattle.quic_headline.proofs.Halves.ReadGroup.{ReadsHold}
-use Rattle.quic_headline.proofs.Causes.Crowded.{IsCrowdedBy, crowded, up_to}
-use Rattle.quic_headline.proofs.Causes.Judged.{IsNew, Judged, nothing, exhausted, drained, taken, refused, judged, crowd_is}
+use Rattle.quic_headline.proofs.Causes.Crowded.{IsCrowdedBy, crowded, crowded_at, up_to}
+use Rattle.quic_headline.proofs.Causes.Judged.{taken_of, IsNew, Judged, nothing, exhausted, drained, taken, refused, judged, crowd_is}
 use Rattle.quic_headline.proofs.Causes.Shown.{reason_shown, call_closes, IsUnread}
 use Rattle.quic_headline.proofs.Causes.Pieces.{window_of, WhyPieces, Held, held}
 use Rattle.quic_headline.proofs.Causes.Refused.{refused_not}
@@ -126,14 +127,15 @@ module _ (B : Way) (rests : RestsOn B) (x y : Party) (delivery : Delivery) (a : 
   after = after_call x.policy x.end y.given (calls.Deliver delivery) a
 
   -- a packet that was refused came to too many pieces
-  many_came : (s : Sent) → In s y.sents → (n : IsNew x y delivery a s) → x.end.closing.state ≡ states.Open → (arrived x.end delivery.now s.number s.frames).fault ≡ Some too_many_pieces
+  many_came : (s : Sent) → In s y.sents → (n : IsNew x y delivery a s) → x.end.closing.state ≡ states.Open → (arrived x.end delivery.now s.number (taken_of x y delivery a s)).fault ≡ Some too_many_pieces
       → (h : PacketCame x.policy y.final (x.told ++ t ∷ [])) → h.before ≡ x.told → h.call ≡ t → a ≡ answers.Deliver (Closed (error_of too_many_pieces)) → IsTakenOrCrowded x.policy (window_of x) y.final (x.told ++ t ∷ []) h
   many_came s among new still_open many h same call answer =
       let e : End = begun x.end delivery.now s.number in
       let reads = rests.reads y x c.takes in
       let why = rests.pieces y x c.takes in
       let crowd : IsCrowdedBy (window_of x) x.told (came_to x y).took s.number s.frames =
-      crowded (window_of x) x.side (wrote y.told) x.told (came_to x y).took s.number s.frames e (rests.says y x c.takes s among) reads.reads reads.brought (why.come still_open) why.window (up_to s.frames e many) in
+      crowded_at (is_there delivery.remote x.end) (window_of x) x.told (came_to x y).took s.number s.frames
+      (crowded (window_of x) x.side (wrote y.told) x.told (came_to x y).took s.number (taken_of x y delivery a s) e (among_at (SaysOf (wrote y.told)) tt (is_there delivery.remote x.end) s.frames (rests.says y x c.takes s among)) reads.reads reads.brought (why.come still_open) why.window (up_to (taken_of x y delivery a s) e many)) in
       inr (ap (λ (u : Told). u.answer) call ∙ answer, crowd_is x y delivery a (window_of x) s crowd new h same call)
 
   -- no rule is broken by it, nor did the peer close in it
@@ -161,7 +163,7 @@ module _ (B : Way) (rests : RestsOn B) (x y : Party) (delivery : Delivery) (a : 
     judged = judged_more x.policy (window_of x) y.final x.told t b.judged (λ h same call. inl (ap (λ (u : Told). u.answer) call ∙ answer));
   }
   delivered (refused s among new still_open f fault answer reason state) =
-      let only : f ≡ too_many_pieces = many_only f ((rests.passes y x c.takes).passes s among still_open delivery.now f fault) answer reason in
+      let only : f ≡ too_many_pieces = many_only f ((rests.passes y x c.takes).passes s among still_open delivery.now (is_there delivery.remote x.end) f fault) answer reason in
       record {
         reason = subst IsBlameless (sym (reason ∙ ap (λ (g : Fault). Some (reason_of g)) only)) tt;
         judged = judged_more x.policy (window_of x) y.final x.told t b.judged (λ h same call.

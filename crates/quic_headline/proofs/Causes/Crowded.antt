@@ -9,7 +9,7 @@ use Rattle.quic_wire_core.specs.declared.stream_id.Side.{Side}
 use Rattle.quic_wire_core.specs.declared.stream_id.Side.TheVariants.{Client, Server}
 use Rattle.quic_wire_core.specs.StreamId.{dir_of, index_of}
 use Rattle.quic_wire_core.specs.TransportError.{ErrorValue}
-use Rattle.quic_wire.specs.Value.{FrameValue, AckValue, StreamValue, NewConnectionIdValue, ack, stream, reset_stream, new_token, handshake_done, datagram, connection_close, application_close, path_challenge, path_response, new_connection_id, retire_connection_id, AckFrequencyValue, ack_frequency}
+use Rattle.quic_wire.specs.Value.{FrameValue, AckValue, StreamValue, NewConnectionIdValue, padding, ack, stream, reset_stream, new_token, handshake_done, datagram, connection_close, application_close, path_challenge, path_response, new_connection_id, retire_connection_id, AckFrequencyValue, ack_frequency}
 use Rattle.quic_assembler.specs.Arrived.{is_given, waits, runs_of}
 use Rattle.quic_assembler.proofs.Arrived.Lawful.{given_waits_not}
 use Rattle.quic_streams_parts.specs.declared.answers.Breach.{Breach}
@@ -40,12 +40,16 @@ use Rattle.quic_streams_laws.specs.TakenLaws.{goes_on_kept, taken_stream}
 use Rattle.quic_machine.specs.End.{End, side_of}
 use Rattle.quic_machine.specs.Ids.{frame_of, retires_for}
 use Rattle.quic_recovery_core.specs.AckFrequency.{is_stale}
+use Rattle.quic_machine.specs.Migration.{as_elsewhere}
 use Rattle.quic_machine.specs.Receive.{Fault, too_many_pieces, fault_of, fault_at, names_ungiven, Progress, message_judged, retired_for, id_judged, retirement_judged, take_frame, unless_fault, take_items, asks_too_soon, frequency_judged}
 use Rattle.quic_machine.specs.FrameCases.{passed, ack_taken, frames_leave}
 use Rattle.quic_messages.specs.Messages.{received_answer}
 use Rattle.quic_messages.specs.declared.errors.ReceivedError.{ReceivedError}
 use Rattle.quic_headline.specs.Runs.{Told, Packet, In, reads, offsets_of, WasTaken, HasArrived}
 use Rattle.quic_headline.specs.Causes.{HasMoreRuns, IsUnread, most_runs}
+use Rattle.quic_headline.proofs.Packets.Delivered.{frames_at}
+use Rattle.quic_headline.proofs.Packets.Elsewhere.{taken_as}
+use Rattle.quic_headline.proofs.Packets.Strays.{in_at, of_at}
 use Rattle.quic_headline.proofs.Places.Told.{in_left, in_append, in_last}
 use Rattle.quic_headline.proofs.Places.Order.{given_in, in_given}
 use Rattle.quic_headline.proofs.Halves.Ghosts.{read, SaysOf}
@@ -430,3 +434,78 @@ module _ (window : ℕ) (side : Side) (done : ℕ → Wrote) (told : List Told) 
               go : (b : Bool) → is_given c.half.arrived o ≡ b → (b || waits c.half.arrived.parts o) ≡ true → waits c.half.arrived.parts o ≡ true
               go true is on = absurd (u.1 (given_in (reads w.frame.id told) o (sym (was_read.given o) ∙ is)))
               go false is on = on
+
+-- ---- a packet from elsewhere
+
+-- sets of the same offsets have as many runs
+runs_same : (S T : ℕ → Type 0) (count : ℕ) → ((o : ℕ) → S o → T o) → ((o : ℕ) → T o → S o) → HasMoreRuns S count → HasMoreRuns T count
+runs_same S T count to back m = record {
+  starts = m.starts;
+  distinct = m.distinct;
+  begins = λ o i. (let b = m.begins o i in record { here = to o b.here; alone = λ before next there. b.alone before next (back before there) });
+  more = m.more;
+}
+
+-- what arrived in a packet arrives in one that has its STREAM frames
+arrived_by : (p q : Packet) (took : List Packet) → ((g : StreamValue) → In (stream g) p.frames → In (stream g) q.frames) → (id o : ℕ) → HasArrived (p ∷ took) id o → HasArrived (q ∷ took) id o
+arrived_by p q took each id o a = record { frame = a.frame; taken = taken a.taken; of_stream = a.of_stream; from = a.from; below = a.below }
+  where
+    taken : WasTaken (p ∷ took) a.frame → WasTaken (q ∷ took) a.frame
+    taken t = elim t.was_taken [
+      | inl is ↦ record { packet = q; was_taken = inl refl; carried = each a.frame (subst (λ (r : Packet). In (stream a.frame) r.frames) is t.carried) }
+      | inr old ↦ record { packet = t.packet; was_taken = inr old; carried = t.carried }
+    ]
+
+-- where the frames that are taken split at a STREAM frame, the packet's do
+record Splits (frames front : List FrameValue) (f : StreamValue) : Type 0 where
+  before : List FrameValue
+  behind : List FrameValue
+  is : frames ≡ before ++ stream f ∷ behind
+  same : map as_elsewhere before ≡ front
+
+splits : (frames front rest : List FrameValue) (f : StreamValue) → map as_elsewhere frames ≡ front ++ stream f ∷ rest → Splits frames front f
+splits [] [] rest f is = absurd cc
+splits [] (g ∷ front) rest f is = absurd cc
+splits (h ∷ frames) [] rest f is =
+    let first : as_elsewhere h ≡ stream f = cc in
+    record { before = []; behind = frames; is = ap (λ (g : FrameValue). g ∷ frames) (elim (taken_as h) [ inl same ↦ sym same ∙ first | inr pads ↦ (let clash : padding ≡ stream f = sym pads ∙ first in cc) ]); same = refl }
+splits (h ∷ frames) (g ∷ front) rest f is =
+    let first : as_elsewhere h ≡ g = cc in
+    let others : map as_elsewhere frames ≡ front ++ stream f ∷ rest = cc in
+    let more = splits frames front rest f others in
+    record { before = h ∷ more.before; behind = more.behind; is = ap (λ (gs : List FrameValue). h ∷ gs) more.is; same = ap (λ (k : FrameValue). k ∷ map as_elsewhere more.before) first ∙ ap (λ (gs : List FrameValue). g ∷ gs) more.same }
+
+-- so the packet is crowded where what is taken of it is
+pub crowded_at : (here : Bool) (window : ℕ) (told : List Told) (took : List Packet) (n : ℕ) (frames : List FrameValue) → IsCrowdedBy window told took n (frames_at here frames) → IsCrowdedBy window told took n frames
+crowded_at true window told took n frames c = c
+crowded_at false window told took n frames c = record {
+  front = s.before;
+  frame = c.frame;
+  rest = s.behind;
+  split = s.is;
+  many = runs_same (IsUnread (taken ∷ took) told c.frame.id) (IsUnread (whole ∷ took) told c.frame.id) (most_runs window)
+      (λ o u. (arrived_by taken whole took back c.frame.id o u.0, u.1)) (λ o u. (arrived_by whole taken took there c.frame.id o u.0, u.1)) c.many;
+}
+  where
+    s : Splits frames c.front c.frame
+    s = splits frames c.front c.rest c.frame c.split
+
+    taken : Packet
+    taken = record { number = n; frames = c.front ++ stream c.frame ∷ [] }
+
+    whole : Packet
+    whole = record { number = n; frames = s.before ++ stream c.frame ∷ [] }
+
+    back : (g : StreamValue) → In (stream g) taken.frames → In (stream g) whole.frames
+    back g i = elim (in_append (stream g) c.front (stream c.frame ∷ []) i) [
+      | inl old ↦ elim (of_at false s.before (stream g) (subst (In (stream g)) (sym s.same) old)) [ inl stands ↦ in_left (stream g) s.before (stream c.frame ∷ []) stands | inr pads ↦ cc ]
+      | inr (inl is) ↦ subst (λ (h : FrameValue). In h whole.frames) (sym is) (in_last (stream c.frame) s.before)
+      | inr (inr none) ↦ absurd none
+    ]
+
+    there : (g : StreamValue) → In (stream g) whole.frames → In (stream g) taken.frames
+    there g i = elim (in_append (stream g) s.before (stream c.frame ∷ []) i) [
+      | inl old ↦ elim (in_at false s.before (stream g) old) [ inl stands ↦ in_left (stream g) c.front (stream c.frame ∷ []) (subst (In (stream g)) s.same stands) | inr path ↦ absurd path ]
+      | inr (inl is) ↦ subst (λ (h : FrameValue). In h taken.frames) (sym is) (in_last (stream c.frame) c.front)
+      | inr (inr none) ↦ absurd none
+    ]

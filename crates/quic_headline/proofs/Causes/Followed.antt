@@ -17,6 +17,7 @@ use Rattle.quic_machine.specs.declared.run.Answer.TheVariants as answers
 use Rattle.quic_machine.specs.declared.run.View.{View}
 use Rattle.quic_machine.specs.Policy.{Policy}
 use Rattle.quic_machine.specs.End.{End}
+use Rattle.quic_machine.specs.Migration.{is_there}
 use Rattle.quic_machine.specs.Receive.{Fault, broke, too_many_pieces, closed_by_peer, reason_of}
 use Rattle.quic_machine.specs.Poll.{Polled, polled}
 use Rattle.quic_machine.specs.PollCases.{draft_at, frames_at}
@@ -29,6 +30,7 @@ use Rattle.quic_headline.specs.Headline.{IsHonest, IsRun}
 use Rattle.quic_headline.specs.Causes.{reason_in, Shows, PeerClosed}
 use Rattle.quic_headline.specs.Reasons.{Explains}
 use Rattle.quic_headline.proofs.Packets.Delivered.{arrived}
+use Rattle.quic_headline.proofs.Packets.Strays.{of_at}
 use Rattle.quic_headline.proofs.Packets.Closeless.{sent_closeless}
 use Rattle.quic_headline.proofs.Packets.Owing.{no_close_among, closing_among}
 use Rattle.quic_headline.proofs.Packets.Sends.{by_sends}
@@ -43,7 +45,7 @@ use Rattle.quic_headline.proofs.Places.Everything as everything
 use Rattle.quic_headline.proofs.Places.Theorems.{ready}
 use Rattle.quic_headline.proofs.Halves.Ready.{Ready}
 use Rattle.quic_headline.proofs.Causes.Reasons.{call_keeps}
-use Rattle.quic_headline.proofs.Causes.Judged.{Judged, nothing, exhausted, drained, taken, refused, judged}
+use Rattle.quic_headline.proofs.Causes.Judged.{taken_of, Judged, nothing, exhausted, drained, taken, refused, judged}
 use Rattle.quic_headline.proofs.Causes.Shown.{reason_there, reason_shown, IsUnread, call_closes}
 
 -- an end isn't open any more, for some reason
@@ -115,10 +117,12 @@ call_went p e theirs call a is served explained = λ s i. absurd i
 
 -- a packet of its peer's in which that closes, or what had closed the end before
 module _ (x y : Party) (delivery : Delivery) (a : Answer) (after : End) (f : Followed y x) (close : CloseValue) (is : after.closing.reason ≡ Some (reasons.Peer close)) where
-  came : (s : Sent) → In s y.sents → (c : CloseValue) → (arrived x.end delivery.now s.number s.frames).fault ≡ Some (closed_by_peer c) → HasReason y.end
-  came s among c fault = let found = closing_among s.frames (begun x.end delivery.now s.number) c fault in f.went s among found.0 found.1 found.2
+  came : (s : Sent) → In s y.sents → (c : CloseValue) → (arrived x.end delivery.now s.number (taken_of x y delivery a s)).fault ≡ Some (closed_by_peer c) → HasReason y.end
+  came s among c fault =
+      let found = closing_among (taken_of x y delivery a s) (begun x.end delivery.now s.number) c fault in
+      elim (of_at (is_there delivery.remote x.end) s.frames found.0 found.1) [ inl stands ↦ f.went s among found.0 stands found.2 | inr pads ↦ absurd (subst IsClose pads found.2) ]
 
-  faulty : (s : Sent) → In s y.sents → (g : Fault) → (arrived x.end delivery.now s.number s.frames).fault ≡ Some g → ◌≡◌ {A = Option LostReason} (Some (reason_of g)) (Some (reasons.Peer close)) → HasReason y.end
+  faulty : (s : Sent) → In s y.sents → (g : Fault) → (arrived x.end delivery.now s.number (taken_of x y delivery a s)).fault ≡ Some g → ◌≡◌ {A = Option LostReason} (Some (reason_of g)) (Some (reasons.Peer close)) → HasReason y.end
   faulty s among (broke error) fault same = cc
   faulty s among too_many_pieces fault same = cc
   faulty s among (closed_by_peer c) fault same = came s among c fault

@@ -14,14 +14,13 @@ use Rattle.quic_wire.specs.Value.{FrameValue}
 use Rattle.quic_wire.specs.declared.frame.InvalidFrame.{InvalidFrame}
 use Rattle.quic_packet.specs.Header.{key_phase, reserved_bits}
 use Rattle.quic_packet.specs.Datagram.{Opening}
-use Rattle.quic_packet.specs.Destination.{decoded, fixed_length_id}
-use Rattle.quic_packet.specs.declared.packet.HeaderError.{HeaderError}
 use Rattle.quic_recovery_core.specs.Duplicates.{is_duplicate}
 use Rattle.quic_spaces.specs.Numbers.{expected, can_number, number_opened}
 use Rattle.quic_time.specs.Timers.{has_come, each_timer}
 use Rattle.quic_machine.specs.Arrival.{Arrival, delivered_by}
 use Rattle.quic_machine.specs.declared.answers.State.{State}
 use Rattle.quic_machine.specs.declared.answers.State.TheVariants as states
+use Rattle.quic_machine.specs.declared.answers.DropReason.{DropReason}
 use Rattle.quic_machine.specs.declared.answers.DropReason.TheVariants as drops
 use Rattle.quic_machine.specs.declared.answers.LostReason.{LostReason}
 use Rattle.quic_machine.specs.declared.answers.LostReason.TheVariants as reasons
@@ -33,14 +32,13 @@ use Rattle.quic_machine.specs.declared.run.Answer.{Answer}
 use Rattle.quic_machine.specs.declared.run.Answer.TheVariants as answers
 use Rattle.quic_machine.specs.declared.run.View.{View}
 use Rattle.quic_machine.specs.Policy.{Policy}
-use Rattle.quic_machine.specs.Ids.{known}
 use Rattle.quic_machine.specs.Closing.{Closing, ticked}
 use Rattle.quic_machine.specs.Control.{Control}
 use Rattle.quic_machine.specs.Heard.{Heard}
 use Rattle.quic_machine.specs.Validation.{is_blocked, with_blocked}
 use Rattle.quic_machine.specs.End.{End, with_closing, with_numbers, with_window, closed_by}
-use Rattle.quic_machine.specs.Opens.{own_id_length, in_phase, opens_behind}
-use Rattle.quic_machine.specs.Receive.{Fault, broke, too_many_pieces, closed_by_peer, reason_of, violation, is_empty, asks_in, is_urged, take_frame, take_items, take_payload, dropped, ends_as, by_state, opened_to, opened_as, opening, headed, Outcome, received_in, received, is_read, drawn_if, unopened_in}
+use Rattle.quic_machine.specs.Opens.{head, in_phase, opens_behind}
+use Rattle.quic_machine.specs.Receive.{Fault, broke, too_many_pieces, closed_by_peer, reason_of, violation, is_empty, asks_in, is_urged, take_frame, take_items, take_payload, dropped, ends_as, by_state, opened_to, opened_as, opening, headed, Outcome, received_in, received, is_read, items_taken, drawn_if, with_ids_drawn, has_migrated, unopened_in}
 use Rattle.quic_machine.specs.Poll.{Polled, may_seal, polled}
 use Rattle.quic_machine.specs.Timeouts.{loss_judged, timed_out, timed_out_in}
 use Rattle.quic_machine.specs.Machine.{World, Policies, IsStep, IsAnswer, IsDelivered, IsLeft, Follows, policy_at, end_at, view_of, end_left, after_call, after_delivered, reads_window, says_last, gave, fails}
@@ -53,7 +51,7 @@ use Rattle.quic_machine.specs.PollCases.{at_poll, by_poll, composes}
 use Rattle.quic_machine.specs.CallCases.{Plain, is_poll, is_delivery, is_timeout, may_draw, by_plain_call}
 use Rattle.quic_machine.specs.CallCases as cases
 use Rattle.quic_headline.specs.Runs.{Run, Told, Intake, given_of, until, told_by, folded, handed, is_again, is_refused, packet_of, and_told, and_opened, and_handed, came_open}
-use Rattle.quic_headline.specs.Observer.{Terms, Watch, Lens, lens_of, has_opened, moment_of, clock_behind, watch_sent, watch_given, is_timely, watch_moment, watch_came, watch_told, watch_from, watch}
+use Rattle.quic_headline.specs.Observer.{Terms, Watch, Lens, lens_of, has_opened, moment_of, clock_behind, watch_sent, watch_given, is_timely, watch_moment, watch_came, watch_moved, watch_told, watch_from, watch}
 use Rattle.quic_headline.specs.Moments.{timers_in}
 use Rattle.quic_headline.specs.Isolated.{is_new}
 use Rattle.quic_headline.specs.Headline.{IsHonest, IsRun, IsAt}
@@ -62,6 +60,7 @@ use Rattle.quic_headline.specs.Rest.{view_behind}
 use Rattle.quic_headline.proofs.Packets.Apart.{by_waits, by_next_id}
 use Rattle.quic_headline.proofs.Packets.Closes.{by_closes}
 use Rattle.quic_headline.proofs.Packets.Heard.{by_taken}
+use Rattle.quic_headline.proofs.Packets.Moved.{by_migrated_if}
 use Rattle.quic_headline.proofs.Packets.Probes.{may_leave}
 use Rattle.quic_headline.proofs.Packets.ByKey.{came_open_is}
 use Rattle.quic_headline.proofs.Packets.Intakes.{folded_more}
@@ -110,8 +109,10 @@ module _ (e : End) (now : ℕ) where
   state_timely : (s : State) (o : Opening) (arrival : Arrival) → arrival.now ≡ now → Timely (by_state s o arrival (with_numbers e (number_opened e.numbers o.number))).end
   state_timely states.Open o arrival is =
       let begins : End = with_closing (with_numbers e (number_opened e.numbers o.number)) (ticked e.closing arrival.now) in
-      let taken = take_payload o.first (items o.payload) begins in
-      ends_timely taken.fault (asks_in (items o.payload)) (is_urged arrival.mark (items o.payload) begins) o.number arrival.mark taken.end (payload_timely o.first (items o.payload) begins (here arrival.now is))
+      let asks = asks_in (items o.payload) in
+      let within = items_taken o arrival e in
+      let taken = take_payload o.first within begins in
+      ends_timely taken.fault asks (is_urged arrival.mark asks within begins) o.number arrival.mark taken.end (payload_timely o.first within begins (here arrival.now is))
     where
       here : (n : ℕ) → n ≡ now → max e.closing.clock n ≤ max e.closing.clock now
       here n same = omega arith
@@ -143,9 +144,12 @@ module _ (e : End) (now : ℕ) where
 
   packet_timely : (o : Option Opening) (p : Policy) (arrival : Arrival) → arrival.now ≡ now → Timely (opened_as o p arrival e).end
   packet_timely None p arrival is = unopened_timely e.closing.state arrival.last arrival is
-  packet_timely (Some o) p arrival is = drawn_timely (is_read (opened_to o arrival e).answer) p (opened_to o arrival e).end (opened_timely o arrival is)
+  packet_timely (Some o) p arrival is =
+      let out = with_ids_drawn p (opened_to o arrival e) in
+      let timely = drawn_timely (is_read (opened_to o arrival e).answer) p (opened_to o arrival e).end (opened_timely o arrival is) in
+      by_migrated_if Timely p o arrival.remote out.end (λ c. timely) (λ c most. timely) (has_migrated o arrival.remote e out) timely
 
-  headed_timely : (r : Result (List ℕ) HeaderError) (p : Policy) (arrival : Arrival) (d : List ℕ) → arrival.now ≡ now → Timely (headed r p e arrival d).end
+  headed_timely : (r : Result (List ℕ) DropReason) (p : Policy) (arrival : Arrival) (d : List ℕ) → arrival.now ≡ now → Timely (headed r p e arrival d).end
   headed_timely (Err error) p arrival d is = same_time
   headed_timely (Ok id) p arrival d is = packet_timely (opening p e d) p arrival is
 
@@ -221,8 +225,8 @@ module _ (p : Policy) (e : End) (arrival : Arrival) (i : Intake) (k : Keeps e i)
   old_unopened states.Drained b opened = refl
   old_unopened states.Failed b opened = refl
 
-  old_opened : (o : Opening) → is_new (in_phase (Some o)) i.opened ≡ false → Same (opened_as (Some o) p arrival e).end
-  old_opened o = go (key_phase o.first)
+  old_drawn : (o : Opening) → is_new (in_phase (Some o)) i.opened ≡ false → Same (with_ids_drawn p (opened_to o arrival e)).end
+  old_drawn o = go (key_phase o.first)
     where
       new : Outcome
       new = by_state e.closing.state o arrival (with_numbers e (number_opened e.numbers o.number))
@@ -239,11 +243,16 @@ module _ (p : Policy) (e : End) (arrival : Arrival) (i : Intake) (k : Keeps e i)
       go true old opened = refl
       go false old opened = tested (is_duplicate e.numbers.opened o.number) (is_again o.number i.opened) twice_known old opened
 
+  old_opened : (o : Opening) → is_new (in_phase (Some o)) i.opened ≡ false → Same (opened_as (Some o) p arrival e).end
+  old_opened o old =
+      let out = with_ids_drawn p (opened_to o arrival e) in
+      by_migrated_if Same p o arrival.remote out.end (λ c. old_drawn o old) (λ c most. old_drawn o old) (has_migrated o arrival.remote e out) (old_drawn o old)
+
   old_packet : (o : Option Opening) → is_new (in_phase o) i.opened ≡ false → Same (opened_as o p arrival e).end
   old_packet None old = old_unopened e.closing.state arrival.last
   old_packet (Some o) old = old_opened o old
 
-  old_headed : (r : Result (List ℕ) HeaderError) (d : List ℕ) → is_new (opens_behind r p (expected e.numbers) d) i.opened ≡ false → Same (headed r p e arrival d).end
+  old_headed : (r : Result (List ℕ) DropReason) (d : List ℕ) → is_new (opens_behind r p (expected e.numbers) d) i.opened ≡ false → Same (headed r p e arrival d).end
   old_headed (Err error) d old opened = refl
   old_headed (Ok id) d old opened = old_packet (opening p e d) old opened
 
@@ -266,7 +275,7 @@ module _ (l : Lens) (t : Told) (w : Watch) where
   after_it = and_told l.own l.peer_gave t w.intake
 
   abbrev came_then : Watch
-  came_then = watch_came l.terms after_it (clock_behind w.clock (moment_of t.state (has_opened w.intake after_it) t.call)) w
+  came_then = watch_came l.terms after_it (clock_behind w.clock (moment_of t.state (has_opened w.intake after_it) t.call)) (watch_moved l.serves after_it t.call w)
 
   pub told_clock : (watch_told l t w).clock ≡ clock_behind w.clock (moment_of t.state (has_opened w.intake after_it) t.call)
   told_clock = (given_clock (gave t.answer) l (watch_moment (is_timely t.state t.call) l.terms came_then)).0 ∙ (moment_clock (is_timely t.state t.call) l.terms came_then).0
@@ -332,8 +341,8 @@ module _ (p : Policy) (control : Control) (heard : Heard) (e : End) (theirs rest
       arrival : Arrival
       arrival = delivered_by (says_last a) delivery
 
-      head : Result (List ℕ) HeaderError
-      head = decoded (fixed_length_id own_id_length) (known e.ids) d
+      header : Result (List ℕ) DropReason
+      header = head e arrival.remote d
 
       made : End
       made = (received p e arrival d).end
@@ -342,19 +351,19 @@ module _ (p : Policy) (control : Control) (heard : Heard) (e : End) (theirs rest
       there = subst (λ (b : Answer). handed final (calls.Deliver delivery) b ≡ Some d) (sym is) (first_get theirs rest final delivery.index d first at)
 
       -- an open end reads what its header says
-      reads : received p e arrival d ≡ headed head p e arrival d
+      reads : received p e arrival d ≡ headed header p e arrival d
       reads = ap (λ (s : State). received_in s p e arrival d) here
 
-      opens : came_open p i.took a d ≡ opens_behind head p (expected e.numbers) d
+      opens : came_open p i.took a d ≡ opens_behind header p (expected e.numbers) d
       opens = ap (λ (b : Answer). came_open p i.took b d) (is ∙ ap (λ (x : Outcome). answers.Deliver x.answer) reads) ∙ came_open_is p e arrival d i.took k.expected
 
       go : (new : Bool) → is_new (came_open p i.took a d) i.opened ≡ new → made.closing.clock ≤ clock_behind c (moment_of states.Open (has_opened i (and_handed states.Open (Some d) p a i)) (calls.Deliver delivery))
       go true new =
           comes_below made.closing.clock delivery.now _ (ap (λ (b : Bool). moment_of states.Open b (calls.Deliver delivery)) (new_opened (came_open p i.took a d) a i new))
-          (subst (λ (x : Outcome). x.end.closing.clock ≤ max e.closing.clock delivery.now) (sym reads) (headed_timely e delivery.now head p arrival d refl))
+          (subst (λ (x : Outcome). x.end.closing.clock ≤ max e.closing.clock delivery.now) (sym reads) (headed_timely e delivery.now header p arrival d refl))
       go false old =
           stays_below made.closing.clock _ (subst (λ (x : Outcome). x.end.closing.state ≡ states.Open → x.end.closing.clock ≡ e.closing.clock) (sym reads)
-          (old_headed p e arrival i k head d (ap (λ (o : Option Opening). is_new o i.opened) (sym opens) ∙ old)) opened)
+          (old_headed p e arrival i k header d (ap (λ (o : Option Opening). is_new o i.opened) (sym opens) ∙ old)) opened)
 
   -- the moment that the observer is told
   abbrev seen : Call → Answer → Bool

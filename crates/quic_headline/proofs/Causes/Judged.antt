@@ -21,6 +21,7 @@ use Rattle.quic_wire.specs.Close.{CloseValue}
 use Rattle.quic_machine.specs.declared.answers.LostReason.TheVariants as reasons
 use Rattle.quic_machine.specs.Receive.{Fault, closed_by_peer, error_of, reason_of, Outcome, asks_in, after_taken, received}
 use Rattle.quic_machine.specs.End.{End}
+use Rattle.quic_machine.specs.Migration.{is_there, migrated}
 use Rattle.quic_machine.specs.Machine.{IsAnswer, IsDelivered, after_delivered, after_call, fails, says_last}
 use Rattle.quic_machine.specs.FrameCases.{begun}
 use Rattle.quic_machine.specs.IdFrames.{drawn}
@@ -30,7 +31,8 @@ use Rattle.quic_headline.specs.Causes.{came_by, PacketCame, IsCrowded, CrowdCame
 use Rattle.quic_headline.proofs.Packets.Invariant.{IsSent}
 use Rattle.quic_headline.proofs.Packets.Growth.{get_front, step_at}
 use Rattle.quic_headline.proofs.Packets.Stays.{keeps_frames}
-use Rattle.quic_headline.proofs.Packets.Delivered.{Arrivals, arrived, with_refused, with_taken, shown, shown_if, expands, by_key_given, frames_of_payload, by_arrival}
+use Rattle.quic_headline.proofs.Packets.Moved.{by_migrated}
+use Rattle.quic_headline.proofs.Packets.Delivered.{frames_at, Arrivals, arrived, with_refused, with_taken, shown, shown_if, expands, by_key_given, frames_of_payload, by_arrival}
 use Rattle.quic_headline.proofs.Places.Parties.{told_of, Party, came_to, AreJoined}
 use Rattle.quic_headline.proofs.Places.Coming.{Meets}
 use Rattle.quic_headline.proofs.Causes.Closing.{Keeps}
@@ -72,6 +74,10 @@ module _ (x y : Party) (delivery : Delivery) (a : Answer) where
   abbrev pub CameThen : Type 0
   CameThen = PacketCame x.policy y.final then
 
+  -- the frames of it that are taken: from elsewhere those of path validation aren't
+  abbrev pub taken_of : Sent → List FrameValue
+  taken_of s = frames_at (is_there delivery.remote x.end) s.frames
+
   -- The packet of what y sent so came by this call, and no other.
   pub record IsNew (s : Sent) : Type 0 where
     pub packet : CameThen
@@ -86,14 +92,14 @@ module _ (x y : Party) (delivery : Delivery) (a : Answer) where
     -- no packet that is new came
     nothing : Keeps x.end after → ((h : CameThen) → h.before ≡ x.told → h.call ≡ now_told → ⊥) → Judged after
     -- one came, and was taken
-    taken : (s : Sent) → In s y.sents → IsNew s → x.end.closing.state ≡ states.Open → (arrived x.end delivery.now s.number s.frames).fault ≡ None → a ≡ answers.Deliver Taken → Keeps x.end after → Judged after
+    taken : (s : Sent) → In s y.sents → IsNew s → x.end.closing.state ≡ states.Open → (arrived x.end delivery.now s.number (taken_of s)).fault ≡ None → a ≡ answers.Deliver Taken → Keeps x.end after → Judged after
     -- none came, but it was the last that may not open
     exhausted : ((h : CameThen) → h.before ≡ x.told → h.call ≡ now_told → ⊥) → after.closing.reason ≡ Some reasons.KeyLimit → after.closing.state ≡ states.Closing → Judged after
     -- one came in which y closed: it was taken so far, and x is drained
-    drained : (s : Sent) → In s y.sents → IsNew s → x.end.closing.state ≡ states.Open → (close : CloseValue) → (arrived x.end delivery.now s.number s.frames).fault ≡ Some (closed_by_peer close) → a ≡ answers.Deliver Taken
+    drained : (s : Sent) → In s y.sents → IsNew s → x.end.closing.state ≡ states.Open → (close : CloseValue) → (arrived x.end delivery.now s.number (taken_of s)).fault ≡ Some (closed_by_peer close) → a ≡ answers.Deliver Taken
         → after.closing.reason ≡ Some (reasons.Peer close) → after.closing.state ≡ states.Drained → Judged after
     -- one came, and was refused
-    refused : (s : Sent) → In s y.sents → IsNew s → x.end.closing.state ≡ states.Open → (f : Fault) → (arrived x.end delivery.now s.number s.frames).fault ≡ Some f → a ≡ answers.Deliver (Closed (error_of f))
+    refused : (s : Sent) → In s y.sents → IsNew s → x.end.closing.state ≡ states.Open → (f : Fault) → (arrived x.end delivery.now s.number (taken_of s)).fault ≡ Some f → a ≡ answers.Deliver (Closed (error_of f))
         → after.closing.reason ≡ Some (reason_of f) → after.closing.state ≡ states.Closing → Judged after
 
   -- where the packet is crowded, it is so by what the lists say
@@ -122,26 +128,41 @@ module _ (x y : Party) (delivery : Delivery) (a : Answer) where
     abbrev frames : List FrameValue
     frames = s.frames
 
+    abbrev within : List FrameValue
+    within = taken_of s
+
     -- what becomes of x, by an outcome and by what came then
     data Met (o : Outcome) (j : Intake) : Type 0 where
       met_nothing : Keeps x.end o.end → (x.end.closing.state ≡ states.Open → j ≡ i) → Met o j
       met_last : x.end.closing.state ≡ states.Open → o.end.closing.reason ≡ Some reasons.KeyLimit → o.end.closing.state ≡ states.Closing → j ≡ i → Met o j
-      met_drained : x.end.closing.state ≡ states.Open → is_again n i.opened ≡ false → (close : CloseValue) → (arrived x.end now n frames).fault ≡ Some (closed_by_peer close) → o.answer ≡ Taken → o.end.closing.reason ≡ Some (reasons.Peer close) → o.end.closing.state ≡ states.Drained
+      met_drained : x.end.closing.state ≡ states.Open → is_again n i.opened ≡ false → (close : CloseValue) → (arrived x.end now n within).fault ≡ Some (closed_by_peer close) → o.answer ≡ Taken → o.end.closing.reason ≡ Some (reasons.Peer close) → o.end.closing.state ≡ states.Drained
           → j ≡ with_taken i n frames → Met o j
-      met_taken : x.end.closing.state ≡ states.Open → is_again n i.opened ≡ false → (arrived x.end now n frames).fault ≡ None → o.answer ≡ Taken → Keeps x.end o.end → j ≡ with_taken i n frames → Met o j
-      met_refused : x.end.closing.state ≡ states.Open → is_again n i.opened ≡ false → (f : Fault) → (arrived x.end now n frames).fault ≡ Some f → o.answer ≡ Closed (error_of f) → o.end.closing.reason ≡ Some (reason_of f) → o.end.closing.state ≡ states.Closing
+      met_taken : x.end.closing.state ≡ states.Open → is_again n i.opened ≡ false → (arrived x.end now n within).fault ≡ None → o.answer ≡ Taken → Keeps x.end o.end → j ≡ with_taken i n frames → Met o j
+      met_refused : x.end.closing.state ≡ states.Open → is_again n i.opened ≡ false → (f : Fault) → (arrived x.end now n within).fault ≡ Some f → o.answer ≡ Closed (error_of f) → o.end.closing.reason ≡ Some (reason_of f) → o.end.closing.state ≡ states.Closing
           → j ≡ with_refused i n frames → Met o j
 
-    keeps_taken : (words : ℕ → ℕ) (urged : Bool) (codepoint : Option EcnCodepoint) → Keeps x.end (drawn words (after_taken n (asks_in (map Ok frames)) urged codepoint (arrived x.end now n frames).end))
+    keeps_taken : (words : ℕ → ℕ) (urged : Bool) (codepoint : Option EcnCodepoint) → Keeps x.end (drawn words (after_taken n (asks_in (map Ok frames)) urged codepoint (arrived x.end now n within).end))
     keeps_taken words urged codepoint =
-        let k = keeps_frames frames (begun x.end now n) in
+        let k = keeps_frames within (begun x.end now n) in
         record { reason = ap (λ (c : Closing). c.reason) k.closing; state = ap (λ (c : Closing). c.state) k.closing }
 
-    cases : Arrivals x.end now n frames i Met
+    -- another path changes nothing of that
+    met_moves : (p : Policy) (o : Opening) (remote : ℕ) (e : End) (j : Intake) → Met (record { answer = Taken; end = e }) j → Met (record { answer = Taken; end = migrated p o remote e }) j
+    met_moves p o remote e j met = by_migrated (λ (z : End). z.closing ≡ e.closing → Met (record { answer = Taken; end = z }) j) p o remote e (λ c same. go met _ same) (λ c most same. go met _ same) (by_migrated (λ (z : End). z.closing ≡ e.closing) p o remote e (λ c. refl) (λ c most. refl))
+      where
+        go : Met (record { answer = Taken; end = e }) j → (z : End) → z.closing ≡ e.closing → Met (record { answer = Taken; end = z }) j
+        go (met_nothing keeps none) z same = met_nothing (record { reason = ap (λ (c : Closing). c.reason) same ∙ keeps.reason; state = ap (λ (c : Closing). c.state) same ∙ keeps.state }) none
+        go (met_last open_before reason state came) z same = met_last open_before (ap (λ (c : Closing). c.reason) same ∙ reason) (ap (λ (c : Closing). c.state) same ∙ state) came
+        go (met_drained open_before new close fault answer reason state came) z same = met_drained open_before new close fault answer (ap (λ (c : Closing). c.reason) same ∙ reason) (ap (λ (c : Closing). c.state) same ∙ state) came
+        go (met_taken open_before new none answer keeps came) z same = met_taken open_before new none answer (record { reason = ap (λ (c : Closing). c.reason) same ∙ keeps.reason; state = ap (λ (c : Closing). c.state) same ∙ keeps.state }) came
+        go (met_refused open_before new f fault answer reason state came) z same = met_refused open_before new f fault answer (ap (λ (c : Closing). c.reason) same ∙ reason) (ap (λ (c : Closing). c.state) same ∙ state) came
+
+    cases : Arrivals x.end now n frames within i Met
     cases = record {
       ignored = λ reason. met_nothing (record { reason = refl; state = refl }) (λ still. refl);
       noted = λ state reason. met_nothing (record { reason = refl; state = refl }) (λ still. refl);
       takes = λ words still_open new none urged mark. met_taken still_open new none refl (keeps_taken words urged mark) refl;
+      moves = λ p o same remote e opened met. met_moves p o remote e (with_taken i n frames) met;
       drains = λ words still_open new close fault. met_drained still_open new close fault refl refl refl refl;
       exhausts = λ still_open. met_last still_open refl refl refl;
       refuses = λ words still_open new f fault. met_refused still_open new f fault refl refl refl refl;

@@ -1,6 +1,6 @@
 -- Where the last packet came to an open end that may not open, as many didn't open: an end counts
 -- no other.
-use Rattle.std.proofs.Common.{◌≡◌, ℕ, ◌+◌, ◌≤◌, Bool, true, false, length, filter, List, [], ◌∷◌, ◌++◌, slice_get, Option, Some, None, Ok, ◌⊎◌, inl, inr, refl, sym, ap, ◌∙◌, subst, arith}
+use Rattle.std.proofs.Common.{◌≡◌, ℕ, ◌+◌, ◌≤◌, Bool, true, false, ◌||◌, length, filter, List, [], ◌∷◌, ◌++◌, slice_get, Option, Some, None, Ok, ◌⊎◌, inl, inr, refl, sym, ap, ◌∙◌, subst, arith}
 use Rattle.std.specs.Prelude.{if◌then◌else◌}
 use Rattle.std.proofs.lemmas.Bool.{leb-true}
 use Rattle.std.proofs.lemmas.List.{length-append, append-nil}
@@ -19,7 +19,9 @@ use Rattle.quic_machine.specs.declared.run.Call.TheVariants as calls
 use Rattle.quic_machine.specs.declared.run.Answer.{Answer}
 use Rattle.quic_machine.specs.declared.run.Answer.TheVariants as answers
 use Rattle.quic_machine.specs.Policy.{Policy}
-use Rattle.quic_machine.specs.Heard.{Heard, nothing_heard, counted, is_key_limit, is_last, heard_received, heard_failure, heard_answer}
+use Rattle.quic_machine.specs.Heard.{Heard, nothing_heard, counted, is_key_limit, is_last, heard_failure, heard_answer, heard_anew, received_if, heard_datagram}
+use Rattle.quic_machine.specs.End.{End}
+use Rattle.quic_machine.specs.Migration.{is_there, has_moved}
 use Rattle.quic_machine.specs.Machine.{World, IsStep, IsHeard, CountsIn, CountsOpenings, policy_at, heard_by, heard_delivery, fails, says_last}
 use Rattle.quic_headline.specs.Runs.{Run, Told, In, AreServed, until, told_by}
 use Rattle.quic_headline.specs.Headline.{IsHonest, IsRun}
@@ -62,20 +64,32 @@ failure_said (receives.Closed error) h = go (is_key_limit error)
     go false = no_more h.failures
 failure_said a h = no_more h.failures
 
-heard_said : (theirs : List (List ℕ)) (call : Call) (a : Answer) (h : Heard) → (heard_by theirs call a h).failures ≤ h.failures + (if says_unopened a then 1 else 0)
-heard_said theirs (calls.Poll now) (answers.Poll (Ok None)) h = no_more h.failures
-heard_said theirs (calls.Poll now) (answers.Poll (Ok (Some t))) h = no_more h.failures
-heard_said theirs (calls.Deliver delivery) (answers.Deliver a) h = go (slice_get theirs delivery.index)
+-- bytes count no failures
+bytes_same : (new counts : Bool) (size : ℕ) (h : Heard) → (received_if counts size (heard_anew new h)).failures ≡ h.failures
+bytes_same true true size h = refl
+bytes_same true false size h = refl
+bytes_same false true size h = refl
+bytes_same false false size h = refl
+
+datagram_said : (here new : Bool) (d : List ℕ) (a : Received) (h : Heard) → (heard_datagram here new d a h).failures ≤ h.failures + (if is_unopened a then 1 else 0)
+datagram_said here new d a h =
+    let h' : Heard = received_if (here || new) (length d) (heard_anew new h) in
+    subst (λ (n : ℕ). (heard_answer a h').failures ≤ n + (if is_unopened a then 1 else 0)) (bytes_same new (here || new) (length d) h) (failure_said a h')
+
+heard_said : (e x : End) (theirs : List (List ℕ)) (call : Call) (a : Answer) (h : Heard) → (heard_by e x theirs call a h).failures ≤ h.failures + (if says_unopened a then 1 else 0)
+heard_said e x theirs (calls.Poll now) (answers.Poll (Ok None)) h = no_more h.failures
+heard_said e x theirs (calls.Poll now) (answers.Poll (Ok (Some t))) h = no_more h.failures
+heard_said e x theirs (calls.Deliver delivery) (answers.Deliver a) h = go (slice_get theirs delivery.index)
   where
     some : (b : Bool) → h.failures ≤ h.failures + (if b then 1 else 0)
     some true = omega arith
     some false = omega arith
 
-    go : (o : Option (List ℕ)) → (heard_delivery o a h).failures ≤ h.failures + (if is_unopened a then 1 else 0)
+    go : (o : Option (List ℕ)) → (heard_delivery e x delivery.remote o a h).failures ≤ h.failures + (if is_unopened a then 1 else 0)
     go None = some (is_unopened a)
-    go (Some d) = failure_said a (heard_received (length d) h)
-heard_said theirs (calls.Inject injection) (answers.Inject a) h = failure_said a (heard_received (length injection.bytes) h)
-heard_said theirs call a h = some (says_unopened a)
+    go (Some d) = datagram_said (is_there delivery.remote e) (has_moved e x) d a h
+heard_said e x theirs (calls.Inject injection) (answers.Inject a) h = datagram_said (is_there injection.remote e) false injection.bytes a h
+heard_said e x theirs call a h = some (says_unopened a)
   where
     some : (b : Bool) → h.failures ≤ h.failures + (if b then 1 else 0)
     some true = omega arith
@@ -110,14 +124,14 @@ last_closed s limit h (answers.Deliver (receives.Closed error)) here last counts
 last_closed s limit h (answers.Inject (receives.Closed error)) here last counts = in_last s limit h error here last counts
 last_closed s limit h a here last counts = cc
 
-module _ (p : Policy) (heard after : Heard) (state : State) (theirs : List (List ℕ)) (call : Call) (a : Answer) (told : List Told) where
+module _ (p : Policy) (heard after : Heard) (e x : End) (state : State) (theirs : List (List ℕ)) (call : Call) (a : Answer) (told : List Told) where
   abbrev now_told : Told
   now_told = told_of call a state
 
-  keyed_step : after ≡ heard_by theirs call a heard → CountsOpenings p.openings state heard a → Keyed p heard told → Keyed p after (told ++ now_told ∷ [])
+  keyed_step : after ≡ heard_by e x theirs call a heard → CountsOpenings p.openings state heard a → Keyed p heard told → Keyed p after (told ++ now_told ∷ [])
   keyed_step heard_so counts k = record {
     failures = (let more_heard = hears in let old = k.failures in let more_count = unopened_more told now_told in omega arith);
-    limited = λ e. limits e (in_append e.told told (now_told ∷ []) e.among);
+    limited = λ m. limits m (in_append m.told told (now_told ∷ []) m.among);
   }
     where
       said_one : (b : Bool) → says_unopened a ≡ b → (if b then 1 else 0) ≤ unopened (now_told ∷ [])
@@ -126,7 +140,7 @@ module _ (p : Policy) (heard after : Heard) (state : State) (theirs : List (List
 
       hears : after.failures ≤ heard.failures + unopened (now_told ∷ [])
       hears =
-          let said : after.failures ≤ heard.failures + (if says_unopened a then 1 else 0) = subst (λ (h : Heard). h.failures ≤ heard.failures + (if says_unopened a then 1 else 0)) (sym heard_so) (heard_said theirs call a heard) in
+          let said : after.failures ≤ heard.failures + (if says_unopened a then 1 else 0) = subst (λ (h : Heard). h.failures ≤ heard.failures + (if says_unopened a then 1 else 0)) (sym heard_so) (heard_said e x theirs call a heard) in
           let one = said_one (says_unopened a) refl in
           omega arith
 
@@ -139,13 +153,13 @@ module _ (p : Policy) (heard after : Heard) (state : State) (theirs : List (List
           let old = k.failures in
           omega arith
 
-      limits : (e : Exhausted (told ++ now_told ∷ [])) → In e.told told ⊎ In e.told (now_told ∷ []) → p.openings ≤ unopened (told ++ now_told ∷ [])
-      limits e (inl old) =
-          let before = k.limited (record { told = e.told; among = old; here = e.here; last = e.last }) in
+      limits : (m : Exhausted (told ++ now_told ∷ [])) → In m.told told ⊎ In m.told (now_told ∷ []) → p.openings ≤ unopened (told ++ now_told ∷ [])
+      limits m (inl old) =
+          let before = k.limited (record { told = m.told; among = old; here = m.here; last = m.last }) in
           let more_count = unopened_more told now_told in
           omega arith
-      limits e (inr (inl is)) = reached (ap (λ (t : Told). t.state) (sym is) ∙ e.here) (ap (λ (t : Told). says_last t.answer) (sym is) ∙ e.last)
-      limits e (inr (inr none)) = absurd none
+      limits m (inr (inl is)) = reached (ap (λ (t : Told). t.state) (sym is) ∙ m.here) (ap (λ (t : Told). says_last t.answer) (sym is) ∙ m.last)
+      limits m (inr (inr none)) = absurd none
 
 -- ---- both ends
 
@@ -163,12 +177,12 @@ step_keyed r end w next event a client server both any step served before behind
     go : (side : Side) (call : Call) → IsStep r.keys w (record { side = side; call = call }) a next
         → BothKeyed r next (client ++ told_by Client w.client.closing.state (record { side = side; call = call }) a) (server ++ told_by Server w.server.closing.state (record { side = side; call = call }) a)
     go Client call s = (
-      keyed_step r.keys.client w.client_heard next.client_heard w.client.closing.state w.from_server call a client (subst (λ (b : Bool). IsHeard b w.from_server call a w.client_heard next.client_heard) served s.heard) s.openings both.0,
+      keyed_step r.keys.client w.client_heard next.client_heard w.client next.client w.client.closing.state w.from_server call a client (subst (λ (b : Bool). IsHeard b w.client next.client w.from_server call a w.client_heard next.client_heard) served s.heard) s.openings both.0,
       resting r.keys.server w.server_heard next.server_heard server (ap (λ (v : World). v.server_heard) s.others) both.1,
     )
     go Server call s = (
       resting r.keys.client w.client_heard next.client_heard client (ap (λ (v : World). v.client_heard) s.others) both.0,
-      keyed_step r.keys.server w.server_heard next.server_heard w.server.closing.state w.from_client call a server (subst (λ (b : Bool). IsHeard b w.from_client call a w.server_heard next.server_heard) served s.heard) s.openings both.1,
+      keyed_step r.keys.server w.server_heard next.server_heard w.server next.server w.server.closing.state w.from_client call a server (subst (λ (b : Bool). IsHeard b w.server next.server w.from_client call a w.server_heard next.server_heard) served s.heard) s.openings both.1,
     )
 
 -- before the first event

@@ -39,7 +39,8 @@ use Rattle.quic_headline.specs.Headline.{IsHonest, IsRun, IsAt}
 use Rattle.quic_headline.specs.Closes.{asks_again, owed_behind, owed, ClosesAreOwed, MayClose, OwedClosesGo, DrainedAreSilent}
 use Rattle.quic_headline.proofs.Packets.Apart.{by_waits, by_next_id}
 use Rattle.quic_headline.proofs.Packets.Closes.{by_closes}
-use Rattle.quic_headline.proofs.Packets.Delivered.{Arrivals, arrived}
+use Rattle.quic_headline.proofs.Packets.Delivered.{frames_at, Arrivals, arrived, with_taken}
+use Rattle.quic_headline.proofs.Packets.Moved.{by_migrated}
 use Rattle.quic_headline.proofs.Packets.Given.{allocated_near}
 use Rattle.quic_headline.proofs.Packets.Group.{PacketsHold, meets}
 use Rattle.quic_headline.proofs.Packets.Growth.{step_length}
@@ -288,21 +289,22 @@ module _ (low : ℕ) where
   }))
 
 -- in each case of a delivery
-covered_arrivals : (e : End) (now n : ℕ) (frames : List FrameValue) (i : Intake) → KnowsIn e.closing.state e.numbers i → IsCovered e i → Arrivals e now n frames i (λ (o : Outcome) (j : Intake). IsCovered o.end j)
-covered_arrivals e now n frames i k covered = record {
+covered_arrivals : (e : End) (now n : ℕ) (frames taken : List FrameValue) (i : Intake) → KnowsIn e.closing.state e.numbers i → IsCovered e i → Arrivals e now n frames taken i (λ (o : Outcome) (j : Intake). IsCovered o.end j)
+covered_arrivals e now n frames taken i k covered = record {
   ignored = λ reason. covered;
   noted = λ here reason closing. covered here;
   takes = λ words here new none urged mark closing. absurd (open_closing e.closing.state here (sym (ap (λ (c : Closing). c.state) left.closing) ∙ closing));
+  moves = λ p o same remote x opened left_so. by_migrated (λ (z : End). IsCovered z (with_taken i n frames)) p o remote x (λ c. left_so) (λ c most. left_so);
   drains = λ words here new close is closing. absurd (drained_closing states.Drained refl closing);
-  refuses = λ words here new f is closing. (let knows = (known here).named in let more = frames_rise (cut_against e.numbers) frames (begun e now n) (omega arith) in omega arith);
+  refuses = λ words here new f is closing. (let knows = (known here).named in let more = frames_rise (cut_against e.numbers) taken (begun e now n) (omega arith) in omega arith);
   exhausts = λ here closing. (let knows = (known here).named in omega arith);
 }
   where
     known : e.closing.state ≡ states.Open → Knows e.numbers i
     known here = subst (λ (s : State). KnowsIn s e.numbers i) here k
 
-    left : Keeps (begun e now n) (arrived e now n frames).end
-    left = keeps_frames frames (begun e now n)
+    left : Keeps (begun e now n) (arrived e now n taken).end
+    left = keeps_frames taken (begun e now n)
 
 -- y takes from x, and knows of so much
 abbrev Covers : Way
@@ -315,7 +317,7 @@ module _ (B : Way) (packets : (x y : Party) → B x y → PacketsHold x y) where
       by_coming x y a c.joined c.served (meets y x p) IsCovered call c.answer (record {
         apart = λ apart. covered_call x.policy x.end y.given call a (came_to x y) apart c.answer c.served p.knows s;
         none = λ delivery is. s;
-        comes = λ delivery is sent among. covered_arrivals x.end delivery.now sent.number sent.frames (came_to x y) p.knows s;
+        comes = λ delivery is sent among here. covered_arrivals x.end delivery.now sent.number sent.frames (frames_at here sent.frames) (came_to x y) p.knows s;
       })
 
   covers_group : Group B Covers

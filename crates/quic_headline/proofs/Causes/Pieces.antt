@@ -1,9 +1,9 @@
 -- An end that closed for too many pieces had come to them: a group over what is read, and the
 -- clause.
-use Rattle.std.proofs.Common.{◌≡◌, ℕ, suc, ◌+◌, false, List, [], ◌∷◌, ◌++◌, Some, refl, sym, ap, ◌∙◌, subst, inl, inr, arith, Option}
+use Rattle.std.proofs.Common.{◌≡◌, ℕ, suc, ◌+◌, Bool, false, List, [], ◌∷◌, ◌++◌, Some, refl, sym, ap, ◌∙◌, subst, inl, inr, arith, Option}
 use Rattle.quic_wire_core.specs.declared.stream_id.Side.{Side}
 use Rattle.quic_wire_core.specs.StreamId.{other_side}
-use Rattle.quic_wire.specs.Value.{FrameValue}
+use Rattle.quic_wire.specs.Value.{FrameValue, StreamValue, stream}
 use Rattle.quic_config.specs.Transport.{Settings, parameters_of}
 use Rattle.quic_streams_laws.specs.KeepingLaws.{by_accept}
 use Rattle.quic_streams_laws.specs.Written.{HoldsWritten}
@@ -15,15 +15,18 @@ use Rattle.quic_machine.specs.declared.run.Call.TheVariants as calls
 use Rattle.quic_machine.specs.declared.run.Delivery.{Delivery}
 use Rattle.quic_machine.specs.declared.run.Answer.{Answer}
 use Rattle.quic_machine.specs.End.{End}
+use Rattle.quic_machine.specs.Migration.{is_there}
 use Rattle.quic_machine.specs.Receive.{Fault, broke, too_many_pieces, reason_of, Outcome, closed_by_peer}
 use Rattle.quic_machine.specs.Machine.{World, policy_at, after_call}
 use Rattle.quic_machine.specs.CallCases.{is_delivery}
 use Rattle.quic_machine.specs.FrameCases.{begun, passed}
 use Rattle.quic_machine.specs.Poll.{rests}
-use Rattle.quic_headline.specs.Runs.{Run, Packet, Intake, given_of, until, AreServed, HasArrived}
+use Rattle.quic_headline.specs.Runs.{Run, Packet, Intake, In, given_of, until, AreServed, HasArrived}
 use Rattle.quic_headline.specs.Headline.{IsHonest, IsRun}
 use Rattle.quic_headline.specs.Causes.{stream_window_at, CrowdCame, TooManyPieces}
-use Rattle.quic_headline.proofs.Packets.Delivered.{Arrivals, arrived, with_taken}
+use Rattle.quic_headline.proofs.Packets.Delivered.{frames_at, among_at, Arrivals, arrived, with_taken}
+use Rattle.quic_headline.proofs.Packets.Moved.{by_migrated}
+use Rattle.quic_headline.proofs.Packets.Strays.{of_at}
 use Rattle.quic_headline.proofs.Packets.Group.{PacketsHold, meets}
 use Rattle.quic_headline.proofs.Places.Parties.{told_of, Party, called, came_to, Beginning, begun_as}
 use Rattle.quic_headline.proofs.Places.Groups.{Way, Nothing, And, Calls, Group, both}
@@ -33,13 +36,13 @@ use Rattle.quic_headline.proofs.Places.Everything as everything
 use Rattle.quic_headline.proofs.Places.Theorems.{ready}
 use Rattle.quic_headline.proofs.Halves.Ready.{Ready}
 use Rattle.quic_headline.proofs.Halves.Wrote.{wrote}
-use Rattle.quic_headline.proofs.Halves.Ghosts.{Saying}
+use Rattle.quic_headline.proofs.Halves.Ghosts.{SaysOf, Saying}
 use Rattle.quic_headline.proofs.Halves.QuietSteps.{sent_within}
 use Rattle.quic_headline.proofs.Halves.ReadCalls.{any_kept, call_kept}
 use Rattle.quic_headline.proofs.Halves.ReadGroup.{ReadsHold}
 use Rattle.quic_headline.proofs.Causes.Come.{HasCome, come_kept, come_wider, come_kept_calls, come_first}
-use Rattle.quic_headline.proofs.Causes.Crowded.{IsCrowdedBy, crowded, up_to, frames_come, came_before, came_now}
-use Rattle.quic_headline.proofs.Causes.Judged.{Judged, nothing, exhausted, drained, taken, refused, judged, crowd_more, crowd_is}
+use Rattle.quic_headline.proofs.Causes.Crowded.{IsCrowdedBy, crowded, crowded_at, up_to, frames_come, came_before, came_now}
+use Rattle.quic_headline.proofs.Causes.Judged.{taken_of, Judged, nothing, exhausted, drained, taken, refused, judged, crowd_more, crowd_is}
 use Rattle.quic_headline.proofs.Causes.Window.{HasWindow, window_stays, frames_window}
 use Rattle.quic_headline.proofs.Causes.Shown.{reason_shown, call_closes, IsUnread}
 
@@ -68,13 +71,14 @@ pub record RestsOn (B : Way) : Type 1 where
 -- ---- a delivery
 
 -- in each case of a delivery
-come_arrivals : (e : End) (now n : ℕ) (frames : List FrameValue) (i : Intake) → (e.closing.state ≡ states.Open → HasCome (came_in i.took) e.streams)
-    → Arrivals e now n frames i (λ (o : Outcome) (j : Intake). o.end.closing.state ≡ states.Open → HasCome (came_in j.took) o.end.streams)
-come_arrivals e now n frames i come = record {
+come_arrivals : (e : End) (now n : ℕ) (frames : List FrameValue) (here : Bool) (i : Intake) → (e.closing.state ≡ states.Open → HasCome (came_in i.took) e.streams)
+    → Arrivals e now n frames (frames_at here frames) i (λ (o : Outcome) (j : Intake). o.end.closing.state ≡ states.Open → HasCome (came_in j.took) o.end.streams)
+come_arrivals e now n frames here i come = record {
   ignored = λ reason. come;
   noted = λ state reason still. (let clash : states.Closing ≡ states.Open = sym state ∙ still in cc);
   takes = λ words still_open new none urged mark still.
-      frames_come (came_in (with_taken i n frames).took) frames (begun e now n) (λ f j. came_now p i.took f j) (come_wider (came_in i.took) (came_in (with_taken i n frames).took) e.streams (came_before p i.took) (come still_open));
+      frames_come (came_in (with_taken i n frames).took) (frames_at here frames) (begun e now n) (λ f j. came_now p i.took f (stands f j)) (come_wider (came_in i.took) (came_in (with_taken i n frames).took) e.streams (came_before p i.took) (come still_open));
+  moves = λ q o same remote x opened left_so. by_migrated (λ (z : End). z.closing.state ≡ states.Open → HasCome (came_in (with_taken i n frames).took) z.streams) q o remote x (λ c. left_so) (λ c most. left_so);
   drains = λ words still_open new close is still. cc;
   refuses = λ words still_open new f is still. cc;
   exhausts = λ still_open still. cc;
@@ -83,19 +87,24 @@ come_arrivals e now n frames i come = record {
     p : Packet
     p = record { number = n; frames = frames }
 
+    -- a STREAM frame that is taken stands in the packet
+    stands : (f : StreamValue) → In (stream f) (frames_at here frames) → In (stream f) frames
+    stands f j = elim (of_at here frames (stream f) j) [ inl there ↦ there | inr pads ↦ cc ]
+
 -- so the window stays
-window_arrivals : (window : ℕ) (e : End) (now n : ℕ) (frames : List FrameValue) (i : Intake) → HasWindow window e.streams → Arrivals e now n frames i (λ (o : Outcome) (j : Intake). HasWindow window o.end.streams)
-window_arrivals window e now n frames i was = record {
+window_arrivals : (window : ℕ) (e : End) (now n : ℕ) (frames those : List FrameValue) (i : Intake) → HasWindow window e.streams → Arrivals e now n frames those i (λ (o : Outcome) (j : Intake). HasWindow window o.end.streams)
+window_arrivals window e now n frames those i was = record {
   ignored = λ reason. was;
   noted = λ state reason. was;
   takes = λ words still_open new none urged mark. after;
+  moves = λ p o same remote x opened left_so. by_migrated (λ (z : End). HasWindow window z.streams) p o remote x (λ c. left_so) (λ c most. left_so);
   drains = λ words still_open new close is. after;
   refuses = λ words still_open new f is. after;
   exhausts = λ still_open. was;
 }
   where
-    after : HasWindow window (passed frames (begun e now n)).end.streams
-    after = frames_window window frames (begun e now n) was
+    after : HasWindow window (passed those (begun e now n)).end.streams
+    after = frames_window window those (begun e now n) was
 
 -- a fault whose reason is pieces
 fault_is : (f : Fault) → Some (reason_of f) ≡ Some reasons.Pieces → f ≡ too_many_pieces
@@ -112,7 +121,7 @@ module _ (B : Way) (rests : RestsOn B) (x y : Party) (call : Call) (a : Answer) 
     apart = λ apart still. call_kept (HasCome (came_in (came_to x y).took)) (come_kept_calls (came_in (came_to x y).took)) x.policy x.end y.given (sent_within (wrote x.told) x.end.streams (rests.written x y c.gives)) (p.come (open_before apart still)) call a c.answer apart
         (λ dir same. by_accept (HasCome (came_in (came_to x y).took)) (come_kept (came_in (came_to x y).took)) dir x.end.streams (λ may. may) (p.come (open_before apart still)));
     none = λ delivery is. p.come;
-    comes = λ delivery is s among. come_arrivals x.end delivery.now s.number s.frames (came_to x y) p.come;
+    comes = λ delivery is s among here. come_arrivals x.end delivery.now s.number s.frames here (came_to x y) p.come;
   })
     where
       open_before : is_delivery call ≡ false → (after_call x.policy x.end y.given call a).closing.state ≡ states.Open → x.end.closing.state ≡ states.Open
@@ -127,7 +136,7 @@ module _ (B : Way) (rests : RestsOn B) (x y : Party) (call : Call) (a : Answer) 
     apart = λ apart. call_kept (HasWindow (window_of x)) (any_kept (HasWindow (window_of x)) (window_stays (window_of x))) x.policy x.end y.given (sent_within (wrote x.told) x.end.streams (rests.written x y c.gives)) p.window call a c.answer apart
         (λ dir same. by_accept (HasWindow (window_of x)) (window_stays (window_of x)) dir x.end.streams (λ may. tt) p.window);
     none = λ delivery is. p.window;
-    comes = λ delivery is s among. window_arrivals (window_of x) x.end delivery.now s.number s.frames (came_to x y) p.window;
+    comes = λ delivery is s among here. window_arrivals (window_of x) x.end delivery.now s.number s.frames (frames_at here s.frames) (came_to x y) p.window;
   })
 
   -- a crowd that came before came still
@@ -145,11 +154,13 @@ crowd_now B rests x y delivery a c p is = go (judged x y delivery a c.joined (me
     go (exhausted none reason state) = let clash : ◌≡◌ {A = Option LostReason} (Some reasons.KeyLimit) (Some reasons.Pieces) = sym reason ∙ is in cc
     go (drained s among new still_open close fault answer reason state) = let clash : ◌≡◌ {A = Option LostReason} (Some (reasons.Peer close)) (Some reasons.Pieces) = sym reason ∙ is in cc
     go (refused s among new still_open f fault answer reason state) =
-        let too_many : (arrived x.end delivery.now s.number s.frames).fault ≡ Some too_many_pieces = fault ∙ ap (λ (g : Fault). Some g) (fault_is f (sym reason ∙ is)) in
+        let within : List FrameValue = taken_of x y delivery a s in
+        let too_many : (arrived x.end delivery.now s.number within).fault ≡ Some too_many_pieces = fault ∙ ap (λ (g : Fault). Some g) (fault_is f (sym reason ∙ is)) in
         let e : End = begun x.end delivery.now s.number in
         let held = rests.reads y x c.takes in
         let crowd : IsCrowdedBy (window_of x) x.told (came_to x y).took s.number s.frames =
-        crowded (window_of x) x.side (wrote y.told) x.told (came_to x y).took s.number s.frames e (rests.says y x c.takes s among) held.reads held.brought (p.come still_open) p.window (up_to s.frames e too_many) in
+        crowded_at (is_there delivery.remote x.end) (window_of x) x.told (came_to x y).took s.number s.frames
+        (crowded (window_of x) x.side (wrote y.told) x.told (came_to x y).took s.number within e (among_at (SaysOf (wrote y.told)) tt (is_there delivery.remote x.end) s.frames (rests.says y x c.takes s among)) held.reads held.brought (p.come still_open) p.window (up_to within e too_many)) in
         record { packet = new.packet; crowded = crowd_is x y delivery a (window_of x) s crowd new new.packet new.before new.call }
 
 -- any call

@@ -36,6 +36,7 @@ use Rattle.quic_headline.proofs.Timers.BothEnds.{AtBoth, IsKept, step_keeps}
 use Rattle.quic_machine.specs.LeaveCases as expiring
 use Rattle.quic_headline.proofs.Packets.Closes.{by_closes}
 use Rattle.quic_headline.proofs.Packets.Apart.{by_next_id}
+use Rattle.quic_headline.proofs.Packets.Moved.{by_migrated}
 use Rattle.quic_headline.proofs.Packets.Heard.{by_taken}
 
 -- ---- an end
@@ -61,6 +62,7 @@ receives = record {
   asks_close = λ e i. i;
   exhausts = λ now e i. tt;
   draws = λ words e i. i;
+  moves = λ p o remote e i. by_migrated IsExplained p o remote e (λ c. i) (λ c most. i);
 }
 
 -- an acknowledgement that became due leaves it
@@ -143,7 +145,7 @@ stopped : (e next : End) → HasStopped e next → IsExplained next
 stopped e next is = subst (λ (s : State). Explains s next.closing.reason) (sym is.0) (subst (λ (o : Option LostReason). Explains states.Failed o) (sym is.1) tt)
 
 kept : IsKept IsExplained
-kept = record { call = call_keeps; shows = λ window blocked e i. i; stops = stopped }
+kept = record { call = call_keeps; shows = λ window blocked e i. i; paces = λ pacing e i. i; stops = stopped }
 
 -- ---- views
 

@@ -8,13 +8,12 @@ use Rattle.quic_wire.specs.Close.{CloseValue}
 use Rattle.quic_wire.specs.Items.{items}
 use Rattle.quic_packet.specs.Header.{key_phase}
 use Rattle.quic_packet.specs.Datagram.{Opening}
-use Rattle.quic_packet.specs.Destination.{decoded, fixed_length_id}
-use Rattle.quic_packet.specs.declared.packet.HeaderError.{HeaderError}
 use Rattle.quic_recovery_core.specs.Duplicates.{is_duplicate}
 use Rattle.quic_spaces.specs.Numbers.{number_opened}
 use Rattle.quic_machine.specs.Arrival.{Arrival, delivered_by}
 use Rattle.quic_machine.specs.declared.answers.State.{State}
 use Rattle.quic_machine.specs.declared.answers.State.TheVariants as states
+use Rattle.quic_machine.specs.declared.answers.DropReason.{DropReason}
 use Rattle.quic_machine.specs.declared.answers.DropReason.TheVariants as drops
 use Rattle.quic_machine.specs.declared.answers.LostReason.TheVariants as reasons
 use Rattle.quic_machine.specs.declared.answers.Received.{Received}
@@ -24,12 +23,12 @@ use Rattle.quic_machine.specs.declared.run.Delivery.{Delivery}
 use Rattle.quic_machine.specs.declared.run.Answer.{Answer}
 use Rattle.quic_machine.specs.declared.run.Answer.TheVariants as answers
 use Rattle.quic_machine.specs.Policy.{Policy}
-use Rattle.quic_machine.specs.Ids.{known}
 use Rattle.quic_machine.specs.Closing.{ticked}
 use Rattle.quic_machine.specs.End.{End, with_closing, with_numbers}
-use Rattle.quic_machine.specs.Opens.{own_id_length}
-use Rattle.quic_machine.specs.Receive.{Fault, broke, too_many_pieces, closed_by_peer, Outcome, asks_in, is_urged, take_payload, dropped, ends_as, by_state, is_read, drawn_if, opened_to, opened_as, opening, unopened_in, headed, received_in, received}
+use Rattle.quic_machine.specs.Opens.{head}
+use Rattle.quic_machine.specs.Receive.{Fault, broke, too_many_pieces, closed_by_peer, Outcome, asks_in, is_urged, take_payload, dropped, ends_as, by_state, is_read, items_taken, drawn_if, with_ids_drawn, has_migrated, opened_to, opened_as, opening, unopened_in, headed, received_in, received}
 use Rattle.quic_machine.specs.Machine.{IsDelivered, after_delivered, says_last}
+use Rattle.quic_headline.proofs.Packets.Moved.{by_migrated_if}
 
 -- two deliveries that are answered alike
 same_received : (r q : Received) → answers.Deliver r ≡ answers.Deliver q → r ≡ q
@@ -49,8 +48,10 @@ module _ (close : CloseValue) (error : ErrorValue) where
   state_not : (s : State) (o : Opening) (arrival : Arrival) (e : End) → NotBoth (by_state s o arrival e)
   state_not states.Open o arrival e =
       let begins : End = with_closing e (ticked e.closing arrival.now) in
-      let taken = take_payload o.first (items o.payload) begins in
-      ends_not taken.fault (asks_in (items o.payload)) (is_urged arrival.mark (items o.payload) begins) o.number arrival.mark taken.end
+      let asks = asks_in (items o.payload) in
+      let within = items_taken o arrival e in
+      let taken = take_payload o.first within begins in
+      ends_not taken.fault asks (is_urged arrival.mark asks within begins) o.number arrival.mark taken.end
   state_not states.Closing o arrival e = λ answer reason. cc
   state_not states.Drained o arrival e = λ answer reason. cc
   state_not states.Failed o arrival e = λ answer reason. cc
@@ -76,17 +77,20 @@ module _ (close : CloseValue) (error : ErrorValue) where
 
   packet_not : (o : Option Opening) (p : Policy) (arrival : Arrival) (e : End) → NotBoth (opened_as o p arrival e)
   packet_not None p arrival e = unopened_not e.closing.state arrival.last arrival e
-  packet_not (Some o) p arrival e = drawn_not (is_read (opened_to o arrival e).answer) p (opened_to o arrival e) (opened_not o arrival e)
+  packet_not (Some o) p arrival e =
+      let out = with_ids_drawn p (opened_to o arrival e) in
+      let left = drawn_not (is_read (opened_to o arrival e).answer) p (opened_to o arrival e) (opened_not o arrival e) in
+      by_migrated_if (λ (x : End). NotBoth (record { answer = out.answer; end = x })) p o arrival.remote out.end (λ c. left) (λ c most. left) (has_migrated o arrival.remote e out) left
 
-  headed_not : (r : Result (List ℕ) HeaderError) (p : Policy) (e : End) (arrival : Arrival) (d : List ℕ) → NotBoth (headed r p e arrival d)
+  headed_not : (r : Result (List ℕ) DropReason) (p : Policy) (e : End) (arrival : Arrival) (d : List ℕ) → NotBoth (headed r p e arrival d)
   headed_not (Err wrong) p e arrival d = λ answer reason. cc
   headed_not (Ok id) p e arrival d = packet_not (opening p e d) p arrival e
 
   received_not : (s : State) (p : Policy) (e : End) (arrival : Arrival) (d : List ℕ) → NotBoth (received_in s p e arrival d)
   received_not states.Failed p e arrival d = λ answer reason. cc
   received_not states.Drained p e arrival d = λ answer reason. cc
-  received_not states.Open p e arrival d = headed_not (decoded (fixed_length_id own_id_length) (known e.ids) d) p e arrival d
-  received_not states.Closing p e arrival d = headed_not (decoded (fixed_length_id own_id_length) (known e.ids) d) p e arrival d
+  received_not states.Open p e arrival d = headed_not (head e arrival.remote d) p e arrival d
+  received_not states.Closing p e arrival d = headed_not (head e arrival.remote d) p e arrival d
 
   -- so it is of a delivery
   pub refused_not : (p : Policy) (e : End) (delivery : Delivery) (o : Option (List ℕ)) (a : Answer) → IsDelivered p e delivery o a → a ≡ answers.Deliver (Closed error) → (after_delivered p e (delivered_by (says_last a) delivery) o).closing.reason ≡ Some (reasons.Peer close) → ⊥

@@ -23,6 +23,7 @@ use Rattle.quic_machine.specs.Policy.{Policy}
 use Rattle.quic_machine.specs.Reasons.{error_close}
 use Rattle.quic_machine.specs.Closing.{Closing, ticked}
 use Rattle.quic_machine.specs.End.{End, with_closing, closed_by}
+use Rattle.quic_machine.specs.Migration.{is_there}
 use Rattle.quic_machine.specs.Receive.{Fault, broke, too_many_pieces, closed_by_peer, reason_of, take_frame, unless_fault, take_items}
 use Rattle.quic_machine.specs.Poll.{Polled, zeros_behind, close_room, longest_fitting, fitted, draft_as, may_close, close_to_go, polled}
 use Rattle.quic_machine.specs.Poll as poll
@@ -39,6 +40,7 @@ use Rattle.quic_headline.specs.Reasons.{Explains}
 use Rattle.quic_headline.specs.Closes.{SaidSo, IsCode, SaysSo, SaysWhy, ClosesSayWhy, IsToldAs, PeerClosesCome}
 use Rattle.quic_headline.proofs.Packets.Closeless.{sent_closeless}
 use Rattle.quic_headline.proofs.Packets.Delivered.{arrived}
+use Rattle.quic_headline.proofs.Packets.Strays.{of_at}
 use Rattle.quic_headline.proofs.Packets.Group.{PacketsHold, meets}
 use Rattle.quic_headline.proofs.Packets.Owing.{closing_frame, no_close_among}
 use Rattle.quic_headline.proofs.Packets.Sends.{GivesClose, by_sends}
@@ -57,7 +59,7 @@ use Rattle.quic_headline.proofs.Places.Told.{in_left, in_right, in_append}
 use Rattle.quic_headline.proofs.Halves.Ready.{Ready}
 use Rattle.quic_headline.proofs.Rest.Between.{step_leaves}
 use Rattle.quic_headline.proofs.Steps.Made.{served_before, told_next, one_behind, MadeAt, made_at}
-use Rattle.quic_headline.proofs.Causes.Judged.{Judged, nothing, exhausted, drained, taken, refused, judged}
+use Rattle.quic_headline.proofs.Causes.Judged.{taken_of, Judged, nothing, exhausted, drained, taken, refused, judged}
 use Rattle.quic_headline.proofs.Causes.Reasons.{call_keeps}
 use Rattle.quic_headline.proofs.Causes.Shown.{reason_shown, IsUnread, call_closes}
 use Rattle.quic_headline.proofs.Causes.Turns.{Turns, kept, asked, went, shut, ended, lapsed, error_says, bound_error, turns}
@@ -332,13 +334,16 @@ has_more sents more close h = record { sent = h.sent; among = in_left h.sent sen
 
 -- a packet of its peer's in which that closes, or what had closed the end before
 module _ (x y : Party) (delivery : Delivery) (a : Answer) (after : End) (came : Came y x) (close : CloseValue) (is : after.closing.reason ≡ Some (reasons.Peer close)) where
-  told_so : (s : Sent) → In s y.sents → (c : CloseValue) → (arrived x.end delivery.now s.number s.frames).fault ≡ Some (closed_by_peer c) → Some (reasons.Peer c) ≡ Some (reasons.Peer close) → HasClose y.sents close
+  told_so : (s : Sent) → In s y.sents → (c : CloseValue) → (arrived x.end delivery.now s.number (taken_of x y delivery a s)).fault ≡ Some (closed_by_peer c) → Some (reasons.Peer c) ≡ Some (reasons.Peer close) → HasClose y.sents close
   told_so s among c fault same =
       let one : c ≡ close = cc in
-      let found = told_among s.frames (begun x.end delivery.now s.number) c fault in
-      record { sent = s; among = among; frame = found.0; carried = found.1; told_as = subst (IsToldAs found.0) one found.2 }
+      let found = told_among (taken_of x y delivery a s) (begun x.end delivery.now s.number) c fault in
+      elim (of_at (is_there delivery.remote x.end) s.frames found.0 found.1) [
+        | inl stands ↦ record { sent = s; among = among; frame = found.0; carried = stands; told_as = subst (IsToldAs found.0) one found.2 }
+        | inr pads ↦ absurd (subst (λ (f : FrameValue). IsToldAs f c) pads found.2)
+      ]
 
-  faulty : (s : Sent) → In s y.sents → (g : Fault) → (arrived x.end delivery.now s.number s.frames).fault ≡ Some g → ◌≡◌ {A = Option LostReason} (Some (reason_of g)) (Some (reasons.Peer close)) → HasClose y.sents close
+  faulty : (s : Sent) → In s y.sents → (g : Fault) → (arrived x.end delivery.now s.number (taken_of x y delivery a s)).fault ≡ Some g → ◌≡◌ {A = Option LostReason} (Some (reason_of g)) (Some (reasons.Peer close)) → HasClose y.sents close
   faulty s among (broke error) fault same = cc
   faulty s among too_many_pieces fault same = cc
   faulty s among (closed_by_peer c) fault same = told_so s among c fault same

@@ -34,6 +34,7 @@ use Rattle.quic_headline.proofs.Packets.CloseForms.{close_sealed}
 use Rattle.quic_headline.proofs.Packets.Group.{PacketsHold}
 use Rattle.quic_headline.proofs.Packets.Growth.{step_length}
 use Rattle.quic_headline.proofs.Packets.Heard.{by_taken}
+use Rattle.quic_headline.proofs.Packets.Moved.{by_migrated}
 use Rattle.quic_headline.proofs.Packets.Owing.{Owes, close_is, error_owes}
 use Rattle.quic_headline.proofs.Packets.Invariant.{IsSent}
 use Rattle.quic_headline.proofs.Packets.Probes.{by_going}
@@ -73,6 +74,7 @@ receives_same e = record {
   asks_close = λ x i. i;
   exhausts = λ now x i. i;
   draws = λ words x i. i;
+  moves = λ p o remote x i. by_migrated (SameSeals e) p o remote x (λ c. i) (λ c most. i);
 }
 
 judged_same : (e : End) (o : Option ℕ) (x : End) → SameSeals e x → SameSeals e (loss_judged o x)

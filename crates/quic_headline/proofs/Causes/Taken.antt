@@ -16,6 +16,7 @@ use Rattle.quic_machine.specs.Arrival.{Arrival, delivered_by}
 use Rattle.quic_machine.specs.Closing.{ticked}
 use Rattle.quic_machine.specs.declared.answers.State.{State}
 use Rattle.quic_machine.specs.declared.answers.State.TheVariants as states
+use Rattle.quic_machine.specs.declared.answers.DropReason.{DropReason}
 use Rattle.quic_machine.specs.declared.answers.DropReason.TheVariants as drops
 use Rattle.quic_machine.specs.declared.answers.Received.{Received}
 use Rattle.quic_machine.specs.declared.answers.Received.TheVariants.{Taken, Dropped}
@@ -24,11 +25,10 @@ use Rattle.quic_machine.specs.declared.run.Call.TheVariants as calls
 use Rattle.quic_machine.specs.declared.run.Delivery.{Delivery}
 use Rattle.quic_machine.specs.declared.run.Answer.{Answer}
 use Rattle.quic_machine.specs.declared.run.Answer.TheVariants as answers
-use Rattle.quic_machine.specs.Ids.{known}
 use Rattle.quic_machine.specs.Policy.{Policy}
 use Rattle.quic_machine.specs.End.{End, with_closing, with_numbers}
-use Rattle.quic_machine.specs.Opens.{in_phase, opens_behind, opens}
-use Rattle.quic_machine.specs.Receive.{Fault, Outcome, broke, too_many_pieces, closed_by_peer, asks_in, is_urged, take_payload, dropped, ends_as, by_state, unopened_in, opened_as, opening, headed, received_in, received}
+use Rattle.quic_machine.specs.Opens.{in_phase, drop_of, head, opens_behind}
+use Rattle.quic_machine.specs.Receive.{Fault, Outcome, broke, too_many_pieces, closed_by_peer, asks_in, is_urged, items_taken, take_payload, dropped, ends_as, by_state, unopened_in, opened_as, opening, headed, received_in, received}
 use Rattle.quic_machine.specs.Machine.{World, IsAnswer, IsDelivered, fails, says_last}
 use Rattle.quic_headline.specs.Runs.{Run, Told, Intake, is_again, handed, came_open, until, state_at, AreServed}
 use Rattle.quic_headline.specs.Headline.{IsHonest, IsRun, IsAt}
@@ -37,7 +37,8 @@ use Rattle.quic_headline.specs.Taken.{CameAgain, TakenExactly}
 use Rattle.quic_headline.proofs.Packets.Growth.{get_front}
 use Rattle.quic_headline.proofs.Packets.Invariant.{Knows, KnowsIn}
 use Rattle.quic_headline.proofs.Packets.Window.{is_duplicate-is}
-use Rattle.quic_headline.proofs.Packets.ByKey.{header, came_open_is}
+use Rattle.quic_headline.proofs.Packets.ByKey.{opens_from, came_open_is}
+use Rattle.quic_headline.proofs.Packets.Elsewhere.{by_dropped}
 use Rattle.quic_headline.proofs.Places.Parties.{told_of, Party, came_to, AreJoined}
 use Rattle.quic_headline.proofs.Places.Placed.{Placed, placed, party_at, answered}
 use Rattle.quic_headline.proofs.Places.Everything as everything
@@ -95,8 +96,10 @@ module _ (p : Policy) (e : End) (arrival : Arrival) where
   state_again : (s : State) (o : Opening) (x : End) → (by_state s o arrival x).answer ≡ duplicate → ⊥
   state_again states.Open o x is =
       let begins : End = with_closing x (ticked x.closing arrival.now) in
-      let taken = take_payload o.first (items o.payload) begins in
-      ends_again taken.fault (asks_in (items o.payload)) (is_urged arrival.mark (items o.payload) begins) o.number arrival.mark taken.end is
+      let asks = asks_in (items o.payload) in
+      let within = items_taken o arrival x in
+      let taken = take_payload o.first within begins in
+      ends_again taken.fault asks (is_urged arrival.mark asks within begins) o.number arrival.mark taken.end is
   state_again states.Closing o x is = cc
   state_again states.Drained o x is = cc
   state_again states.Failed o x is = cc
@@ -107,7 +110,7 @@ module _ (p : Policy) (e : End) (arrival : Arrival) where
   tests_taken o false true tells is = absurd cc
   tests_taken o false false tells is = (taken_open e.closing.state o (with_numbers e (number_opened e.numbers o.number)) is, record { opening = o; is = refl; tells = tells })
 
-  headed_taken : (r : Result (List ℕ) HeaderError) (d : List ℕ) → (headed r p e arrival d).answer ≡ Taken → (e.closing.state ≡ states.Open) × Opens false e.numbers.opened (opens_behind r p (expected e.numbers) d)
+  headed_taken : (r : Result (List ℕ) DropReason) (d : List ℕ) → (headed r p e arrival d).answer ≡ Taken → (e.closing.state ≡ states.Open) × Opens false e.numbers.opened (opens_behind r p (expected e.numbers) d)
   headed_taken (Err error) d is = absurd cc
   headed_taken (Ok id) d is = go (opening p e d) is
     where
@@ -115,9 +118,9 @@ module _ (p : Policy) (e : End) (arrival : Arrival) where
       go None is = absurd (unopened_taken e.closing.state arrival.last is)
       go (Some o) is = tests_taken o (key_phase o.first) (is_duplicate e.numbers.opened o.number) refl is
 
-  received_taken : (s : State) (d : List ℕ) → (received_in s p e arrival d).answer ≡ Taken → (e.closing.state ≡ states.Open) × Opens false e.numbers.opened (opens p (known e.ids) (expected e.numbers) d)
-  received_taken states.Open d is = headed_taken (header (known e.ids) d) d is
-  received_taken states.Closing d is = headed_taken (header (known e.ids) d) d is
+  received_taken : (s : State) (d : List ℕ) → (received_in s p e arrival d).answer ≡ Taken → (e.closing.state ≡ states.Open) × Opens false e.numbers.opened (opens_from p e arrival.remote (expected e.numbers) d)
+  received_taken states.Open d is = headed_taken (head e arrival.remote d) d is
+  received_taken states.Closing d is = headed_taken (head e arrival.remote d) d is
   received_taken states.Drained d is = absurd cc
   received_taken states.Failed d is = absurd cc
 
@@ -127,12 +130,15 @@ module _ (p : Policy) (e : End) (arrival : Arrival) where
   tests_again o false true tells is = record { opening = o; is = refl; tells = tells }
   tests_again o false false tells is = absurd (state_again e.closing.state o (with_numbers e (number_opened e.numbers o.number)) is)
 
-  headed_again : (r : Result (List ℕ) HeaderError) (d : List ℕ) → (headed r p e arrival d).answer ≡ duplicate → Opens true e.numbers.opened (opens_behind r p (expected e.numbers) d)
-  headed_again (Err headers.TooShort) d is = absurd cc
-  headed_again (Err headers.NotShort) d is = absurd cc
-  headed_again (Err headers.FixedBit) d is = absurd cc
-  headed_again (Err headers.UnknownId) d is = absurd cc
-  headed_again (Ok id) d is = go (opening p e d) is
+  header_again : (error : HeaderError) → Dropped (drop_of error) ≡ duplicate → ⊥
+  header_again headers.TooShort is = cc
+  header_again headers.NotShort is = cc
+  header_again headers.FixedBit is = cc
+  header_again headers.UnknownId is = cc
+
+  headed_again : (r : Result (List ℕ) DropReason) (d : List ℕ) → head e arrival.remote d ≡ r → (headed r p e arrival d).answer ≡ duplicate → Opens true e.numbers.opened (opens_behind r p (expected e.numbers) d)
+  headed_again (Err reason) d there is = absurd (by_dropped (λ (why : DropReason). Dropped why ≡ duplicate → ⊥) e arrival.remote d reason (λ same. cc) header_again there is)
+  headed_again (Ok id) d there is = go (opening p e d) is
     where
       go : (o : Option Opening) → (opened_as o p arrival e).answer ≡ duplicate → Opens true e.numbers.opened (in_phase o)
       go None is = absurd (unopened_again e.closing.state arrival.last is)
@@ -147,7 +153,7 @@ module _ (p : Policy) (e : End) (arrival : Arrival) where
       let clash : false ≡ true = sym tells ∙ ap (λ (x : Opening). is_duplicate e.numbers.opened x.number) same ∙ opens.tells in
       cc
 
-  headed_dropped : (r : Result (List ℕ) HeaderError) (d : List ℕ) → Opens true e.numbers.opened (opens_behind r p (expected e.numbers) d) → (headed r p e arrival d).answer ≡ duplicate
+  headed_dropped : (r : Result (List ℕ) DropReason) (d : List ℕ) → Opens true e.numbers.opened (opens_behind r p (expected e.numbers) d) → (headed r p e arrival d).answer ≡ duplicate
   headed_dropped (Err error) d opens = let clash : None ≡ Some opens.opening = opens.is in cc
   headed_dropped (Ok id) d opens = go (opening p e d) opens
     where
@@ -168,7 +174,7 @@ module _ (x y : Party) (delivery : Delivery) (a : Answer) (knows : KnowsIn x.end
   now_told = told_of (calls.Deliver delivery) a x.end.closing.state
 
   -- what a datagram opens to by its key is what it does there
-  opens_so : (d : List ℕ) → a ≡ answers.Deliver (received x.policy x.end arrival d).answer → x.end.closing.state ≡ states.Open → Knows x.end.numbers i → came_open x.policy i.took a d ≡ opens x.policy (known x.end.ids) (expected x.end.numbers) d
+  opens_so : (d : List ℕ) → a ≡ answers.Deliver (received x.policy x.end arrival d).answer → x.end.closing.state ≡ states.Open → Knows x.end.numbers i → came_open x.policy i.took a d ≡ opens_from x.policy x.end arrival.remote (expected x.end.numbers) d
   opens_so d told still_open k =
       ap (λ (b : Answer). came_open x.policy i.took b d) (told ∙ ap (λ (s : State). answers.Deliver (received_in s x.policy x.end arrival d).answer) still_open)
       ∙ came_open_is x.policy x.end arrival d i.took k.expected
@@ -188,7 +194,7 @@ module _ (x y : Party) (delivery : Delivery) (a : Answer) (knows : KnowsIn x.end
   taken_came : a ≡ answers.Deliver Taken → Came
   taken_came taken = go (slice_get y.given delivery.index) refl is
     where
-      came : (d : List ℕ) → slice_get y.given delivery.index ≡ Some d → (told : a ≡ answers.Deliver (received x.policy x.end arrival d).answer) → (x.end.closing.state ≡ states.Open) × Opens false x.end.numbers.opened (opens x.policy (known x.end.ids) (expected x.end.numbers) d) → Came
+      came : (d : List ℕ) → slice_get y.given delivery.index ≡ Some d → (told : a ≡ answers.Deliver (received x.policy x.end arrival d).answer) → (x.end.closing.state ≡ states.Open) × Opens false x.end.numbers.opened (opens_from x.policy x.end arrival.remote (expected x.end.numbers) d) → Came
       came d at told (still_open, o) = (
         record {
           before = x.told;
@@ -218,10 +224,10 @@ module _ (x y : Party) (delivery : Delivery) (a : Answer) (knows : KnowsIn x.end
     exactly : (d : List ℕ) → d ≡ datagram → a ≡ answers.Deliver (received x.policy x.end arrival d).answer → (a ≡ answers.Deliver (Dropped drops.Duplicate)) ↔ Again
     exactly d same told = (again, drops_so)
       where
-        answer : a ≡ answers.Deliver (headed (header (known x.end.ids) d) x.policy x.end arrival d).answer
+        answer : a ≡ answers.Deliver (headed (head x.end arrival.remote d) x.policy x.end arrival d).answer
         answer = told ∙ ap (λ (s : State). answers.Deliver (received_in s x.policy x.end arrival d).answer) still_open
 
-        opens_there : came_open x.policy i.took a datagram ≡ opens x.policy (known x.end.ids) (expected x.end.numbers) d
+        opens_there : came_open x.policy i.took a datagram ≡ opens_from x.policy x.end arrival.remote (expected x.end.numbers) d
         opens_there = ap (λ (ds : List ℕ). came_open x.policy i.took a ds) (sym same) ∙ opens_so d told still_open (known_so still_open)
 
         tells : (n : ℕ) → is_duplicate x.end.numbers.opened n ≡ is_again n i.opened
@@ -229,11 +235,11 @@ module _ (x y : Party) (delivery : Delivery) (a : Answer) (knows : KnowsIn x.end
 
         again : a ≡ answers.Deliver (Dropped drops.Duplicate) → Again
         again is_dropped =
-            let o = headed_again x.policy x.end arrival (header (known x.end.ids) d) d (let both : answers.Deliver (headed (header (known x.end.ids) d) x.policy x.end arrival d).answer ≡ answers.Deliver (Dropped drops.Duplicate) = sym answer ∙ is_dropped in cc) in
+            let o = headed_again x.policy x.end arrival (head x.end arrival.remote d) d refl (let both : answers.Deliver (headed (head x.end arrival.remote d) x.policy x.end arrival d).answer ≡ answers.Deliver (Dropped drops.Duplicate) = sym answer ∙ is_dropped in cc) in
             record { opening = o.opening; opened = opens_there ∙ o.is; again = sym (tells o.opening.number) ∙ o.tells }
 
         drops_so : Again → a ≡ answers.Deliver (Dropped drops.Duplicate)
-        drops_so c = answer ∙ ap (λ (b : Received). answers.Deliver b) (headed_dropped x.policy x.end arrival (header (known x.end.ids) d) d (record { opening = c.opening; is = sym opens_there ∙ c.opened; tells = tells c.opening.number ∙ c.again }))
+        drops_so c = answer ∙ ap (λ (b : Received). answers.Deliver b) (headed_dropped x.policy x.end arrival (head x.end arrival.remote d) d (record { opening = c.opening; is = sym opens_there ∙ c.opened; tells = tells c.opening.number ∙ c.again }))
 
     again_exactly : (a ≡ answers.Deliver (Dropped drops.Duplicate)) ↔ Again
     again_exactly = go (slice_get y.given delivery.index) refl is

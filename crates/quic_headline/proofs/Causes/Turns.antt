@@ -9,7 +9,6 @@ use Rattle.quic_wire.specs.Items.{items}
 use Rattle.quic_wire.specs.declared.frame.InvalidFrame.{InvalidFrame}
 use Rattle.quic_packet.specs.Header.{key_phase, reserved_bits}
 use Rattle.quic_packet.specs.Datagram.{Opening}
-use Rattle.quic_packet.specs.Destination.{decoded, fixed_length_id}
 use Rattle.quic_packet.specs.declared.packet.HeaderError.{HeaderError}
 use Rattle.quic_packet.specs.declared.packet.HeaderError.TheVariants as headers
 use Rattle.quic_recovery_core.specs.Duplicates.{is_duplicate}
@@ -18,6 +17,7 @@ use Rattle.quic_streams_state.specs.declared.state.StreamsState.{StreamsState}
 use Rattle.quic_machine.specs.Arrival.{Arrival, delivered_by, injected_by}
 use Rattle.quic_machine.specs.declared.answers.State.{State}
 use Rattle.quic_machine.specs.declared.answers.State.TheVariants as states
+use Rattle.quic_machine.specs.declared.answers.DropReason.{DropReason}
 use Rattle.quic_machine.specs.declared.answers.DropReason.TheVariants as drops
 use Rattle.quic_machine.specs.declared.answers.LostReason.{LostReason}
 use Rattle.quic_machine.specs.declared.answers.LostReason.TheVariants as reasons
@@ -32,12 +32,11 @@ use Rattle.quic_machine.specs.declared.run.Answer.TheVariants as answers
 use Rattle.quic_machine.specs.Policy.{Policy}
 use Rattle.quic_machine.specs.Reasons.{error_close}
 use Rattle.quic_machine.specs.Closing.{Closing, ticked, closing_for, close_given}
-use Rattle.quic_machine.specs.Ids.{known}
-use Rattle.quic_machine.specs.Opens.{own_id_length, in_phase, opens_behind, would_open}
+use Rattle.quic_machine.specs.Opens.{head, in_phase, opens_behind, would_open}
 use Rattle.quic_machine.specs.Calls.{is_open, closed_in}
 use Rattle.quic_machine.specs.StreamCalls.{IsRead, IsStreamAnswer}
 use Rattle.quic_machine.specs.End.{End, with_closing, with_numbers}
-use Rattle.quic_machine.specs.Receive.{Fault, broke, too_many_pieces, closed_by_peer, violation, is_empty, asks_in, is_urged, take_frame, take_items, take_payload, Outcome, dropped, ends_as, by_state, opened_to, opened_as, opening, unopened_in, headed, received_in, received, is_read, drawn_if, with_ids_drawn, drop_of}
+use Rattle.quic_machine.specs.Receive.{Fault, broke, too_many_pieces, closed_by_peer, violation, is_empty, asks_in, is_urged, take_frame, take_items, take_payload, Outcome, dropped, ends_as, by_state, opened_to, opened_as, opening, unopened_in, headed, received_in, received, is_read, items_taken, drawn_if, with_ids_drawn, drop_of, has_migrated, with_migration}
 use Rattle.quic_machine.specs.Poll.{Polled, gives_datagram, datagram_of, bounds, may_seal, polled}
 use Rattle.quic_time.specs.Timers.{has_come}
 use Rattle.quic_machine.specs.Timeouts.{expiry_at, timed_out_in, timed_out}
@@ -50,6 +49,8 @@ use Rattle.quic_machine.specs.PollCases.{ready_at, ready_leaves, draft_at, may_l
 use Rattle.quic_headline.specs.Runs.{Told}
 use Rattle.quic_headline.specs.Closes.{asks_again, SaysWhy}
 use Rattle.quic_headline.proofs.Packets.Apart.{by_waits, by_next_id}
+use Rattle.quic_headline.proofs.Packets.Moved.{by_migrated_if, by_migration}
+use Rattle.quic_headline.proofs.Packets.Elsewhere.{by_dropped}
 use Rattle.quic_headline.proofs.Packets.Probes.{by_going}
 use Rattle.quic_headline.proofs.Packets.Sends.{by_sends}
 use Rattle.quic_headline.proofs.Packets.Stays.{settles_losses}
@@ -253,8 +254,10 @@ module _ (e : End) (call : Call) where
   state_turns : (s : State) → e.closing.state ≡ s → (o : Opening) (arrival : Arrival) → Comes (by_state s o arrival (with_numbers e (number_opened e.numbers o.number)))
   state_turns states.Open here o arrival =
       let begins : End = begun e arrival.now o.number in
-      let taken = take_payload o.first (items o.payload) begins in
-      ends_turn taken.fault (asks_in (items o.payload)) (is_urged arrival.mark (items o.payload) begins) o.number arrival.now arrival.mark taken.end here (payload_has (ticked e.closing arrival.now) o.first (items o.payload) begins refl)
+      let asks = asks_in (items o.payload) in
+      let within = items_taken o arrival e in
+      let taken = take_payload o.first within begins in
+      ends_turn taken.fault asks (is_urged arrival.mark asks within begins) o.number arrival.now arrival.mark taken.end here (payload_has (ticked e.closing arrival.now) o.first within begins refl)
   state_turns states.Closing here o arrival = asked here (record { state = refl; reason = refl; close = refl }) refl refl refl
   state_turns states.Drained here o arrival = kept (same_as e.closing) refl (λ closing. (refl, refl))
   state_turns states.Failed here o arrival = kept (same_as e.closing) refl (λ closing. (refl, refl))
@@ -280,11 +283,14 @@ module _ (e : End) (call : Call) where
 
   packet_turns : (o : Option Opening) (p : Policy) (arrival : Arrival) → Comes (opened_as o p arrival e)
   packet_turns None p arrival = unopened_turns e.closing.state refl arrival.last arrival
-  packet_turns (Some o) p arrival = drawn_turns (is_read (opened_to o arrival e).answer) p (opened_to o arrival e) (opened_turns o arrival)
+  packet_turns (Some o) p arrival =
+      let out = with_ids_drawn p (opened_to o arrival e) in
+      let left = drawn_turns (is_read (opened_to o arrival e).answer) p (opened_to o arrival e) (opened_turns o arrival) in
+      by_migrated_if (λ (x : End). Comes (record { answer = out.answer; end = x })) p o arrival.remote out.end (λ c. left) (λ c most. left) (has_migrated o arrival.remote e out) left
 
-  headed_turns : (r : Result (List ℕ) HeaderError) (p : Policy) (arrival : Arrival) (d : List ℕ) → Comes (headed r p e arrival d)
-  headed_turns (Err error) p arrival d = still (dropped (drop_of error) e) refl refl (header_asks error)
-  headed_turns (Ok id) p arrival d = packet_turns (opening p e d) p arrival
+  headed_turns : (r : Result (List ℕ) DropReason) (p : Policy) (arrival : Arrival) (d : List ℕ) → head e arrival.remote d ≡ r → Comes (headed r p e arrival d)
+  headed_turns (Err reason) p arrival d is = still (dropped reason e) refl refl (by_dropped (λ (why : DropReason). asks_again (answers.Deliver (receives.Dropped why)) ≡ false) e arrival.remote d reason refl header_asks is)
+  headed_turns (Ok id) p arrival d is = packet_turns (opening p e d) p arrival
 
   received_turns : (p : Policy) (arrival : Arrival) (d : List ℕ) → Comes (received p e arrival d)
   received_turns p arrival d = go e.closing.state
@@ -292,8 +298,8 @@ module _ (e : End) (call : Call) where
       go : (s : State) → Comes (received_in s p e arrival d)
       go states.Failed = still (dropped drops.Failed e) refl refl refl
       go states.Drained = still (dropped drops.Drained e) refl refl refl
-      go states.Open = headed_turns (decoded (fixed_length_id own_id_length) (known e.ids) d) p arrival d
-      go states.Closing = headed_turns (decoded (fixed_length_id own_id_length) (known e.ids) d) p arrival d
+      go states.Open = headed_turns (head e arrival.remote d) p arrival d refl
+      go states.Closing = headed_turns (head e arrival.remote d) p arrival d refl
 
 -- by whether there is such a datagram
 delivered_turns : (p : Policy) (e : End) (delivery : Delivery) (o : Option (List ℕ)) (a : Answer) → IsDelivered p e delivery o a → fails a ≡ false
@@ -325,19 +331,19 @@ module _ (e : End) (call : Call) (a : Answer) (none : gave a ≡ false) (asks : 
   hidden_packet (Some o) p arrival hidden = go (key_phase o.first) hidden
     where
       go : (b : Bool) → is_some (if b then None else Some o) ≡ false
-          → Left (with_ids_drawn p (if b then dropped drops.KeyPhase e else (if is_duplicate e.numbers.opened o.number then dropped drops.Duplicate e else by_state e.closing.state o arrival (with_numbers e (number_opened e.numbers o.number))))).end
-      go true hidden = as_is
+          → Left (with_migration p o arrival.remote e (with_ids_drawn p (if b then dropped drops.KeyPhase e else (if is_duplicate e.numbers.opened o.number then dropped drops.Duplicate e else by_state e.closing.state o arrival (with_numbers e (number_opened e.numbers o.number)))))).end
+      go true hidden = by_migration (λ (out : Outcome). Left out.end) p o arrival.remote e (dropped drops.KeyPhase e) as_is (λ moved taken opened. cc)
       go false hidden = cc
 
-  hidden_headed : (r : Result (List ℕ) HeaderError) (p : Policy) (arrival : Arrival) (d : List ℕ) → is_some (opens_behind r p (expected e.numbers) d) ≡ false → Left (headed r p e arrival d).end
+  hidden_headed : (r : Result (List ℕ) DropReason) (p : Policy) (arrival : Arrival) (d : List ℕ) → is_some (opens_behind r p (expected e.numbers) d) ≡ false → Left (headed r p e arrival d).end
   hidden_headed (Err error) p arrival d hidden = as_is
   hidden_headed (Ok id) p arrival d hidden = hidden_packet (opening p e d) p arrival hidden
 
   hidden_received : (s : State) (p : Policy) (arrival : Arrival) (d : List ℕ) → would_open p e arrival.remote d ≡ false → Left (received_in s p e arrival d).end
   hidden_received states.Failed p arrival d hidden = as_is
   hidden_received states.Drained p arrival d hidden = as_is
-  hidden_received states.Open p arrival d hidden = hidden_headed (decoded (fixed_length_id own_id_length) (known e.ids) d) p arrival d hidden
-  hidden_received states.Closing p arrival d hidden = hidden_headed (decoded (fixed_length_id own_id_length) (known e.ids) d) p arrival d hidden
+  hidden_received states.Open p arrival d hidden = hidden_headed (head e arrival.remote d) p arrival d hidden
+  hidden_received states.Closing p arrival d hidden = hidden_headed (head e arrival.remote d) p arrival d hidden
 
   injected_turns : (p : Policy) (is_last : Bool) (injection : Injection) → Left (after_injected_if (would_open p e injection.remote injection.bytes) is_last p e injection)
   injected_turns p is_last injection = go (would_open p e injection.remote injection.bytes) refl

@@ -1,13 +1,11 @@
 -- No end fails where memory served: a call leaves it as it was, closes it, or drains it.
-use Rattle.std.proofs.Common.{◌≡◌, ◌≢◌, ℕ, sym, ◌∙◌}
-use Rattle.quic_wire_core.specs.declared.stream_id.Side.{Side}
-use Rattle.quic_machine.specs.declared.answers.State.{State}
+use Rattle.std.proofs.Common.{◌≡◌, ◌≢◌, sym, ◌∙◌}
 use Rattle.quic_machine.specs.declared.answers.State.TheVariants as states
 use Rattle.quic_machine.specs.declared.run.Call.{Call}
 use Rattle.quic_machine.specs.declared.run.Answer.{Answer}
 use Rattle.quic_machine.specs.Closing.{Closing}
 use Rattle.quic_machine.specs.Machine.{World, after_call}
-use Rattle.quic_headline.specs.Runs.{Run, AreServed, state_at}
+use Rattle.quic_headline.specs.Runs.{Run}
 use Rattle.quic_headline.specs.Headline.{IsHonest, IsRun}
 use Rattle.quic_headline.specs.Reasons.{NeverFails}
 use Rattle.quic_headline.proofs.Places.Groups.{Way, Nothing, Group}

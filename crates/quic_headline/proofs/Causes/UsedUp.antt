@@ -25,7 +25,8 @@ use Rattle.quic_headline.specs.Observer.{Sent, Watch, watch, sents_until, next_n
 use Rattle.quic_headline.specs.Headline.{IsHonest}
 use Rattle.quic_headline.specs.Causes.{ordinary, AreUsedUp, NumberLimit}
 use Rattle.quic_headline.proofs.Packets.Invariant.{Knows, KnowsIn}
-use Rattle.quic_headline.proofs.Packets.Delivered.{Arrivals, arrived}
+use Rattle.quic_headline.proofs.Packets.Delivered.{frames_at, Arrivals, arrived, with_taken}
+use Rattle.quic_headline.proofs.Packets.Moved.{by_migrated}
 use Rattle.quic_headline.proofs.Packets.Stays.{Keeps, keeps_frames}
 use Rattle.quic_headline.proofs.Packets.Group.{PacketsHold, meets}
 use Rattle.quic_headline.proofs.Packets.Sight.{Sight}
@@ -104,21 +105,22 @@ module _ (p : Policy) (e : End) (theirs : List (List ℕ)) (call : Call) (a : An
   }
 
 -- in each case of a delivery
-shut_arrivals : (sents : List Sent) (e : End) (now n : ℕ) (frames : List FrameValue) (i : Intake) → IsShut sents e i → Arrivals e now n frames i (λ (o : Outcome) (j : Intake). IsShut sents o.end j)
-shut_arrivals sents e now n frames i s = record {
+shut_arrivals : (sents : List Sent) (e : End) (now n : ℕ) (frames taken : List FrameValue) (i : Intake) → IsShut sents e i → Arrivals e now n frames taken i (λ (o : Outcome) (j : Intake). IsShut sents o.end j)
+shut_arrivals sents e now n frames taken i s = record {
   ignored = λ reason. s;
   noted = λ state reason. record { used = s.used; explained = s.explained };
   takes = λ words still_open new none urged mark. record {
     used = λ shown. absurd (open_free e.closing.state e.closing.reason s.explained still_open reasons.NumberLimit (sym (ap (λ (c : Closing). c.reason) left.closing) ∙ shown));
     explained = subst (λ (c : Closing). Explains c.state c.reason) (sym left.closing) s.explained;
   };
+  moves = λ p o same remote x opened left_so. by_migrated (λ (z : End). IsShut sents z (with_taken i n frames)) p o remote x (λ c. record { used = left_so.used; explained = left_so.explained }) (λ c most. record { used = left_so.used; explained = left_so.explained });
   drains = λ words still_open new close is. record { used = λ shown. absurd (no_limit (closed_by_peer close) (same_reason _ reasons.NumberLimit shown)); explained = tt };
   refuses = λ words still_open new f is. record { used = λ shown. absurd (no_limit f (same_reason _ reasons.NumberLimit shown)); explained = tt };
   exhausts = λ still_open. record { used = λ shown. (let clash : ◌≡◌ {A = Option LostReason} (Some reasons.KeyLimit) (Some reasons.NumberLimit) = shown in cc); explained = tt };
 }
   where
-    left : Keeps (begun e now n) (arrived e now n frames).end
-    left = keeps_frames frames (begun e now n)
+    left : Keeps (begun e now n) (arrived e now n taken).end
+    left = keeps_frames taken (begun e now n)
 
 -- ---- the group
 
@@ -136,7 +138,7 @@ module _ (B : Way) (packets : (x y : Party) → B x y → PacketsHold x y) (uncl
       by_coming x y a c.joined c.served (meets y x p) (λ (e : End) (i : Intake). IsShut (x.sents ++ more) e i) call c.answer (record {
         apart = λ apart. shut_call x.policy x.end y.given call a (came_to x y) apart p.knows x.sents (packets x y c.gives).gives.next (unclosed x y c.gives) s more;
         none = λ delivery is. all;
-        comes = λ delivery is sent among. shut_arrivals (x.sents ++ more) x.end delivery.now sent.number sent.frames (came_to x y) all;
+        comes = λ delivery is sent among here. shut_arrivals (x.sents ++ more) x.end delivery.now sent.number sent.frames (frames_at here sent.frames) (came_to x y) all;
       })
 
   pub shut_group : Group B Shut

@@ -7,14 +7,13 @@ use Rattle.quic_wire.specs.Value.{FrameValue}
 use Rattle.quic_wire.specs.declared.frame.InvalidFrame.{InvalidFrame}
 use Rattle.quic_packet.specs.Header.{key_phase, reserved_bits}
 use Rattle.quic_packet.specs.Datagram.{Opening}
-use Rattle.quic_packet.specs.Destination.{decoded, fixed_length_id}
-use Rattle.quic_packet.specs.declared.packet.HeaderError.{HeaderError}
 use Rattle.quic_recovery_core.specs.Duplicates.{is_duplicate}
 use Rattle.quic_spaces.specs.Numbers.{Numbers, number_opened}
 use Rattle.quic_time.specs.Timers.{Timers, has_come}
 use Rattle.quic_machine.specs.Arrival.{Arrival, delivered_by, injected_by}
 use Rattle.quic_machine.specs.declared.answers.State.{State}
 use Rattle.quic_machine.specs.declared.answers.State.TheVariants as states
+use Rattle.quic_machine.specs.declared.answers.DropReason.{DropReason}
 use Rattle.quic_machine.specs.declared.answers.DropReason.TheVariants as drops
 use Rattle.quic_machine.specs.declared.answers.LostReason.{LostReason}
 use Rattle.quic_machine.specs.declared.answers.LostReason.TheVariants as reasons
@@ -23,14 +22,13 @@ use Rattle.quic_machine.specs.declared.run.Call.{Call}
 use Rattle.quic_machine.specs.declared.run.Call.TheVariants as calls
 use Rattle.quic_machine.specs.declared.run.Answer.{Answer}
 use Rattle.quic_machine.specs.Policy.{Policy}
-use Rattle.quic_machine.specs.Ids.{known}
 use Rattle.quic_machine.specs.Closing.{Closing, ticked}
 use Rattle.quic_machine.specs.Heard.{Heard}
 use Rattle.quic_machine.specs.Validation.{is_blocked, with_blocked}
 use Rattle.quic_machine.specs.Control.{Control}
 use Rattle.quic_machine.specs.End.{End, with_closing, with_numbers, with_window, closed_by}
-use Rattle.quic_machine.specs.Opens.{own_id_length, would_open}
-use Rattle.quic_machine.specs.Receive.{Fault, broke, too_many_pieces, closed_by_peer, reason_of, violation, is_empty, asks_in, is_urged, take_frame, take_items, take_payload, dropped, ends_as, by_state, opened_to, opened_as, opening, headed, received_in, is_read, drawn_if, unopened_in}
+use Rattle.quic_machine.specs.Opens.{head, would_open}
+use Rattle.quic_machine.specs.Receive.{Fault, broke, too_many_pieces, closed_by_peer, reason_of, violation, is_empty, asks_in, is_urged, take_frame, take_items, take_payload, dropped, ends_as, by_state, opened_to, opened_as, opening, headed, received_in, is_read, items_taken, drawn_if, with_ids_drawn, has_migrated, unopened_in}
 use Rattle.quic_machine.specs.Poll.{Polled, bounds, polled, polled_in}
 use Rattle.quic_machine.specs.Timeouts.{Expiry, expiry_at, loss_judged, loss_expired, unless_idle, timed_out_in}
 use Rattle.quic_machine.specs.Calls.{closed_in}
@@ -43,6 +41,7 @@ use Rattle.quic_machine.specs.PollCases.{at_poll, by_poll, composes}
 use Rattle.quic_headline.proofs.Packets.Apart.{by_waits, by_next_id}
 use Rattle.quic_headline.proofs.Packets.Closes.{by_closes}
 use Rattle.quic_headline.proofs.Packets.Heard.{by_taken}
+use Rattle.quic_headline.proofs.Packets.Moved.{by_migrated_if}
 use Rattle.quic_headline.proofs.Packets.Probes.{may_leave}
 
 -- what makes a call leave an end that isn't open for a reason
@@ -101,8 +100,10 @@ module _ (p : Policy) (e : End) (call : Call) (a : Answer) (why : LostReason) wh
   state_why : (s : State) (o : Opening) (arrival : Arrival) (x : End) → HasCause x → HasCause (by_state s o arrival x).end
   state_why states.Open o arrival x i =
       let begins : End = with_closing x (ticked x.closing arrival.now) in
-      let taken = take_payload o.first (items o.payload) begins in
-      ends_why taken.fault (asks_in (items o.payload)) (is_urged arrival.mark (items o.payload) begins) o.number arrival.mark taken.end (payload_why o.first (items o.payload) begins i)
+      let asks = asks_in (items o.payload) in
+      let within = items_taken o arrival x in
+      let taken = take_payload o.first within begins in
+      ends_why taken.fault asks (is_urged arrival.mark asks within begins) o.number arrival.mark taken.end (payload_why o.first within begins i)
   state_why states.Closing o arrival x i = i
   state_why states.Drained o arrival x i = i
   state_why states.Failed o arrival x i = i
@@ -132,17 +133,20 @@ module _ (p : Policy) (e : End) (call : Call) (a : Answer) (why : LostReason) wh
 
   packet_why : (o : Option Opening) (q : Policy) (arrival : Arrival) → arrival.last ≡ says_last a → HasCause (opened_as o q arrival e).end
   packet_why None q arrival last = unopened_why e.closing.state arrival.last arrival refl last
-  packet_why (Some o) q arrival last = drawn_why (is_read (opened_to o arrival e).answer) q (opened_to o arrival e).end (opened_why o arrival)
+  packet_why (Some o) q arrival last =
+      let out = with_ids_drawn q (opened_to o arrival e) in
+      let left = drawn_why (is_read (opened_to o arrival e).answer) q (opened_to o arrival e).end (opened_why o arrival) in
+      by_migrated_if HasCause q o arrival.remote out.end (λ c. left) (λ c most. left) (has_migrated o arrival.remote e out) left
 
-  headed_why : (r : Result (List ℕ) HeaderError) (q : Policy) (arrival : Arrival) (d : List ℕ) → arrival.last ≡ says_last a → HasCause (headed r q e arrival d).end
+  headed_why : (r : Result (List ℕ) DropReason) (q : Policy) (arrival : Arrival) (d : List ℕ) → arrival.last ≡ says_last a → HasCause (headed r q e arrival d).end
   headed_why (Err error) q arrival d last is = was is
   headed_why (Ok id) q arrival d last is = packet_why (opening q e d) q arrival last is
 
   received_why : (s : State) (q : Policy) (arrival : Arrival) (d : List ℕ) → arrival.last ≡ says_last a → HasCause (received_in s q e arrival d).end
   received_why states.Failed q arrival d last is = was is
   received_why states.Drained q arrival d last is = was is
-  received_why states.Open q arrival d last is = headed_why (decoded (fixed_length_id own_id_length) (known e.ids) d) q arrival d last is
-  received_why states.Closing q arrival d last is = headed_why (decoded (fixed_length_id own_id_length) (known e.ids) d) q arrival d last is
+  received_why states.Open q arrival d last is = headed_why (head e arrival.remote d) q arrival d last is
+  received_why states.Closing q arrival d last is = headed_why (head e arrival.remote d) q arrival d last is
 
   delivered_why : (o : Option (List ℕ)) (q : Policy) (arrival : Arrival) → arrival.last ≡ says_last a → HasCause (after_delivered q e arrival o)
   delivered_why None q arrival last is = was is

@@ -23,10 +23,10 @@ use Rattle.quic_machine.specs.declared.run.Call.TheVariants as calls
 use Rattle.quic_machine.specs.declared.run.Delivery.{Delivery}
 use Rattle.quic_machine.specs.declared.run.Answer.{Answer}
 use Rattle.quic_machine.specs.End.{End}
-use Rattle.quic_machine.specs.Receive.{Outcome, take_frame}
+use Rattle.quic_machine.specs.Receive.{take_frame}
 use Rattle.quic_machine.specs.FrameCases.{begun, passed, frames_leave}
 use Rattle.quic_headline.specs.Runs.{Told, Intake, In, written}
-use Rattle.quic_headline.proofs.Packets.Delivered.{Arrivals}
+use Rattle.quic_headline.proofs.Packets.Delivered.{frames_at, among_at}
 use Rattle.quic_headline.proofs.Packets.Group.{meets}
 use Rattle.quic_headline.proofs.Places.Parties.{told_of, Party, called, came_to, Beginning, begun_as, AreMade}
 use Rattle.quic_headline.proofs.Places.Groups.{Way, Calls, Group}
@@ -39,6 +39,7 @@ use Rattle.quic_headline.specs.Amounts.{all_written, amount_by}
 use Rattle.quic_headline.proofs.Channel.Sums.{all_more, each_written}
 use Rattle.quic_headline.proofs.Channel.Seen.{SeenBelow, Fits, below_kept, below_calls, frame_seen, all_fit, seen_wider, seen_first}
 use Rattle.quic_headline.proofs.Channel.Accepted.{Accepts, frame_accepts, call_accepts, call_counts}
+use Rattle.quic_headline.proofs.Halves.Moved.{in_arrivals}
 
 -- ---- between two ends
 
@@ -74,10 +75,6 @@ says_fits told f says = tt
 frames_stay : (P : End → Type 0) (Q : FrameValue → Type 0) → ((f : FrameValue) (e : End) → Q f → P e → P (take_frame f e).end) → (fs : List FrameValue) (e : End) → ((f : FrameValue) → In f fs → Q f) → P e → P (passed fs e).end
 frames_stay P Q step fs e all i = (frames_leave (λ (left : List FrameValue) (x : End). ((f : FrameValue) → In f left → Q f) × P x) (λ f left x both. ((λ g among. both.0 g (inr among)), step f x (both.0 f (inl refl)) both.1)) fs e (all, i)).1.1
 
--- a fact of streams that each frame of a packet keeps holds in each case of its delivery
-in_arrivals : (P : StreamsState → Type 0) (e : End) (now n : ℕ) (frames : List FrameValue) (came : Intake) → P e.streams → P (passed frames (begun e now n)).end.streams → Arrivals e now n frames came (λ (o : Outcome) (j : Intake). P o.end.streams)
-in_arrivals P e now n frames came i after = record { ignored = λ reason. i; noted = λ state reason. i; takes = λ words state new none urged mark. after; drains = λ words state new close is. after; refuses = λ words state new f is. after; exhausts = λ state. i }
-
 -- ---- a call
 
 module _ (B : Way) (w : IsWriting B) (x y : Party) (call : Call) (a : Answer) (c : Calls B x y call a) where
@@ -105,8 +102,8 @@ module _ (B : Way) (w : IsWriting B) (x y : Party) (call : Call) (a : Answer) (c
         let fits = (call_accepts (all_written x.told) x.policy x.end y.given within i.accepts call a c.answer apart).1 in
         ((omega arith), fits));
     none = λ delivery is. same delivery is x.end.streams i.accepts;
-    comes = λ delivery is s among. in_arrivals (Accepts (all_written (x.told ++ told_of call a x.end.closing.state ∷ []))) x.end delivery.now s.number s.frames (came_to x y) (same delivery is x.end.streams i.accepts)
-        (same delivery is (passed s.frames (begun x.end delivery.now s.number)).end.streams (frames_stay (λ (e : End). Accepts (all_written x.told) e.streams) (λ f. Unit {0}) (λ f e q j. frame_accepts (all_written x.told) f e j) s.frames (begun x.end delivery.now s.number) (λ f j. tt) i.accepts));
+    comes = λ delivery is s among here. in_arrivals (Accepts (all_written (x.told ++ told_of call a x.end.closing.state ∷ []))) x.end delivery.now s.number s.frames (frames_at here s.frames) (came_to x y) (same delivery is x.end.streams i.accepts)
+        (same delivery is (passed (frames_at here s.frames) (begun x.end delivery.now s.number)).end.streams (frames_stay (λ (e : End). Accepts (all_written x.told) e.streams) (λ f. Unit {0}) (λ f e q j. frame_accepts (all_written x.told) f e j) (frames_at here s.frames) (begun x.end delivery.now s.number) (λ f j. tt) i.accepts));
   })
     where
       -- a delivery writes nothing
@@ -123,8 +120,8 @@ module _ (B : Way) (w : IsWriting B) (x y : Party) (call : Call) (a : Answer) (c
     apart = λ apart. call_kept (SeenOf y.told) (below_calls ids as_many (size_in y.told)) x.policy x.end y.given within i.sees call a c.answer apart
         (λ dir same. by_accept (SeenOf y.told) (below_kept ids as_many (size_in y.told)) dir x.end.streams (λ may. may) i.sees);
     none = λ delivery is. i.sees;
-    comes = λ delivery is s among. in_arrivals (SeenOf y.told) x.end delivery.now s.number s.frames (came_to x y) i.sees
-        (frames_stay (λ (e : End). SeenOf y.told e.streams) (Fits ids as_many (size_in y.told)) (λ f e fits j. frame_seen ids as_many (size_in y.told) f e fits j) s.frames (begun x.end delivery.now s.number) (λ f j. says_fits y.told f (w.says y x c.takes s among f j)) i.sees);
+    comes = λ delivery is s among here. in_arrivals (SeenOf y.told) x.end delivery.now s.number s.frames (frames_at here s.frames) (came_to x y) i.sees
+        (frames_stay (λ (e : End). SeenOf y.told e.streams) (Fits ids as_many (size_in y.told)) (λ f e fits j. frame_seen ids as_many (size_in y.told) f e fits j) (frames_at here s.frames) (begun x.end delivery.now s.number) (among_at (Fits ids as_many (size_in y.told)) tt here s.frames (λ f j. says_fits y.told f (w.says y x c.takes s among f j))) i.sees);
   })
 
 -- ---- the group

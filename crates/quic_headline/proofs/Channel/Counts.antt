@@ -34,12 +34,14 @@ use Rattle.quic_headline.specs.Runs.{Intake, In, OpensStream}
 use Rattle.quic_headline.proofs.Packets.Group.{meets}
 use Rattle.quic_headline.proofs.Places.Coming.{by_coming}
 use Rattle.quic_headline.proofs.Places.Groups.{Way, And, Calls, Group, both}
-use Rattle.quic_headline.proofs.Places.Parties.{Party, called, Beginning, begun_as, AreMade, showing}
+use Rattle.quic_headline.proofs.Places.Parties.{Party, called, Beginning, begun_as, AreMade, showing, came_to}
 use Rattle.quic_headline.proofs.Halves.Counts.{counts_in_range}
 use Rattle.quic_headline.proofs.Channel.Passing.{IdsPass, IdsHold}
 use Rattle.quic_headline.proofs.Channel.Counted.{Counted, call_counts, frame_counts}
 use Rattle.quic_headline.proofs.Channel.Given.{Grown, Given, opened_grows}
 use Rattle.quic_headline.proofs.Channel.Names.{NamesHold, RestsOn, grows_behind, names_group}
+use Rattle.quic_headline.proofs.Packets.Delivered.{frames_at, among_at}
+use Rattle.quic_headline.proofs.Halves.Moved.{in_arrivals}
 
 -- ---- tests
 
@@ -165,14 +167,8 @@ module _ (B : Way) (rests : RestsOn B) where
     counts = by_coming x y a c.joined c.served (meets y x (rests.packets y x c.takes.0)) (λ (e : End) (i : Intake). Counted (KnowsCounts y.end.streams) e.streams) call c.answer (record {
       apart = λ apart. call_counts (KnowsCounts y.end.streams) x.policy x.end y.given call a apart c.answer k.counts;
       none = λ delivery is. k.counts;
-      comes = λ delivery is s among. (let after = frames_know y.end.streams s.frames (begun x.end delivery.now s.number) (c.takes.1.given s among) k.counts in record {
-        ignored = λ reason. k.counts;
-        noted = λ state reason. k.counts;
-        takes = λ words state new none urged mark. after;
-        drains = λ words state new close is. after;
-        refuses = λ words state new f is. after;
-        exhausts = λ state. k.counts;
-      });
+      comes = λ delivery is s among here. in_arrivals (Counted (KnowsCounts y.end.streams)) x.end delivery.now s.number s.frames (frames_at here s.frames) (came_to x y) k.counts
+          (frames_know y.end.streams (frames_at here s.frames) (begun x.end delivery.now s.number) (among_at (Given y.end.streams) tt here s.frames (c.takes.1.given s among)) k.counts);
     });
   }
 

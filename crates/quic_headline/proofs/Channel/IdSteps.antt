@@ -44,6 +44,7 @@ use Rattle.quic_headline.proofs.Halves.KnownIds.{range_below}
 use Rattle.quic_headline.proofs.Halves.ToldIds.{got_in}
 use Rattle.quic_headline.proofs.Duties.OfIds.{AsksNone, ack_ids, polled_ids, settles_ids, shortened_ids, insert_keeps, next_range}
 use Rattle.quic_headline.proofs.Channel.IdLists.{Owns, retirement_owns, renewal_owns, retired_issued, next_issued, room_left, retires_rightly, Knows, Inserted, taken_up, late, far, inserted, inserted_knows, next_knows, next_above}
+use Rattle.quic_headline.proofs.Packets.Moving.{moving_keeps}
 
 -- an id that was issued, of so many; and a number below that in use
 abbrev pub IsIssued : ℕ → IssuedCid → Type 0
@@ -355,19 +356,20 @@ module _ (used issued least low : ℕ) where
     call_stands p e theirs call a other tracked i = other_stand p e theirs call a other refl tracked i
 
     -- each case of a delivery
-    pub arrivals_stand : Stands took sents → (e : End) (now n : ℕ) (frames : List FrameValue) (came : Intake) → ((f : FrameValue) → In f frames → Comes f) → ((a : AckValue) → In (ack a) frames → NamesTaken took a) → AreTracked sents e.tracking.packets → StandAt e
-        → Arrivals e now n frames came (λ (o : Outcome) (j : Intake). StandAt o.end)
-    arrivals_stand stands e now n frames came all names tracked i = record {
+    pub arrivals_stand : Stands took sents → (e : End) (now n : ℕ) (frames taken : List FrameValue) (came : Intake) → ((f : FrameValue) → In f taken → Comes f) → ((a : AckValue) → In (ack a) taken → NamesTaken took a) → AreTracked sents e.tracking.packets → StandAt e
+        → Arrivals e now n frames taken came (λ (o : Outcome) (j : Intake). StandAt o.end)
+    arrivals_stand stands e now n frames taken came all names tracked i = record {
       ignored = λ reason. i;
       noted = λ state reason. i;
-      takes = λ words state new none urged mark. drawn_stand words (after_taken n (asks_in (map Ok frames)) urged mark (arrived e now n frames).end) behind;
-      drains = λ words state new close is. drawn_stand words (drained_at n close (arrived e now n frames).end) behind;
-      refuses = λ words state new f is. drawn_stand words (closed_by (reason_of f) (arrived e now n frames).end) behind;
+      takes = λ words state new none urged mark. drawn_stand words (after_taken n (asks_in (map Ok frames)) urged mark (arrived e now n taken).end) behind;
+      moves = λ p o same remote x opened j. moving_keeps StandAt (λ m z k. k) next_stand p o remote x j;
+      drains = λ words state new close is. drawn_stand words (drained_at n close (arrived e now n taken).end) behind;
+      refuses = λ words state new f is. drawn_stand words (closed_by (reason_of f) (arrived e now n taken).end) behind;
       exhausts = λ state. i;
     }
       where
-        behind : StandAt (arrived e now n frames).end
-        behind = frames_stand stands frames all (begun e now n) names tracked i
+        behind : StandAt (arrived e now n taken).end
+        behind = frames_stand stands taken all (begun e now n) names tracked i
 
   -- ---- no fault
 

@@ -20,6 +20,9 @@ use Rattle.quic_headline.proofs.Halves.KnownIds.{range_in}
 use Rattle.quic_headline.proofs.Duties.OfIds.{NoneAsked, call_asks_none}
 use Rattle.quic_headline.proofs.Channel.IdLists.{owns_later, owned_near, first_owns, knows_later, drawn_numbers}
 use Rattle.quic_headline.proofs.Channel.IdSteps.{IsIssued, IsBelow, waits_more, IdsGo, IdsStand, Comes, call_stands, arrivals_stand, say_at}
+use Rattle.quic_headline.proofs.Packets.Delivered.{frames_at, among_at}
+use Rattle.quic_headline.proofs.Packets.Strays.{acks_at}
+use Rattle.quic_headline.proofs.Packets.Named.{NamesTaken}
 
 -- What x keeps of its ids as y uses them, and of those of y; and its datagrams tell of ids that it
 -- issued, ask for no retirements, and retire ids below the one in use.
@@ -47,8 +50,8 @@ module _ (B : Way) (packets : (x y : Party) → B x y → PacketsHold x y) where
   kept x y call a c i back = by_coming x y a c.joined c.served (meets y x q) (λ (e : End) (j : Intake). IdsStand used issued least low e.ids e.waiting.frames) call c.answer (record {
     apart = λ apart. call_stands used issued least low (came_to y x).took x.sents i.says x.policy x.end y.given call a apart p.tracked now;
     none = λ delivery is. now;
-    comes = λ delivery is s among. arrivals_stand used issued least low (came_to y x).took x.sents i.says (record { taken = p.taken; rising = p.gives.rising }) x.end delivery.now s.number s.frames (came_to x y)
-        (each_comes y x back s among) (λ a i k named. q.named s a k among i named) p.tracked now;
+    comes = λ delivery is s among here. arrivals_stand used issued least low (came_to y x).took x.sents i.says (record { taken = p.taken; rising = p.gives.rising }) x.end delivery.now s.number s.frames (frames_at here s.frames) (came_to x y)
+        (among_at (Comes used issued least low) (tt, tt) here s.frames (each_comes y x back s among)) (acks_at (NamesTaken (came_to y x).took) here s.frames (λ a i k named. q.named s a k among i named)) p.tracked now;
   })
     where
       used : ℕ

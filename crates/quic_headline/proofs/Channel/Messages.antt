@@ -47,6 +47,7 @@ use Rattle.quic_headline.proofs.Places.Steps.{poll_answer}
 use Rattle.quic_headline.proofs.Places.Parties.{Party, called, sent_by, sent_if, sents_by}
 use Rattle.quic_headline.proofs.Places.Groups.{Way, Calls, Group}
 use Rattle.quic_headline.proofs.Packets.Probes.{may_leave}
+use Rattle.quic_headline.proofs.Packets.Moved.{by_migrated}
 
 -- ---- what an end takes
 
@@ -262,6 +263,7 @@ module _ (window : Option ℕ) where
       asks_close = λ x j. j;
       exhausts = λ now x j. j;
       draws = λ words x j. j;
+      moves = λ q o remote x j. by_migrated (Waits window) q o remote x (λ c. j) (λ c most. some_taken window (is_within most) x.messages.queues.outgoing j);
     }) p e arrival d i;
     tells = λ asks. by_event e (Waits window) i (λ was_told. i);
   })

@@ -23,8 +23,8 @@ use Rattle.quic_headline.specs.Observer.{Sent}
 use Rattle.quic_headline.proofs.Packets.Owing.{sent_fine}
 use Rattle.quic_headline.proofs.Places.Told.{in_append}
 use Rattle.quic_headline.proofs.Places.Steps.{poll_answer}
-use Rattle.quic_headline.proofs.Packets.Delivered.{Arrivals, arrived}
-use Rattle.quic_headline.proofs.Packets.Named.{TakesOn, frames_settle, tracked_carried}
+use Rattle.quic_headline.proofs.Packets.Delivered.{Arrivals, arrived, frames_at}
+use Rattle.quic_headline.proofs.Packets.Named.{TakesOn, frames_settle, tracked_carried, NamesTaken}
 use Rattle.quic_headline.proofs.Packets.Group.{PacketsHold, meets}
 use Rattle.quic_headline.proofs.Places.Coming.{by_coming}
 use Rattle.quic_headline.proofs.Places.Groups.{Way, Calls, Group}
@@ -37,6 +37,9 @@ use Rattle.std.specs.Option.{is_some}
 use Rattle.std.specs.Prelude.{if◌then◌else◌}
 use Rattle.quic_parameters.specs.Parameters.{ParameterValues}
 use Rattle.quic_headline.proofs.Packets.Stays.{placed_call}
+use Rattle.quic_headline.proofs.Packets.Strays.{acks_at}
+use Rattle.quic_headline.proofs.Packets.Moved.{by_migrated}
+use Rattle.quic_headline.proofs.Halves.Moved.{in_arrivals}
 use Rattle.quic_machine.specs.PollCases.{ready_leaves}
 
 -- x gives
@@ -62,14 +65,7 @@ module _ (B : Way) (rests : RestsOn B) (x y : Party) (call : Call) (a : Answer) 
   grows_behind = by_coming x y a c.joined c.served (meets y x (rests.packets y x c.takes)) (λ (e : End) (i : Intake). Grown x.end.streams e.streams) call c.answer (record {
     apart = λ apart. call_grows x.policy x.end y.given call a (sent_within (wrote x.told) x.end.streams written) c.answer apart;
     none = λ delivery is. grown_same x.end.streams;
-    comes = λ delivery is s among. record {
-      ignored = λ reason. grown_same x.end.streams;
-      noted = λ state reason. grown_same x.end.streams;
-      takes = λ words state new none urged mark. frames_grow s.frames (begun x.end delivery.now s.number);
-      drains = λ words state new close is. frames_grow s.frames (begun x.end delivery.now s.number);
-      refuses = λ words state new f is. frames_grow s.frames (begun x.end delivery.now s.number);
-      exhausts = λ state. grown_same x.end.streams;
-    };
+    comes = λ delivery is s among here. in_arrivals (Grown x.end.streams) x.end delivery.now s.number s.frames (frames_at here s.frames) (came_to x y) (grown_same x.end.streams) (frames_grow (frames_at here s.frames) (begun x.end delivery.now s.number));
   })
 
   module _ (n : NamesHold x y) where
@@ -101,11 +97,12 @@ module _ (B : Way) (rests : RestsOn B) (x y : Party) (call : Call) (a : Answer) 
         let was = tracked_carried x.sents x.end.tracking.packets (rests.packets x y c.gives).tracked k p among in
         from_stops Q (Obeys x.end) p.carried was.sent.frames was.is (sent was.sent was.among, n.asked was.sent was.among)
 
-    arrivals_stop : (now : ℕ) (s : Sent) → In s y.sents → Arrivals x.end now s.number s.frames (came_to x y) (λ (o : Outcome) (i : Intake). StopsOf Known (Obeys x.end) o.end.waiting.frames)
-    arrivals_stop now s among = record {
+    arrivals_stop : (now : ℕ) (s : Sent) → In s y.sents → (here : Bool) → Arrivals x.end now s.number s.frames (frames_at here s.frames) (came_to x y) (λ (o : Outcome) (i : Intake). StopsOf Known (Obeys x.end) o.end.waiting.frames)
+    arrivals_stop now s among here = record {
       ignored = λ reason. stops_before;
       noted = λ state reason. stops_before;
       takes = λ words state new none urged mark. passed_stops;
+      moves = λ p o same remote z opened j. by_migrated (λ (e : End). StopsOf Known (Obeys x.end) e.waiting.frames) p o remote z (λ c. j) (λ c most. j);
       drains = λ words state new close is. passed_stops;
       refuses = λ words state new f is. passed_stops;
       exhausts = λ state. stops_before;
@@ -120,18 +117,18 @@ module _ (B : Way) (rests : RestsOn B) (x y : Party) (call : Call) (a : Answer) 
         back : PacketsHold y x
         back = rests.packets y x c.takes
 
-        takes_on : TakesOn took x.sents s.frames (λ (e : End). StopsOf Known (Obeys x.end) e.waiting.frames)
+        takes_on : TakesOn took x.sents (frames_at here s.frames) (λ (e : End). StopsOf Known (Obeys x.end) e.waiting.frames)
         takes_on = record { settles = settles_stops Known (Obeys x.end) took x.sents (λ u i. (sent_known u i, n.asked u i)); names = λ a e i j. j; on_streams = λ f e i on j. frame_stops Known (Obeys x.end) f e on j; message = λ m e j. j; apart = λ f e i apart j. apart_leaves (λ (g : End). StopsOf Known (Obeys x.end) g.waiting.frames) f e apart (λ c. j) (λ c most. j) }
 
-        passed_stops : StopsOf Known (Obeys x.end) (arrived x.end now s.number s.frames).end.waiting.frames
-        passed_stops = frames_settle took x.sents (record { taken = p.taken; rising = p.gives.rising }) s.frames (λ (e : End). StopsOf Known (Obeys x.end) e.waiting.frames) takes_on (begun x.end now s.number)
-            (λ b i k named. back.named s b k among i named) p.tracked stops_before
+        passed_stops : StopsOf Known (Obeys x.end) (arrived x.end now s.number (frames_at here s.frames)).end.waiting.frames
+        passed_stops = frames_settle took x.sents (record { taken = p.taken; rising = p.gives.rising }) (frames_at here s.frames) (λ (e : End). StopsOf Known (Obeys x.end) e.waiting.frames) takes_on (begun x.end now s.number)
+            (acks_at (NamesTaken took) here s.frames (λ b i k named. back.named s b k among i named)) p.tracked stops_before
 
     stops_behind : StopsOf Known (Obeys x.end) (called x y.given call a).end.waiting.frames
     stops_behind = by_coming x y a c.joined c.served (meets y x (rests.packets y x c.takes)) (λ (e : End) (i : Intake). StopsOf Known (Obeys x.end) e.waiting.frames) call c.answer (record {
       apart = λ apart. call_stops Known (Obeys x.end) x.policy x.end y.given call a apart stopped_known n.obeys (tracked_stops Known sent_known) stops_before;
       none = λ delivery is. stops_before;
-      comes = λ delivery is s among. arrivals_stop delivery.now s among;
+      comes = λ delivery is s among here. arrivals_stop delivery.now s among here;
     })
 
     -- what was sent before, and what the call sends

@@ -31,7 +31,7 @@ use Rattle.quic_headline.specs.Observer.{Sent}
 use Rattle.quic_headline.specs.Headline.{IsHonest}
 use Rattle.quic_headline.specs.Ids.{and_packet, came_in, WasOpened, AcceptedWereOpened}
 use Rattle.quic_headline.proofs.Packets.Group.{PacketsHold, meets}
-use Rattle.quic_headline.proofs.Packets.Delivered.{Arrivals, with_taken, with_refused}
+use Rattle.quic_headline.proofs.Packets.Delivered.{Arrivals, with_taken, with_refused, frames_at}
 use Rattle.quic_headline.proofs.Places.Parties.{Party, called, came_to, Beginning, begun_as}
 use Rattle.quic_headline.proofs.Places.Groups.{Way, Calls, Group}
 use Rattle.quic_headline.proofs.Places.Coming.{by_coming}
@@ -40,6 +40,8 @@ use Rattle.quic_headline.proofs.Places.Placed.{party_at, Placed, answered}
 use Rattle.quic_headline.proofs.Causes.Shown.{call_closes}
 use Rattle.quic_headline.proofs.Halves.ReadGroup.{WasIn}
 use Rattle.quic_headline.proofs.Channel.Counted.{call_counts, frame_counts}
+use Rattle.quic_headline.proofs.Packets.Strays.{of_at}
+use Rattle.quic_headline.proofs.Packets.Moved.{by_migrated}
 
 -- ---- the peer's streams
 
@@ -102,20 +104,24 @@ allowed_reaches : (were : FrameValue → Type 0) (here : Side) (dir : Dir) (coun
 allowed_reaches were here dir count s i = cond_both (nat_le count most_streams && nat_lt (of dir s.opening.own_limit) count) (with_own_limit dir count s) s (Reached were here) (λ e. i) (λ e. i)
 
 -- one of them
-frame_reaches : (were : FrameValue → Type 0) (here : Side) (f : FrameValue) (e : End) → were f → Reached were here e.streams → Reached were here (take_frame f e).end.streams
-frame_reaches were here f e was i = frame_counts (Reach were here) f e (λ id opens. opened_reaches were here e.streams id (record { frame = f; was = was; opens = opens }) i) (λ g is. allowed_reaches were here (dir_named g.one_way) g.count e.streams i) i
+frame_reaches : (were : FrameValue → Type 0) (here : Side) (f : FrameValue) (e : End) → ((id : ℕ) → OpensStream f id → were f) → Reached were here e.streams → Reached were here (take_frame f e).end.streams
+frame_reaches were here f e was i = frame_counts (Reach were here) f e (λ id opens. opened_reaches were here e.streams id (record { frame = f; was = was id opens; opens = opens }) i) (λ g is. allowed_reaches were here (dir_named g.one_way) g.count e.streams i) i
 
 -- over the frames that are left of a packet
 record Reaches (were : FrameValue → Type 0) (here : Side) (left : List FrameValue) (x : End) : Type 0 where
-  among : (f : FrameValue) → In f left → were f
+  among : (f : FrameValue) → In f left → (id : ℕ) → OpensStream f id → were f
   holds : Reached were here x.streams
 
--- all of a packet, taken or refused
-frames_reach : (were : FrameValue → Type 0) (here : Side) (frames : List FrameValue) (e : End) → ((f : FrameValue) → In f frames → were f) → Reached were here e.streams → Reached were here (passed frames e).end.streams
+-- all of a packet that are taken, or the first of them
+frames_reach : (were : FrameValue → Type 0) (here : Side) (frames : List FrameValue) (e : End) → ((f : FrameValue) → In f frames → (id : ℕ) → OpensStream f id → were f) → Reached were here e.streams → Reached were here (passed frames e).end.streams
 frames_reach were here frames e among i = (frames_leave (Reaches were here) step frames e (record { among = among; holds = i })).1.holds
   where
     step : (f : FrameValue) (left : List FrameValue) (x : End) → Reaches were here (f ∷ left) x → Reaches were here left (take_frame f x).end
     step f left x g = record { among = λ h j. g.among h (inr j); holds = frame_reaches were here f x (g.among f (inl refl)) g.holds }
+
+-- PADDING opens none, so where a packet came from elsewhere these are its own frames
+opens_at : (were : FrameValue → Type 0) (from : Bool) (frames : List FrameValue) → ((f : FrameValue) → In f frames → were f) → (f : FrameValue) → In f (frames_at from frames) → (id : ℕ) → OpensStream f id → were f
+opens_at were from frames all f i id opens = elim (of_at from frames f i) [ inl there ↦ all f there | inr pads ↦ absurd (subst (λ (g : FrameValue). OpensStream g id) pads opens) ]
 
 -- ---- packets
 
@@ -152,23 +158,24 @@ module _ (B : Way) (packets : (x y : Party) → B x y → PacketsHold x y) (x y 
   was_open none new f w = record { packet = w.packet; was_taken = inr (subst (λ (o : Option Packet). In w.packet (and_packet o came.took)) none w.was_taken); carried = w.carried }
 
   -- each case of a delivery
-  arrives : (now : ℕ) (s : Sent) → Arrivals x.end now s.number s.frames came (λ (o : Outcome) (j : Intake). Holds x.side o.end j)
-  arrives now s = record {
+  arrives : (now : ℕ) (s : Sent) (from : Bool) → Arrivals x.end now s.number s.frames (frames_at from s.frames) came (λ (o : Outcome) (j : Intake). Holds x.side o.end j)
+  arrives now s from = record {
     ignored = λ reason. record { still = i.still; reached = i.reached };
     noted = λ state reason. record { still = i.still; reached = i.reached };
     takes = λ words state new none urged mark. record {
       still = λ open_now. i.still state;
-      reached = frames_reach (WasIn (came_in (with_taken came s.number s.frames))) x.side s.frames (begun x.end now s.number) (λ f j. record { packet = packet; was_taken = in_packets came.part packet (packet ∷ came.took) (inl refl); carried = j })
+      reached = frames_reach (WasIn (came_in (with_taken came s.number s.frames))) x.side (frames_at from s.frames) (begun x.end now s.number) (opens_at (WasIn (came_in (with_taken came s.number s.frames))) from s.frames (λ f j. record { packet = packet; was_taken = in_packets came.part packet (packet ∷ came.took) (inl refl); carried = j }))
           (reached_wider (WasIn (came_in came)) (WasIn (came_in (with_taken came s.number s.frames))) x.side x.end.streams.side x.end.streams.opening.remote (was packet) i.reached);
     };
+    moves = λ p o same remote z opened k. by_migrated (λ (e : End). Holds x.side e (with_taken came s.number s.frames)) p o remote z (λ c. record { still = k.still; reached = k.reached }) (λ c most. record { still = k.still; reached = k.reached });
     drains = λ words state new close fault. record {
       still = λ open_now. cc;
-      reached = frames_reach (WasIn (came_in (with_taken came s.number s.frames))) x.side s.frames (begun x.end now s.number) (λ f j. record { packet = packet; was_taken = in_packets came.part packet (packet ∷ came.took) (inl refl); carried = j })
+      reached = frames_reach (WasIn (came_in (with_taken came s.number s.frames))) x.side (frames_at from s.frames) (begun x.end now s.number) (opens_at (WasIn (came_in (with_taken came s.number s.frames))) from s.frames (λ f j. record { packet = packet; was_taken = in_packets came.part packet (packet ∷ came.took) (inl refl); carried = j }))
           (reached_wider (WasIn (came_in came)) (WasIn (came_in (with_taken came s.number s.frames))) x.side x.end.streams.side x.end.streams.opening.remote (was packet) i.reached);
     };
     refuses = λ words state new f fault. record {
       still = λ open_now. cc;
-      reached = frames_reach (WasIn (came_in (with_refused came s.number s.frames))) x.side s.frames (begun x.end now s.number) (λ g j. record { packet = packet; was_taken = inl refl; carried = j })
+      reached = frames_reach (WasIn (came_in (with_refused came s.number s.frames))) x.side (frames_at from s.frames) (begun x.end now s.number) (opens_at (WasIn (came_in (with_refused came s.number s.frames))) from s.frames (λ g j. record { packet = packet; was_taken = inl refl; carried = j }))
           (reached_wider (WasIn (came_in came)) (WasIn (came_in (with_refused came s.number s.frames))) x.side x.end.streams.side x.end.streams.opening.remote (was_open (i.still state) packet) i.reached);
     };
     exhausts = λ state. record { still = λ open_now. cc; reached = i.reached };
@@ -192,7 +199,7 @@ module _ (B : Way) (packets : (x y : Party) → B x y → PacketsHold x y) (x y 
       let h : Holds x.side (called x y.given call a).end (came_to (called x y.given call a) y) = by_coming x y a c.joined c.served (meets y x (packets y x c.takes)) (Holds x.side) call c.answer (record {
         apart = apart_holds;
         none = λ delivery is. record { still = i.still; reached = i.reached };
-        comes = λ delivery is s among. arrives delivery.now s;
+        comes = λ delivery is s among from. arrives delivery.now s from;
       }) in
       record { still = h.still; reached = h.reached }
 

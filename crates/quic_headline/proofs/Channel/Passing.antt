@@ -20,7 +20,7 @@ use Rattle.quic_headline.specs.Runs.{In}
 use Rattle.quic_headline.specs.Observer.{Sent}
 use Rattle.quic_headline.proofs.Places.Parties.{Party}
 use Rattle.quic_headline.proofs.Places.Groups.{Way}
-use Rattle.quic_headline.proofs.Packets.Delivered.{arrived}
+use Rattle.quic_headline.proofs.Packets.Delivered.{arrived, frames_at}
 use Rattle.quic_recovery_core.specs.AckFrequency.{is_stale}
 
 -- ---- the rules, in three parts
@@ -129,9 +129,9 @@ frames_pass among P lets (f ∷ fs) e all here fault is =
 
 -- ---- the word between two ends
 
--- Each packet that x gave passes at y, while that is open, whenever it comes.
+-- Each packet that x gave passes at y, while that is open, whenever it comes, and from wherever.
 pub record PassesAt (x y : Party) : Type 0 where
-  pub passes : (s : Sent) → In s x.sents → y.end.closing.state ≡ states.Open → (now : ℕ) (fault : Fault) → (arrived y.end now s.number s.frames).fault ≡ Some fault → BreaksNone fault
+  pub passes : (s : Sent) → In s x.sents → y.end.closing.state ≡ states.Open → (now : ℕ) (here : Bool) (fault : Fault) → (arrived y.end now s.number (frames_at here s.frames)).fault ≡ Some fault → BreaksNone fault
 
 -- The part of ids and counts: each frame that x gave passes these rules at y, and so it stays.
 pub record IdsHold (x y : Party) : Type 0 where

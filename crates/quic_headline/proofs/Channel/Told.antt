@@ -21,7 +21,7 @@ use Rattle.quic_machine.specs.declared.run.Answer.TheVariants as answers
 use Rattle.quic_machine.specs.Policy.{Policy}
 use Rattle.quic_machine.specs.Closing.{ticked}
 use Rattle.quic_machine.specs.End.{End, with_closing, closed_by}
-use Rattle.quic_machine.specs.Receive.{Outcome, take_frame}
+use Rattle.quic_machine.specs.Receive.{take_frame}
 use Rattle.quic_machine.specs.Poll.{zeros_behind, Draft, polled, draft_as, Leaving}
 use Rattle.quic_machine.specs.Poll as poll
 use Rattle.quic_machine.specs.DraftLaws.{Writing, by_leave, MayLeave, IsClose}
@@ -32,7 +32,7 @@ use Rattle.quic_machine.specs.Machine.{IsAnswer, after_call, gave}
 use Rattle.quic_headline.specs.Runs.{In, Intake}
 use Rattle.quic_headline.specs.Observer.{Sent}
 use Rattle.quic_headline.proofs.Packets.Growth.{in_more}
-use Rattle.quic_headline.proofs.Packets.Delivered.{Arrivals}
+use Rattle.quic_headline.proofs.Packets.Delivered.{frames_at as taken_at}
 use Rattle.quic_headline.proofs.Packets.Group.{meets}
 use Rattle.quic_headline.proofs.Packets.Sends.{GivesClose, by_sends}
 use Rattle.quic_headline.proofs.Packets.Owing.{Owes, error_owes, close_is, close_alone, closes_fine}
@@ -47,6 +47,7 @@ use Rattle.quic_headline.proofs.Halves.ReadCalls.{IsKept, call_kept}
 use Rattle.quic_headline.proofs.Channel.Below.{frame_below, reset_below, read_below, begun_below, stopped_below}
 use Rattle.quic_headline.proofs.Channel.Received.{Allows, Stays, stays_self, stays_then, stays_kept}
 use Rattle.quic_headline.proofs.Packets.Probes.{ready_state, by_going}
+use Rattle.quic_headline.proofs.Halves.Moved.{in_arrivals}
 
 -- ---- calls and frames
 
@@ -182,18 +183,8 @@ module _ (B : Way) (w : IsWriting B) (x y : Party) (call : Call) (a : Answer) (c
     apart = λ apart. call_kept (Stays x.end.streams) (stays_calls x.end.streams) x.policy x.end y.given (sent_within (wrote x.told) x.end.streams (w.written x y c.gives)) here call a c.answer apart
         (λ dir is. by_accept (Stays x.end.streams) (stays_kept x.end.streams) dir x.end.streams (λ may. may) here);
     none = λ delivery is. here;
-    comes = λ delivery is s among. arrivals delivery.now s.number s.frames;
+    comes = λ delivery is s among from. in_arrivals (Stays x.end.streams) x.end delivery.now s.number s.frames (taken_at from s.frames) (came_to x y) here (stays_frames x.end.streams (taken_at from s.frames) (begun x.end delivery.now s.number) here);
   })
-    where
-      arrivals : (now n : ℕ) (fs : List FrameValue) → Arrivals x.end now n fs (came_to x y) (λ (o : Outcome) (i : Intake). Stays x.end.streams o.end.streams)
-      arrivals now n fs = record {
-        ignored = λ reason. here;
-        noted = λ state reason. here;
-        takes = λ words state new none urged mark. stays_frames x.end.streams fs (begun x.end now n) here;
-        drains = λ words state new close is. stays_frames x.end.streams fs (begun x.end now n) here;
-        refuses = λ words state new f is. stays_frames x.end.streams fs (begun x.end now n) here;
-        exhausts = λ state. here;
-      }
 
   -- and what it gave is told
   pub told_call : AllTold x.end.streams x.sents → AllTold (called x y.given call a).end.streams (x.sents ++ sents_by x.policy x.end call a)

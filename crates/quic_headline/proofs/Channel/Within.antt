@@ -19,18 +19,20 @@ use Rattle.quic_streams_laws.specs.Written.{Wrote, Grows, IsOver}
 use Rattle.quic_machine.specs.declared.run.Call.{Call}
 use Rattle.quic_machine.specs.declared.run.Answer.{Answer}
 use Rattle.quic_machine.specs.End.{End}
-use Rattle.quic_machine.specs.FrameCases.{begun, passed}
+use Rattle.quic_machine.specs.FrameCases.{begun}
 use Rattle.quic_headline.specs.Runs.{Intake, written}
 use Rattle.quic_headline.proofs.Packets.Group.{meets}
-use Rattle.quic_headline.proofs.Places.Parties.{told_of, Party, called, Beginning, begun_as, AreMade}
+use Rattle.quic_headline.proofs.Places.Parties.{told_of, Party, called, came_to, Beginning, begun_as, AreMade}
 use Rattle.quic_headline.proofs.Places.Groups.{Way, Calls, Group}
 use Rattle.quic_headline.proofs.Places.Coming.{by_coming}
 use Rattle.quic_headline.proofs.Halves.Counts.{counts_in_range}
 use Rattle.quic_headline.proofs.Halves.Ghosts.{wrote, IsWriting}
 use Rattle.quic_headline.proofs.Halves.Wrote.{adds, told_more}
 use Rattle.quic_headline.proofs.Channel.Received.{Allows, Stays, StatusBelow, stays_self}
-use Rattle.quic_headline.proofs.Channel.Told.{AllTold, stays_call, told_call}
+use Rattle.quic_headline.proofs.Channel.Told.{AllTold, stays_call, told_call, IsTold}
 use Rattle.quic_headline.proofs.Channel.Heard.{Heard, call_heard, frames_heard, heard_stays, over_same, written_allowed}
+use Rattle.quic_headline.proofs.Packets.Delivered.{frames_at, among_at}
+use Rattle.quic_headline.proofs.Halves.Moved.{in_arrivals}
 
 -- x writes, and y reads: what y told x it holds, x heard no more, and y lets come what x wrote
 pub record Within (x y : Party) : Type 0 where
@@ -47,9 +49,8 @@ module _ (B : Way) (w : IsWriting B) (x y : Party) (call : Call) (a : Answer) (c
   heard_on i = by_coming x y a c.joined c.served (meets y x (w.packets y x c.takes)) (λ (e : End) (j : Intake). Heard y.end.streams e.streams) call c.answer (record {
     apart = λ apart. call_heard y.end.streams x.policy (wrote x.told) x.end y.given call a apart c.answer (w.written x y c.gives) i.heard;
     none = λ delivery is. i.heard;
-    comes = λ delivery is s among. (
-        let all : Heard y.end.streams (passed s.frames (begun x.end delivery.now s.number)).end.streams = frames_heard y.end.streams s.frames (begun x.end delivery.now s.number) (λ f j. i.told s among f j) i.heard in
-        record { ignored = λ reason. i.heard; noted = λ state reason. i.heard; takes = λ words state new none urged mark. all; drains = λ words state new close fault. all; refuses = λ words state new f fault. all; exhausts = λ state. i.heard });
+    comes = λ delivery is s among here. in_arrivals (Heard y.end.streams) x.end delivery.now s.number s.frames (frames_at here s.frames) (came_to x y) i.heard
+        (frames_heard y.end.streams (frames_at here s.frames) (begun x.end delivery.now s.number) (among_at (IsTold y.end.streams) tt here s.frames (λ f j. i.told s among f j)) i.heard);
   })
 
   -- what it writes is within that

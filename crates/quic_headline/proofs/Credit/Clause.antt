@@ -25,7 +25,7 @@ use Rattle.quic_headline.specs.Observer.{Sent, Watch, took, sents_until}
 use Rattle.quic_headline.specs.Headline.{IsHonest, IsRun}
 use Rattle.quic_headline.specs.Unread.{receive_window, stream_window}
 use Rattle.quic_headline.specs.Credit.{StaysWithin, CreditIsBounded}
-use Rattle.quic_headline.proofs.Packets.Delivered.{Arrivals}
+use Rattle.quic_headline.proofs.Packets.Delivered.{Arrivals, frames_at, among_at}
 use Rattle.quic_headline.proofs.Packets.Group.{meets}
 use Rattle.quic_headline.proofs.Places.Told.{in_append}
 use Rattle.quic_headline.proofs.Places.Steps.{poll_answer}
@@ -47,9 +47,10 @@ use Rattle.quic_headline.proofs.Channel.Received.{Stays}
 use Rattle.quic_headline.proofs.Channel.Sums.{sum_none}
 use Rattle.quic_headline.proofs.Channel.Within.{Within}
 use Rattle.quic_headline.proofs.Unread.Walk.{Of}
-use Rattle.quic_headline.proofs.Credit.Lists.{Usage, usage, uses_then, told_uses, packet_uses, frame_said, within_told, within_packet}
+use Rattle.quic_headline.proofs.Credit.Lists.{Usage, usage, uses_then, told_uses, packet_uses, frame_said, within_told, within_packet, SaysFrame, padding_said}
 use Rattle.quic_headline.proofs.Credit.Counted.{IsCounted, IsSpent, IsAny, Uses, grown, frames_count, call_counts}
 use Rattle.quic_headline.proofs.Credit.Said.{IsKnown, poll_within, poll_uses}
+use Rattle.quic_headline.proofs.Halves.Moved.{streams_stay}
 
 -- ---- the group
 
@@ -105,12 +106,13 @@ module _ (B : Way) (w : IsWriting B) (within : (x y : Party) → B x y → Withi
         | inr shut ↦ absurd (shut.shut still)
       ]
 
-  comes_uses : (now : ℕ) (s : Sent) → Arrivals x.end now s.number s.frames (came_to x y) (λ (o : Outcome) (j : Intake). After o.end j)
-  comes_uses now s = record {
+  comes_uses : (now : ℕ) (s : Sent) (from : Bool) → Arrivals x.end now s.number s.frames (frames_at from s.frames) (came_to x y) (λ (o : Outcome) (j : Intake). After o.end j)
+  comes_uses now s from = record {
     ignored = λ reason still. told_more x.end.streams (i.still still);
     noted = λ state reason still. (let clash : states.Closing ≡ states.Open = sym state ∙ still in cc);
-    takes = λ words state new none urged mark still. frames_count wide each_wide x.end.streams later s.frames (begun x.end now s.number) (λ f among. frame_said p packets (x.told ++ t ∷ []) f among) here
+    takes = λ words state new none urged mark still. frames_count wide each_wide x.end.streams later (frames_at from s.frames) (begun x.end now s.number) (among_at (SaysFrame later) (padding_said later) from s.frames (frame_said p packets (x.told ++ t ∷ []))) here
         (grown wide each_wide (usage packets x.told) later (uses_then (usage packets x.told) (usage packets (x.told ++ t ∷ [])) later (told_uses packets x.told t) (packet_uses p packets (x.told ++ t ∷ []))) x.end.streams (i.still state));
+    moves = λ q o same remote z opened j still. streams_stay (Of (Uses wide each_wide later)) q o remote z (j opened);
     drains = λ words state new close is still. cc;
     refuses = λ words state new f is still. cc;
     exhausts = λ state still. cc;
@@ -126,7 +128,7 @@ module _ (B : Way) (w : IsWriting B) (within : (x y : Party) → B x y → Withi
   uses_call = by_coming x y a c.joined c.served (meets y x (w.packets y x c.takes)) After call c.answer (record {
     apart = apart_uses;
     none = λ delivery is still. told_more x.end.streams (i.still still);
-    comes = λ delivery is s among. comes_uses delivery.now s;
+    comes = λ delivery is s among from. comes_uses delivery.now s from;
   })
 
   -- ---- what was said
@@ -153,10 +155,11 @@ module _ (B : Way) (w : IsWriting B) (within : (x y : Party) → B x y → Withi
   said_call = by_coming x y a c.joined c.served (meets y x (w.packets y x c.takes)) Said call c.answer (record {
     apart = λ apart. all_said;
     none = λ delivery is. all_said;
-    comes = λ delivery is s among. record {
+    comes = λ delivery is s among from. record {
       ignored = λ reason. all_said;
       noted = λ state reason. all_said;
       takes = λ words state new none urged mark q there f k. within_packet wide each_wide (record { number = s.number; frames = s.frames }) packets (x.told ++ t ∷ []) f (all_said q there f k);
+      moves = λ q o same remote z opened j. j;
       drains = λ words state new close fault q there f k. within_packet wide each_wide (record { number = s.number; frames = s.frames }) packets (x.told ++ t ∷ []) f (all_said q there f k);
       refuses = λ words state new f is. all_said;
       exhausts = λ state. all_said;

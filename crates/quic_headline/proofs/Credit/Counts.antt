@@ -30,7 +30,7 @@ use Rattle.quic_machine.specs.declared.answers.State.TheVariants as states
 use Rattle.quic_machine.specs.declared.run.Call.{Call}
 use Rattle.quic_machine.specs.declared.run.Call.TheVariants as calls
 use Rattle.quic_machine.specs.declared.run.Answer.{Answer}
-use Rattle.quic_machine.specs.FrameCases.{begun, passed, frames_keep}
+use Rattle.quic_machine.specs.FrameCases.{begun, frames_keep}
 use Rattle.quic_machine.specs.End.{End}
 use Rattle.quic_machine.specs.Receive.{take_frame}
 use Rattle.quic_machine.specs.Machine.{World, IsAnswer, gave}
@@ -62,6 +62,8 @@ use Rattle.quic_headline.proofs.Credit.Counted.{IsCounted, IsSpent, IsAny, Uses,
 use Rattle.quic_headline.proofs.Credit.Drafts.{AreFine, poll_fine}
 use Rattle.quic_headline.proofs.Credit.Done.{IsLeft, RunsOneWay, mark, marked, CountsDone, done_kept}
 use Rattle.quic_headline.proofs.Credit.Clause.{Base, Credits, credited}
+use Rattle.quic_headline.proofs.Packets.Delivered.{frames_at}
+use Rattle.quic_headline.proofs.Halves.Moved.{in_arrivals}
 
 -- ---- what the lists say
 
@@ -217,9 +219,8 @@ module _ (w : IsWriting N) (x y : Party) (call : Call) (a : Answer) (c : Calls N
     apart = λ apart. call_kept CountsDone (any_kept CountsDone done_kept) x.policy x.end y.given (sent_within (wrote x.told) x.end.streams (w.written x y c.gives)) i.counts call a c.answer apart
         (λ dir is. by_accept CountsDone done_kept dir x.end.streams (λ may. may) i.counts);
     none = λ delivery is. i.counts;
-    comes = λ delivery is s among. (
-        let all : CountsDone (passed s.frames (begun x.end delivery.now s.number)).end.streams = frames_keep (λ (e : End). CountsDone e.streams) done_frame s.frames (begun x.end delivery.now s.number) i.counts in
-        record { ignored = λ reason. i.counts; noted = λ state reason. i.counts; takes = λ words state new none urged mark. all; drains = λ words state new close fault. all; refuses = λ words state new f fault. all; exhausts = λ state. i.counts });
+    comes = λ delivery is s among here. in_arrivals CountsDone x.end delivery.now s.number s.frames (frames_at here s.frames) (came_to x y) i.counts
+        (frames_keep (λ (e : End). CountsDone e.streams) done_frame (frames_at here s.frames) (begun x.end delivery.now s.number) i.counts);
   })
 
   -- what is said of counts
@@ -284,13 +285,14 @@ module _ (w : IsWriting N) (x y : Party) (call : Call) (a : Answer) (c : Calls N
   said_call = by_coming x y a c.joined c.served (meets y x (w.packets y x c.takes)) Said call c.answer (record {
     apart = λ apart. all_said;
     none = λ delivery is. all_said;
-    comes = λ delivery is s among. record {
+    comes = λ delivery is s among here. record {
       ignored = λ reason. all_said;
       noted = λ state reason. all_said;
       takes = λ words state new none urged mark q there f carried. (
           let was = all_said q there f carried in
           let more = packet_over x.side (dir_named f.one_way) (record { number = s.number; frames = s.frames }) packets (x.told ++ t ∷ []) in
           omega (arith, was, more));
+      moves = λ q o same remote z opened j. j;
       drains = λ words state new close fault q there f carried. (
           let was = all_said q there f carried in
           let more = packet_over x.side (dir_named f.one_way) (record { number = s.number; frames = s.frames }) packets (x.told ++ t ∷ []) in

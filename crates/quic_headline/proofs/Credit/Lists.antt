@@ -6,7 +6,7 @@ use Rattle.std.specs.List.{list_any, sum_by}
 use Rattle.std.proofs.lemmas.Bool.{cases_eq, cases_lt, or_left, or_right, eqb-true, eq-eqb, ne_eqb, cond-true, cond-false}
 use Rattle.std.proofs.lemmas.List.{length-append}
 use Rattle.std.proofs.lemmas.List.Sums.{sum_by-cons, sum_by-le-sum_by}
-use Rattle.quic_wire.specs.Value.{FrameValue, StreamValue, ResetStreamValue, stream, reset_stream, max_data, max_stream_data}
+use Rattle.quic_wire.specs.Value.{FrameValue, StreamValue, ResetStreamValue, stream, reset_stream, max_data, max_stream_data, padding}
 use Rattle.quic_streams_parts.specs.RecvHalf.{end_of}
 use Rattle.quic_streams_laws.specs.Summed.{sum_below}
 use Rattle.quic_streams_laws.specs.SummedLaws.{sum_same, sum_one}
@@ -173,6 +173,10 @@ any_among test (g ∷ fs) f (inr i) is = or_right (test g) (list_any test fs) (a
 pub record SaysFrame (u : Usage) (f : FrameValue) : Type 0 where
   pub brings : (g : StreamValue) → f ≡ stream g → (end_of g ≤ u.top g.id) × (u.listed g.id ≡ true)
   pub resets : (g : ResetStreamValue) → f ≡ reset_stream g → (g.final_size ≤ u.top g.id) × (u.cut g.id ≡ true) × (u.listed g.id ≡ true)
+
+-- PADDING says nothing
+pub padding_said : (u : Usage) → SaysFrame u padding
+padding_said u = record { brings = λ g is. cc; resets = λ g is. cc }
 
 pub frame_said : (p : Packet) (packets : List Packet) (ts : List Told) (f : FrameValue) → In f p.frames → SaysFrame (usage (p ∷ packets) ts) f
 frame_said p packets ts f i = record {

@@ -1,6 +1,6 @@
 -- Each datagram that an open end gave went to the id of the number in use by the run's lists, as
 -- its peer told it (RFC 9000, section 5.1.2): at each place of an honest run.
-use Rattle.std.proofs.Common.{◌≡◌, ℕ, List, Option, Some, Ok, sym, ap, ◌∙◌, subst}
+use Rattle.std.proofs.Common.{◌≡◌, ℕ, Bool, List, Option, Some, Ok, sym, ap, ◌∙◌, subst}
 use Rattle.quic_wire_core.specs.declared.stream_id.Side.{Side}
 use Rattle.quic_wire_core.specs.StreamId.{other_side}
 use Rattle.quic_machine.specs.declared.answers.State.TheVariants as states
@@ -14,10 +14,10 @@ use Rattle.quic_headline.specs.Headline.{IsHonest, IsRun}
 use Rattle.quic_headline.specs.Polls.{GaveOne}
 use Rattle.quic_headline.specs.Ids.{and_packet}
 use Rattle.quic_headline.specs.ConnectionIds.{IsToldId, IdsAreInUse}
-use Rattle.quic_headline.specs.InUse.{in_use}
+use Rattle.quic_headline.specs.InUse.{in_use, TellsStays}
 use Rattle.quic_headline.proofs.Packets.Group.{PacketsHold}
 use Rattle.quic_headline.proofs.Places.Parties.{Party, came_to}
-use Rattle.quic_headline.proofs.Places.Groups.{Way, Nothing, And, Group, both, beside, over}
+use Rattle.quic_headline.proofs.Places.Groups.{Way, Nothing, And, Group, both, over}
 use Rattle.quic_headline.proofs.Places.Placed.{party_at, Placed, placed}
 use Rattle.quic_headline.proofs.Places.Openings.{took_is}
 use Rattle.quic_headline.proofs.Places.Everything as everything
@@ -26,17 +26,16 @@ use Rattle.quic_headline.proofs.Halves.Ready.{Ready}
 use Rattle.quic_headline.proofs.Steps.Made.{MadeAt, made_at, served_before, one_behind}
 use Rattle.quic_headline.proofs.Steps.Probing as probing
 use Rattle.quic_headline.proofs.Destined.Issued.{Addresses, addresses_group}
-use Rattle.quic_headline.proofs.NextIds.Group.{NextKnown, next_group}
+use Rattle.quic_headline.proofs.NextIds.Used.{in_use_is}
 
--- all that holds between the ends, which number is in use, and to which id what goes is sent
+-- all that holds between the ends, and to which id what goes is sent
 abbrev All : Way
-All = And (everything.All Ready ready) (And NextKnown Addresses)
+All = And (everything.All Ready ready) Addresses
 
 all : Group Nothing All
-all = both Nothing (everything.All Ready ready) (And NextKnown Addresses) (everything.all Ready ready)
-    (beside (And Nothing (everything.All Ready ready)) NextKnown Addresses (next_group (And Nothing (everything.All Ready ready)) (λ x y h. h.1.0.0)) (over PacketsHold (And Nothing (everything.All Ready ready)) Addresses (λ x y h. h.1.0.0) addresses_group))
+all = both Nothing (everything.All Ready ready) Addresses (everything.all Ready ready) (over PacketsHold (And Nothing (everything.All Ready ready)) Addresses (λ x y h. h.1.0.0) addresses_group)
 
-module _ (r : Run) (end : World) (honest : IsHonest r) (run : IsRun r end) (side : Side) (i now : ℕ) (gave : GaveOne r side i now) (opened : state_at r side i ≡ states.Open) where
+module _ (r : Run) (end : World) (honest : IsHonest r) (run : IsRun r end) (side : Side) (stays : ℕ → Bool) (kept : TellsStays r side stays) (i now : ℕ) (gave : GaveOne r side i now) (opened : state_at r side i ≡ states.Open) where
   abbrev answer : Answer
   answer = answers.Poll (Ok (Some gave.transmit))
 
@@ -66,13 +65,13 @@ module _ (r : Run) (end : World) (honest : IsHonest r) (run : IsRun r end) (side
 
   -- which was told under the number in use, in what was taken
   told : IsToldId y.id (came_to x y).took x.end.ids.peer.active x.end.ids.peer.id
-  told = subst (λ (o : Option Packet). IsToldId y.id (and_packet o (came_to x y).took) x.end.ids.peer.active x.end.ids.peer.id) (p.gives.1.1.still still) p.gives.1.1.goes.uses.knows.used
+  told = subst (λ (o : Option Packet). IsToldId y.id (and_packet o (came_to x y).took) x.end.ids.peer.active x.end.ids.peer.id) (p.gives.1.still still) p.gives.1.goes.uses.knows.used
 
-  pub goes_in_use : IsToldId (first_id_of_peer r side) (took r side i) (in_use r side i) gave.sent.id
+  pub goes_in_use : IsToldId (first_id_of_peer r side) (took r side i) (in_use r stays side i) gave.sent.id
   goes_in_use =
-      subst (λ (j : Intake). IsToldId (first_id_of_peer r side) j.took (in_use r side i) gave.sent.id) (sym (took_is r honest p.world i side p.sents p.theirs))
-      (subst (λ (id : List ℕ). IsToldId (first_id_of_peer r side) (came_to x y).took (in_use r side i) id) (sym id_is)
-      (subst (λ (n : ℕ). IsToldId (first_id_of_peer r side) (came_to x y).took n x.end.ids.peer.id) (p.gives.1.0.holds still).used_is told))
+      subst (λ (j : Intake). IsToldId (first_id_of_peer r side) j.took (in_use r stays side i) gave.sent.id) (sym (took_is r honest p.world i side p.sents p.theirs))
+      (subst (λ (id : List ℕ). IsToldId (first_id_of_peer r side) (came_to x y).took (in_use r stays side i) id) (sym id_is)
+      (subst (λ (n : ℕ). IsToldId (first_id_of_peer r side) (came_to x y).took n x.end.ids.peer.id) (sym (in_use_is r end honest run side stays kept i p.world served p.leads still)) told))
 
 pub ids_are_in_use : (r : Run) (end : World) → IsHonest r → IsRun r end → IdsAreInUse r
-ids_are_in_use r end honest run side i now gave opened = goes_in_use r end honest run side i now gave opened
+ids_are_in_use r end honest run side stays i now gave kept opened = goes_in_use r end honest run side stays kept i now gave opened

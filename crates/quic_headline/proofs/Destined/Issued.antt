@@ -30,17 +30,22 @@ use Rattle.quic_headline.proofs.Places.Coming.{by_coming}
 use Rattle.quic_headline.proofs.Places.Placed.{Placed, placed_less}
 use Rattle.quic_headline.proofs.Places.Openings.{took_is}
 use Rattle.quic_headline.proofs.Places.Flights.{own_at}
-use Rattle.quic_headline.proofs.Packets.Delivered.{Arrivals, arrived, with_taken, with_refused}
+use Rattle.quic_headline.proofs.Packets.Delivered.{Arrivals, arrived, with_taken, with_refused, frames_at, among_at}
 use Rattle.quic_headline.proofs.Packets.Ids.{SaysIds, Waits, SentSayIds, AnyNumber, call_waits, call_says}
 use Rattle.quic_headline.proofs.Packets.Group.{PacketsHold, meets}
-use Rattle.quic_headline.proofs.Packets.OfPeer.{peer_call}
+use Rattle.quic_headline.proofs.Packets.OfPeer.{peer_same}
 use Rattle.quic_headline.proofs.Packets.Sight.{Sight}
 use Rattle.quic_headline.proofs.Timers.Watched.{Observed}
 use Rattle.quic_headline.proofs.Timers.Still.{was_open}
-use Rattle.quic_headline.proofs.Duties.OfIds.{NoneAsked, call_asks_none}
+use Rattle.quic_headline.proofs.Duties.OfIds.{AsksNone, NoneAsked, call_asks_none}
 use Rattle.quic_headline.proofs.Destined.Issues.{AnyId}
 use Rattle.quic_headline.proofs.Destined.Own.{says_wider}
 use Rattle.quic_headline.proofs.Destined.Used.{IsBelow, KnowsTold, UsesAt, frames_use, UsesBelow, next_uses, next_active}
+use Rattle.quic_headline.proofs.Packets.Strays.{acks_at}
+use Rattle.quic_headline.proofs.Packets.Named.{NamesTaken}
+use Rattle.quic_machine.specs.Migration.{migrated}
+use Rattle.quic_packet.specs.Datagram.{Opening}
+use Rattle.quic_headline.proofs.Packets.Moving.{moving_keeps}
 
 -- ---- the datagrams
 
@@ -101,22 +106,38 @@ record Holds (first : List ℕ) (sents : List Sent) (e : End) (j : Intake) : Typ
   still : e.closing.state ≡ states.Open → j.part ≡ None
   goes : GoesTo first (came_in j) sents e.ids.peer e.waiting.frames
 
+-- so it is where the next id is used
+next_goes : (first : List ℕ) (packets : List Packet) (sents : List Sent) (e : End) (a : Answer) → GoesTo first packets sents e.ids.peer e.waiting.frames → GoesTo first packets sents (end_on_next_id e a).ids.peer (end_on_next_id e a).waiting.frames
+next_goes first packets sents e a g = record {
+  uses = next_uses (IsToldId first packets) e a g.uses;
+  sent = λ s f j k. says_wider AnyId AnyId (IsBelow e.ids.peer.active) (IsBelow (end_on_next_id e a).ids.peer.active) (λ d any. tt)
+      (λ n less. (let rises = next_active e a g.uses.knows.window in omega arith)) f (g.sent s f j k);
+  issued = g.issued;
+}
+
+-- and where the peer is at another address
+moved_goes : (first : List ℕ) (packets : List Packet) (sents : List Sent) (p : Policy) (o : Opening) (remote : ℕ) (e : End) → GoesTo first packets sents e.ids.peer e.waiting.frames → (let x : End = migrated p o remote e in GoesTo first packets sents x.ids.peer x.waiting.frames)
+moved_goes first packets sents = moving_keeps (λ (x : End). GoesTo first packets sents x.ids.peer x.waiting.frames) (λ m x g. g) (λ x a g. next_goes first packets sents x a g)
+
 -- ---- a delivery
 
-module _ (x y : Party) (c : PacketsHold x y) (back : PacketsHold y x) (none : NoneAsked y.sents) (now : ℕ) (s : Sent) (among : In s y.sents) (i : Addresses x y) where
+module _ (x y : Party) (c : PacketsHold x y) (back : PacketsHold y x) (none : NoneAsked y.sents) (now : ℕ) (s : Sent) (among : In s y.sents) (here : Bool) (i : Addresses x y) where
   abbrev came : Intake
   came = came_to x y
+
+  abbrev those : List FrameValue
+  those = frames_at here s.frames
 
   abbrev packet : Packet
   packet = record { number = s.number; frames = s.frames }
 
   -- all frames of a packet, which is read
-  passes : (packets : List Packet) → ((p : Packet) → In p (came_in came) → In p packets) → In packet packets → GoesTo y.id packets x.sents (arrived x.end now s.number s.frames).end.ids.peer (arrived x.end now s.number s.frames).end.waiting.frames
+  passes : (packets : List Packet) → ((p : Packet) → In p (came_in came) → In p packets) → In packet packets → GoesTo y.id packets x.sents (arrived x.end now s.number those).end.ids.peer (arrived x.end now s.number those).end.waiting.frames
   passes packets wider new =
-      let u : UsesAt T x.end.ids.peer.active (arrived x.end now s.number s.frames).end = frames_use T x.end.ids.peer.active (came_to y x).took x.sents (record { taken = c.taken; rising = c.gives.rising }) i.goes.sent s.frames (none s among) told x.end now s.number
-      (λ a j k named. back.named s a k among j named) c.tracked begins in
+      let u : UsesAt T x.end.ids.peer.active (arrived x.end now s.number those).end = frames_use T x.end.ids.peer.active (came_to y x).took x.sents (record { taken = c.taken; rising = c.gives.rising }) i.goes.sent those (among_at AsksNone tt here s.frames (none s among)) (among_at (SaysIds (λ d. T d.sequence d.id) AnyNumber) tt here s.frames told) x.end now s.number
+      (acks_at (NamesTaken (came_to y x).took) here s.frames (λ a j k named. back.named s a k among j named)) c.tracked begins in
       record {
-        uses = record { knows = u.knows; waits = subst (λ (n : ℕ). Waits AnyId (IsBelow n) (arrived x.end now s.number s.frames).end.waiting.frames) (sym u.active) u.waits };
+        uses = record { knows = u.knows; waits = subst (λ (n : ℕ). Waits AnyId (IsBelow n) (arrived x.end now s.number those).end.waiting.frames) (sym u.active) u.waits };
         sent = subst (λ (n : ℕ). SentSayIds AnyId (IsBelow n) x.sents) (sym u.active) i.goes.sent;
         issued = issued_wider y.id (came_in came) packets x.sents wider i.goes.issued;
       }
@@ -157,19 +178,20 @@ module _ (x y : Party) (c : PacketsHold x y) (back : PacketsHold y x) (none : No
   last_read None = inl refl
   last_read (Some q) = inr (inl refl)
 
-  taken : GoesTo y.id (came_in (with_taken came s.number s.frames)) x.sents (arrived x.end now s.number s.frames).end.ids.peer (arrived x.end now s.number s.frames).end.waiting.frames
+  taken : GoesTo y.id (came_in (with_taken came s.number s.frames)) x.sents (arrived x.end now s.number those).end.ids.peer (arrived x.end now s.number those).end.waiting.frames
   taken = passes (came_in (with_taken came s.number s.frames)) (one_more came.part) (last_read came.part)
 
-  refused : x.end.closing.state ≡ states.Open → GoesTo y.id (came_in (with_refused came s.number s.frames)) x.sents (arrived x.end now s.number s.frames).end.ids.peer (arrived x.end now s.number s.frames).end.waiting.frames
+  refused : x.end.closing.state ≡ states.Open → GoesTo y.id (came_in (with_refused came s.number s.frames)) x.sents (arrived x.end now s.number those).end.ids.peer (arrived x.end now s.number those).end.waiting.frames
   refused opened = passes (came_in (with_refused came s.number s.frames)) (λ p j. inr (subst (λ (o : Option Packet). In p (and_packet o came.took)) (i.still opened) j)) (inl refl)
 
-  arrives : Arrivals x.end now s.number s.frames came (λ (o : Outcome) (j : Intake). Holds y.id x.sents o.end j)
+  arrives : Arrivals x.end now s.number s.frames those came (λ (o : Outcome) (j : Intake). Holds y.id x.sents o.end j)
   arrives = record {
     ignored = λ reason. record { still = i.still; goes = i.goes };
     noted = λ state reason. record { still = i.still; goes = i.goes };
-    takes = λ words state new fine urged mark. record { still = λ opened. i.still state; goes = draws (came_in (with_taken came s.number s.frames)) words (after_taken s.number (asks_in (map Ok s.frames)) urged mark (arrived x.end now s.number s.frames).end) taken };
-    drains = λ words state new close is. record { still = λ opened. cc; goes = draws (came_in (with_taken came s.number s.frames)) words (drained_at s.number close (arrived x.end now s.number s.frames).end) taken };
-    refuses = λ words state new f is. record { still = λ opened. cc; goes = draws (came_in (with_refused came s.number s.frames)) words (closed_by (reason_of f) (arrived x.end now s.number s.frames).end) (refused state) };
+    takes = λ words state new fine urged mark. record { still = λ opened. i.still state; goes = draws (came_in (with_taken came s.number s.frames)) words (after_taken s.number (asks_in (map Ok s.frames)) urged mark (arrived x.end now s.number those).end) taken };
+    moves = λ p o same remote e is_open h. record { still = λ opened. h.still is_open; goes = moved_goes y.id (came_in (with_taken came s.number s.frames)) x.sents p o remote e h.goes };
+    drains = λ words state new close is. record { still = λ opened. cc; goes = draws (came_in (with_taken came s.number s.frames)) words (drained_at s.number close (arrived x.end now s.number those).end) taken };
+    refuses = λ words state new f is. record { still = λ opened. cc; goes = draws (came_in (with_refused came s.number s.frames)) words (closed_by (reason_of f) (arrived x.end now s.number those).end) (refused state) };
     exhausts = λ state. record { still = λ opened. cc; goes = i.goes };
   }
 
@@ -179,10 +201,6 @@ module _ (x y : Party) (c : PacketsHold x y) (back : PacketsHold y x) (none : No
 by_use : (call : Call) (P : Call → Type 0) → P calls.UseNextId → (uses_next_id call ≡ false → P call) → P call
 by_use calls.UseNextId P uses other = uses
 by_use call P uses other = other refl
-
--- any other call leaves those of the peer, if it is no delivery
-peer_same : (p : Policy) (e : End) (theirs : List (List ℕ)) (call : Call) (a : Answer) → is_delivery call ≡ false → uses_next_id call ≡ false → (after_call p e theirs call a).ids.peer ≡ e.ids.peer
-peer_same p e theirs call a apart other = peer_call (λ (q : PeerIds). q ≡ e.ids.peer) p e theirs call a apart (λ uses. (let clash : false ≡ true = sym other ∙ uses in cc)) refl
 
 -- what a call sends went to the id in use
 issued_sent : (first : List ℕ) (packets : List Packet) (p : Policy) (e : End) (call : Call) (a : Answer) (sents : List Sent) → KnowsTold (IsToldId first packets) e.ids.peer → AreIssued first packets sents
@@ -210,12 +228,7 @@ goes_apart x y call a c i apart =
     g = i.goes
 
     uses : GoesTo y.id packets (x.sents ++ []) (end_on_next_id x.end a).ids.peer (end_on_next_id x.end a).waiting.frames
-    uses = subst (λ (ss : List Sent). GoesTo y.id packets ss (end_on_next_id x.end a).ids.peer (end_on_next_id x.end a).waiting.frames) (sym (append-nil x.sents)) (record {
-      uses = next_uses (IsToldId y.id packets) x.end a g.uses;
-      sent = λ s f j k. says_wider AnyId AnyId (IsBelow active) (IsBelow (end_on_next_id x.end a).ids.peer.active) (λ d any. tt)
-          (λ n less. (let rises = next_active x.end a g.uses.knows.window in omega arith)) f (g.sent s f j k);
-      issued = g.issued;
-    })
+    uses = subst (λ (ss : List Sent). GoesTo y.id packets ss (end_on_next_id x.end a).ids.peer (end_on_next_id x.end a).waiting.frames) (sym (append-nil x.sents)) (next_goes y.id packets x.sents x.end a g)
 
     other : uses_next_id call ≡ false → GoesTo y.id packets (x.sents ++ sents_by x.policy x.end call a) (after_call x.policy x.end y.given call a).ids.peer (after_call x.policy x.end y.given call a).waiting.frames
     other not_used =
@@ -236,8 +249,8 @@ goes_step x y call a c i none =
     by_coming x y a c.joined c.served (meets y x c.takes) (Holds y.id (x.sents ++ sents_by x.policy x.end call a)) call c.answer (record {
       apart = λ apart. record { still = λ opened. i.still (was_open x.policy x.end y.given call a opened); goes = goes_apart x y call a c i apart };
       none = λ delivery is. subst (λ (ss : List Sent). Holds y.id ss x.end (came_to x y)) (sym (none_sent delivery is)) (record { still = i.still; goes = i.goes });
-      comes = λ delivery is s among. subst (λ (ss : List Sent). Arrivals x.end delivery.now s.number s.frames (came_to x y) (λ (o : Outcome) (j : Intake). Holds y.id ss o.end j)) (sym (none_sent delivery is))
-          (arrives x y c.gives c.takes none delivery.now s among i);
+      comes = λ delivery is s among here. subst (λ (ss : List Sent). Arrivals x.end delivery.now s.number s.frames (frames_at here s.frames) (came_to x y) (λ (o : Outcome) (j : Intake). Holds y.id ss o.end j)) (sym (none_sent delivery is))
+          (arrives x y c.gives c.takes none delivery.now s among here i);
     }) in
     record { still = h.still; none_asked = call_asks_none x.policy x.end y.given call a x.sents c.answer c.served c.gives.owes i.none_asked; goes = h.goes }
   where

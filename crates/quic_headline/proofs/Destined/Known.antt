@@ -1,7 +1,7 @@
 -- Which of the ids that an end told an open one knows at each place of a run, and what is answered
 -- and opens there for it.
-use Rattle.std.proofs.Common.{◌≡◌, ℕ, Bool, true, false, List, [], ◌∷◌, take, Option, Some, None, Result, Ok, inl, inr, refl, sym, ap, ◌∙◌, subst}
-use Rattle.std.specs.Prelude.{slice_get, nat_eq}
+use Rattle.std.proofs.Common.{◌≡◌, ℕ, Bool, true, false, List, [], ◌∷◌, take, Option, Some, None, Result, Ok, inl, inr, refl, sym, ap, ◌∙◌, subst, Err}
+use Rattle.std.specs.Prelude.{slice_get, nat_eq, if◌then◌else◌}
 use Rattle.std.specs.Cmp.Lexicographic.{pointwise, bytes_decides}
 use Rattle.std.proofs.lemmas.Bool.{or_left, or_right}
 use Rattle.quic_wire_core.specs.declared.stream_id.Side.{Side}
@@ -23,7 +23,7 @@ use Rattle.quic_machine.specs.Policy.{Policy}
 use Rattle.quic_machine.specs.Ids.{NumberedId, known, own_id}
 use Rattle.quic_machine.specs.Start.{IsLawful}
 use Rattle.quic_machine.specs.End.{End}
-use Rattle.quic_machine.specs.Receive.{opening, headed, received_in, received}
+use Rattle.quic_machine.specs.Receive.{opening, headed, received_in, received, opened_as}
 use Rattle.quic_machine.specs.Machine.{World, IsDelivered, end_at, policy_at}
 use Rattle.quic_machine.specs.RunLaws.{one_run}
 use Rattle.quic_headline.specs.Runs.{Run, Packet, Intake, In, AreServed, LeadsTo, state_at, given_of, given_until, is_elsewhere, destination, expected_behind, opens_by_key}
@@ -46,6 +46,10 @@ use Rattle.quic_headline.proofs.Places.Newest.{stands_both}
 use Rattle.quic_headline.proofs.Timers.Watched.{Observed}
 use Rattle.quic_headline.proofs.Destined.Sole.{Stays, in_map}
 use Rattle.quic_headline.proofs.Destined.Own.{OwnAt, KnowsOwn}
+use Rattle.quic_machine.specs.declared.answers.Received.{Received}
+use Rattle.quic_machine.specs.Opens.{with_drop}
+use Rattle.quic_machine.specs.Migration.{is_foreign}
+use Rattle.quic_machine.specs.declared.run.Answer.{Answer}
 
 -- ---- an id that an end has
 
@@ -55,21 +59,36 @@ in_known id [] i = absurd i
 in_known id (x ∷ xs) (inl is) = or_left (pointwise nat_eq id x) (is_known id xs) ((bytes_decides id x).1 is)
 in_known id (x ∷ xs) (inr i) = or_right (pointwise nat_eq id x) (is_known id xs) (in_known id xs i)
 
--- a datagram that was sent to an id that an end has isn't answered to be sent to another one
-sent_here : (p q : Policy) (s : Sent) (d : List ℕ) → IsSent p s d → IsLawful p → (e : End) (arrival : Arrival) → is_known s.id (known e.ids) ≡ true → is_elsewhere (answers.Deliver (received q e arrival d).answer) ≡ false
+-- whether a datagram is answered to be sent to another id
+abbrev is_unknown : Received → Bool
+is_unknown (receives.Dropped drops.UnknownId) = true
+is_unknown a = false
+
+-- so it is of an answer
+abbrev unknown_told : Answer → Bool
+unknown_told (answers.Deliver a) = is_unknown a
+unknown_told a = false
+
+known_here : (a : Received) → is_elsewhere (answers.Deliver a) ≡ false → is_unknown a ≡ false
+known_here (receives.Dropped drops.UnknownId) is = cc
+known_here a is = refl
+
+-- one that was sent to an id that an end has isn't
+sent_here : (p q : Policy) (s : Sent) (d : List ℕ) → IsSent p s d → IsLawful p → (e : End) (arrival : Arrival) → is_known s.id (known e.ids) ≡ true → is_unknown (received q e arrival d).answer ≡ false
 sent_here p q s d g lawful e arrival has = go e.closing.state
   where
     for_it : header (known e.ids) d ≡ Ok s.id
     for_it = decoded_given p s.id s.number s.reference s.frames d g lawful (known e.ids) ∙ ap (λ (b : Bool). known_as b s.id) has
 
-    opens : is_elsewhere (answers.Deliver (headed (header (known e.ids) d) q e arrival d).answer) ≡ false
-    opens = ap (λ (r : Result (List ℕ) HeaderError). is_elsewhere (answers.Deliver (headed r q e arrival d).answer)) for_it ∙ opened_here (opening q e d) q arrival e
+    opens : (away : Bool) → is_unknown (headed (if away then Err drops.Address else with_drop (header (known e.ids) d)) q e arrival d).answer ≡ false
+    opens true = refl
+    opens false = ap (λ (r : Result (List ℕ) HeaderError). is_unknown (headed (with_drop r) q e arrival d).answer) for_it ∙ known_here (opened_as (opening q e d) q arrival e).answer (opened_here (opening q e d) q arrival e)
 
-    go : (state : State) → is_elsewhere (answers.Deliver (received_in state q e arrival d).answer) ≡ false
+    go : (state : State) → is_unknown (received_in state q e arrival d).answer ≡ false
     go states.Failed = refl
     go states.Drained = refl
-    go states.Open = opens
-    go states.Closing = opens
+    go states.Open = opens (is_foreign arrival.remote e)
+    go states.Closing = opens (is_foreign arrival.remote e)
 
 other_twice : (side : Side) → other_side (other_side side) ≡ side
 other_twice Client = refl
@@ -127,7 +146,7 @@ module _ (r : Run) (end : World) (honest : IsHonest r) (side : Side) (i : ℕ) (
         let to : destination d ≡ sent.0.id = ap destination same ∙ destination_given there.policy sent.0.id sent.0.number sent.0.reference sent.0.frames given sent.2 at.joined.y_lawful in
         let has : is_known sent.0.id (known here.end.ids) ≡ true =
         ap (λ (id : List ℕ). is_known id (known here.end.ids)) (sym to) ∙ in_known (destination d) (known here.end.ids) (in_map (λ (k : NumberedId). k.id) (record { number = number; id = destination d }) living lives) in
-        let clash : true ≡ false = ap is_elsewhere is ∙ sent_here there.policy here.policy sent.0 given sent.2 at.joined.y_lawful here.end (delivered_by false delivery) has in
+        let clash : true ≡ false = ap unknown_told is ∙ sent_here there.policy here.policy sent.0 given sent.2 at.joined.y_lawful here.end (delivered_by false delivery) has in
         cc)
     | inr gone ↦ gone
   ]

@@ -1,6 +1,6 @@
 -- An open end knows each id of which it told its peer until the peer retires its number (RFC 9000,
 -- sections 5.1.1 and 5.1.2), as a group.
-use Rattle.std.proofs.Common.{◌≡◌, ℕ, ◌<◌, ◌≤◌, Bool, true, false, List, [], ◌∷◌, ◌++◌, Option, Some, None, Ok, refl, sym, ap, ◌∙◌, subst, ◌⊎◌, inl, inr, arith, append-nil}
+use Rattle.std.proofs.Common.{◌≡◌, ℕ, ◌<◌, ◌≤◌, Bool, true, false, List, [], ◌∷◌, ◌++◌, Option, Some, None, Ok, refl, sym, ap, ◌∙◌, subst, ◌⊎◌, inl, inr, arith, append-nil, nat_lt, length}
 use Rattle.std.specs.Prelude.{map}
 use Rattle.std.specs.declared.ops.Range.{Range}
 use Rattle.quic_wire_core.specs.declared.shared.IssuedCid.{IssuedCid}
@@ -15,7 +15,7 @@ use Rattle.quic_machine.specs.Policy.{Policy}
 use Rattle.quic_machine.specs.Closing.{ticked}
 use Rattle.quic_machine.specs.MessageCalls.{most_message}
 use Rattle.quic_machine.specs.Sizes.{without_longer_if, shortened}
-use Rattle.quic_machine.specs.Ids.{NumberedId, Ids, words_behind, words_of_id, with_number, drawn_ids, later_numbers, retires_for_next, next_used}
+use Rattle.quic_machine.specs.Ids.{NumberedId, Ids, words_behind, words_of_id, with_number, drawn_ids, later_numbers, retires_for_next, next_used, destination}
 use Rattle.quic_machine.specs.IdFrames.{retiring, next_id_taken, end_on_next_id, drawn}
 use Rattle.quic_machine.specs.Parts.{Waiting}
 use Rattle.quic_machine.specs.End.{End, with_closing, with_ids}
@@ -33,8 +33,8 @@ use Rattle.quic_headline.specs.Duties.{WasRetired}
 use Rattle.quic_headline.proofs.Places.Parties.{sents_by, Party, called, came_to, Beginning, begun_as}
 use Rattle.quic_headline.proofs.Places.Groups.{Calls, Group}
 use Rattle.quic_headline.proofs.Places.Coming.{by_coming}
-use Rattle.quic_headline.proofs.Packets.Apart.{by_waits}
-use Rattle.quic_headline.proofs.Packets.Delivered.{Arrivals, arrived}
+use Rattle.quic_headline.proofs.Packets.Apart.{by_waits, by_shortened}
+use Rattle.quic_headline.proofs.Packets.Delivered.{Arrivals, arrived, frames_at, among_at, with_taken}
 use Rattle.quic_headline.proofs.Packets.Ids.{SaysIds, Waits, SentSayIds, AnyNumber, call_waits, call_says}
 use Rattle.quic_headline.proofs.Packets.Group.{PacketsHold, meets}
 use Rattle.quic_headline.proofs.Halves.KnownIds.{range_in}
@@ -42,6 +42,9 @@ use Rattle.quic_headline.proofs.Duties.OfIds.{shortened_ids, polled_ids}
 use Rattle.quic_headline.proofs.Timers.Still.{was_open}
 use Rattle.quic_headline.proofs.Destined.Sole.{Stays, in_map}
 use Rattle.quic_headline.proofs.Destined.Issues.{AnyId, Issues, IssuesAt, frames_issue, draws_issue}
+use Rattle.quic_headline.proofs.Packets.Strays.{acks_at}
+use Rattle.quic_headline.proofs.Packets.Named.{NamesTaken}
+use Rattle.quic_headline.proofs.Packets.Moving.{moving_keeps}
 
 -- ---- what an end told of
 
@@ -104,9 +107,9 @@ module _ (x y : Party) (p : PacketsHold x y) (back : PacketsHold y x) (now : ℕ
   says_gone (retire_connection_id n) i = inr i
   says_gone f i = tt
 
-  passes : IssuesAt Gone Others issued_before (arrived x.end now s.number s.frames).end
-  passes = frames_issue Gone Others issued_before (came_to y x).took x.sents (record { taken = p.taken; rising = p.gives.rising }) t.sent s.frames says_gone x.end now s.number
-      (λ a i k named. back.named s a k among i named) p.tracked begins
+  passes : (here : Bool) → IssuesAt Gone Others issued_before (arrived x.end now s.number (frames_at here s.frames)).end
+  passes here = frames_issue Gone Others issued_before (came_to y x).took x.sents (record { taken = p.taken; rising = p.gives.rising }) t.sent (frames_at here s.frames) (among_at (SaysIds AnyId Gone) tt here s.frames says_gone) x.end now s.number
+      (acks_at (NamesTaken (came_to y x).took) here s.frames (λ a i k named. back.named s a k among i named)) p.tracked begins
 
   -- once the packet was taken
   was_gone : (n : ℕ) → Gone n → WasRetired (packet ∷ before) n
@@ -137,13 +140,23 @@ module _ (x y : Party) (p : PacketsHold x y) (back : PacketsHold y x) (now : ℕ
   own_taken : (words : ℕ → ℕ) (e : End) → IssuesAt Gone Others issued_before e → OwnAt x.id x.sents (packet ∷ before) (drawn words e)
   own_taken words e i = taken (drawn words e).ids.living e.ids.own.issued (drawn words e).waiting.frames.new_cids (draws_issue Gone Others issued_before words e i)
 
+-- the next id of the peer leaves it
+next_told : (id : List ℕ) (sents : List Sent) (took : List Packet) (e : End) (a : Answer) → OwnAt id sents took e → OwnAt id sents took (end_on_next_id e a)
+next_told id sents took e (answers.UseNextId (Ok done)) i = uses (retires_for_next e.ids)
+  where
+    uses : (o : Option (Range ℕ)) → OwnAt id sents took (next_id_taken o e)
+    uses None = i
+    uses (Some r) = by_shortened (OwnAt id sents took) (nat_lt (length (destination e.ids)) (length (destination (next_used e.ids)))) (retiring r (with_ids e (next_used e.ids))) i (λ most. i)
+next_told id sents took e a i = i
+
 -- each case
-own_arrivals : (x y : Party) → PacketsHold x y → PacketsHold y x → (now : ℕ) (s : Sent) → In s y.sents → (x.end.closing.state ≡ states.Open → OwnAt x.id x.sents (came_to x y).took x.end)
-    → Arrivals x.end now s.number s.frames (came_to x y) (λ (o : Outcome) (j : Intake). o.end.closing.state ≡ states.Open → OwnAt x.id x.sents j.took o.end)
-own_arrivals x y p back now s among own = record {
+own_arrivals : (x y : Party) → PacketsHold x y → PacketsHold y x → (now : ℕ) (s : Sent) → In s y.sents → (here : Bool) → (x.end.closing.state ≡ states.Open → OwnAt x.id x.sents (came_to x y).took x.end)
+    → Arrivals x.end now s.number s.frames (frames_at here s.frames) (came_to x y) (λ (o : Outcome) (j : Intake). o.end.closing.state ≡ states.Open → OwnAt x.id x.sents j.took o.end)
+own_arrivals x y p back now s among here own = record {
   ignored = λ reason opened. own opened;
   noted = λ state reason opened. own opened;
-  takes = λ words state new none urged mark opened. own_taken x y p back now s among (own state) words (after_taken s.number (asks_in (map Ok s.frames)) urged mark (arrived x.end now s.number s.frames).end) (passes x y p back now s among (own state));
+  takes = λ words state new none urged mark opened. own_taken x y p back now s among (own state) words (after_taken s.number (asks_in (map Ok s.frames)) urged mark (arrived x.end now s.number (frames_at here s.frames)).end) (passes x y p back now s among (own state) here);
+  moves = λ q o same remote e is_open i opened. moving_keeps (OwnAt x.id x.sents (with_taken (came_to x y) s.number s.frames).took) (λ m z j. j) (λ z b j. next_told x.id x.sents (with_taken (came_to x y) s.number s.frames).took z b j) q o remote e (i is_open);
   drains = λ words state new close is opened. cc;
   refuses = λ words state new f is opened. cc;
   exhausts = λ state opened. cc;
@@ -251,8 +264,8 @@ own_step x y call a c i = record {
   own = by_coming x y a c.joined c.served (meets y x c.takes) Holds call c.answer (record {
     apart = λ apart opened. apart_own x y call a c apart (i.own (was_open x.policy x.end y.given call a opened));
     none = λ delivery is opened. subst (λ (ss : List Sent). OwnAt x.id ss (came_to x y).took x.end) (sym (none_sent delivery is)) (i.own opened);
-    comes = λ delivery is s among. subst (λ (ss : List Sent). Arrivals x.end delivery.now s.number s.frames (came_to x y) (λ (o : Outcome) (j : Intake). o.end.closing.state ≡ states.Open → OwnAt x.id ss j.took o.end)) (sym (none_sent delivery is))
-        (own_arrivals x y c.gives c.takes delivery.now s among i.own);
+    comes = λ delivery is s among here. subst (λ (ss : List Sent). Arrivals x.end delivery.now s.number s.frames (frames_at here s.frames) (came_to x y) (λ (o : Outcome) (j : Intake). o.end.closing.state ≡ states.Open → OwnAt x.id ss j.took o.end)) (sym (none_sent delivery is))
+        (own_arrivals x y c.gives c.takes delivery.now s among here i.own);
   });
 }
   where

@@ -18,14 +18,14 @@ use Rattle.quic_machine.specs.CallCases.{is_delivery}
 use Rattle.quic_machine.specs.Machine.{IsAnswer, after_call, gave}
 use Rattle.quic_streams_laws.specs.Quiet.{IsSentWithin}
 use Rattle.quic_machine.specs.Receive.{Outcome}
-use Rattle.quic_machine.specs.FrameCases.{begun as started, passed, frames_keep}
+use Rattle.quic_machine.specs.FrameCases.{begun as started, frames_keep}
 use Rattle.quic_headline.specs.Runs.{Packet, Intake, In, first_of, reset_by, reset, nothing_came}
 use Rattle.quic_headline.specs.Observer.{Sent}
 use Rattle.quic_headline.specs.Duties.{Duty, Limited, limit_frame, WasGiven}
 use Rattle.quic_headline.proofs.Packets.Invariant.{IsSent}
 use Rattle.quic_headline.proofs.Packets.Growth.{step_of}
 use Rattle.quic_headline.proofs.Packets.Intakes.{took_more}
-use Rattle.quic_headline.proofs.Packets.Delivered.{Arrivals}
+use Rattle.quic_headline.proofs.Packets.Delivered.{Arrivals, frames_at, among_at}
 use Rattle.quic_headline.proofs.Packets.MayGo.{AreReady}
 use Rattle.quic_headline.proofs.Packets.Group.{PacketsHold, meets}
 use Rattle.quic_headline.proofs.Places.Parties.{sent_by, sent_if, sents_by, told_of, Party, called, came_to, Beginning, begun_as, AreMade}
@@ -36,7 +36,7 @@ use Rattle.quic_headline.proofs.Places.Coming.{by_coming}
 use Rattle.quic_headline.proofs.Halves.Ghosts.{IsWriting}
 use Rattle.quic_headline.proofs.Halves.Wrote.{wrote, done_by, reset_more}
 use Rattle.quic_headline.proofs.Halves.WordsCalls.{call_on_is}
-use Rattle.quic_headline.proofs.Halves.Small.{payload_small}
+use Rattle.quic_headline.proofs.Halves.Small.{payload_small, IsSmallLimit}
 use Rattle.quic_headline.proofs.Halves.Says.{sent_says}
 use Rattle.quic_headline.proofs.Halves.Arrived.{small_limits}
 use Rattle.quic_headline.proofs.Halves.Writer.{WritesHold, done_behind, grows_behind}
@@ -49,14 +49,17 @@ use Rattle.quic_headline.proofs.Duties.Carrier.{IsNew}
 use Rattle.quic_headline.proofs.Duties.Tail.{AskBefore, next_new, before_call}
 use Rattle.quic_headline.proofs.Duties.UnderWay.{InPackets, Fly, TrackedEnds, arrivals_fly, call_fly}
 use Rattle.quic_headline.proofs.Duties.Listed.{Listed, ResetOf, StopOf, listed_in, ListedStands, came_on, arrivals_stand, call_resets, call_stands}
-use Rattle.quic_headline.proofs.Duties.OfIds.{IdOwed, NoneAsked, call_asks_none, call_owed, arrivals_owed, first_owed}
+use Rattle.quic_headline.proofs.Duties.OfIds.{IdOwed, NoneAsked, call_asks_none, call_owed, arrivals_owed, first_owed, AsksNone}
 use Rattle.quic_headline.proofs.Duties.Halts.{Halts, halts_first, halts_call}
 use Rattle.quic_headline.proofs.Duties.Stopped.{AreAsked, asked_more, asked_frame, asked_call, asked_first}
 use Rattle.quic_headline.proofs.Duties.Lasting.{Knows, knows_lasts, call_lasts}
-use Rattle.quic_headline.proofs.Duties.Limits.{LimitStands, Stated, arrivals_stated}
+use Rattle.quic_headline.proofs.Duties.Limits.{LimitStands, Stated, arrivals_stated, moved_stated}
 use Rattle.quic_headline.proofs.Duties.LimitsGo.{stands_more, polled_stands, polled_says, call_stated}
-use Rattle.quic_headline.proofs.Duties.Requests.{Requested, requested_on, requested_more, arrivals_requested, polled_requested, polled_asks, call_requested}
-use Rattle.quic_wire.specs.Value.{AckFrequencyValue, ack_frequency}
+use Rattle.quic_headline.proofs.Duties.Requests.{Requested, requested_on, requested_more, arrivals_requested, polled_requested, polled_asks, call_requested, moved_requested}
+use Rattle.quic_headline.proofs.Packets.Strays.{acks_at}
+use Rattle.quic_headline.proofs.Packets.Named.{NamesTaken}
+use Rattle.quic_headline.proofs.Halves.Moved.{in_arrivals}
+use Rattle.quic_wire.specs.Value.{AckFrequencyValue, ack_frequency, AckValue, ack}
 
 -- what is in flight of the streams of x stands in packets that it tracks, and each of its resets is
 -- somewhere, STOP_SENDING of each stream that it stopped and whose final size it doesn't know, each
@@ -110,6 +113,10 @@ module _ (B : Way) (b : IsReadied B) (x y : Party) (call : Call) (a : Answer) (c
   abbrev took : List Packet
   took = (came_to y x).took
 
+  -- ACK frames that are taken of what y gave name packets that it took
+  named : (s : Sent) → In s y.sents → (here : Bool) (a : AckValue) → In (ack a) (frames_at here s.frames) → NamesTaken took a
+  named s among here = acks_at (NamesTaken took) here s.frames (λ a carried k names. takes.named s a k among carried names)
+
   -- the number that goes next is none of a tracked packet
   new : IsNew x.end.tracking.packets (number_of x.end)
   new = next_new x.sents x.end gives.gives.below gives.tracked
@@ -126,10 +133,10 @@ module _ (B : Way) (b : IsReadied B) (x y : Party) (call : Call) (a : Answer) (c
       (by_coming x y a c.joined c.served (meets y x takes) (λ (e : End) (j : Intake). Fly (done_by call a done) e) call c.answer (record {
         apart = λ apart. call_fly done x.sents x.policy x.end y.given call a apart c.answer gives.ascends gives.tracked i.asked new ends i.fly;
         none = λ delivery is. subst (λ (k : Call). Fly (done_by k a done) x.end) (sym is) i.fly;
-        comes = λ delivery is s among. (
+        comes = λ delivery is s among here. (
             let spelled = step_of (IsSent y.policy) y.sents y.given s takes.gives.each among in
-            subst (λ (k : Call). Arrivals x.end delivery.now s.number s.frames (came_to x y) (λ (o : Outcome) (j : Intake). Fly (done_by k a done) o.end)) (sym is)
-            (arrivals_fly done x.end delivery.now s.number s.frames (came_to x y) (payload_small s.frames spelled.1.payload spelled.1.spells) ends i.fly));
+            subst (λ (k : Call). Arrivals x.end delivery.now s.number s.frames (frames_at here s.frames) (came_to x y) (λ (o : Outcome) (j : Intake). Fly (done_by k a done) o.end)) (sym is)
+            (arrivals_fly done x.end delivery.now s.number s.frames (frames_at here s.frames) (came_to x y) (among_at IsSmallLimit tt here s.frames (payload_small s.frames spelled.1.payload spelled.1.spells)) ends i.fly));
       }))
     where
       F : Duty → Type 0
@@ -140,8 +147,7 @@ module _ (B : Way) (b : IsReadied B) (x y : Party) (call : Call) (a : Answer) (c
   old_listed what was = by_coming x y a c.joined c.served (meets y x takes) (λ (e : End) (j : Intake). ListedStands took what e) call c.answer (record {
     apart = λ apart. call_stands took x.sents what x.policy x.end y.given call a apart gives.ascends gives.tracked i.asked new (b.ready x y c.gives) was;
     none = λ delivery is. was;
-    comes = λ delivery is s among. arrivals_stand took what x.sents (record { taken = gives.taken; rising = gives.gives.rising }) x.end delivery.now s.number s.frames (came_to x y)
-        (λ ak carried k named. takes.named s ak k among carried named) gives.tracked was;
+    comes = λ delivery is s among here. arrivals_stand took what x.sents (record { taken = gives.taken; rising = gives.gives.rising }) x.end delivery.now s.number s.frames (frames_at here s.frames) (came_to x y) (named s among here) gives.tracked was;
   })
 
   -- what is owed of ids
@@ -149,8 +155,8 @@ module _ (B : Way) (b : IsReadied B) (x y : Party) (call : Call) (a : Answer) (c
   ids_call what = by_coming x y a c.joined c.served (meets y x takes) (λ (e : End) (j : Intake). IdOwed what e.ids → ListedStands took what e) call c.answer (record {
     apart = λ apart owed. elim (call_owed took what x.policy x.end y.given call a apart owed) [ inl before ↦ old_listed what (i.ids what before) | inr now ↦ now ];
     none = λ delivery is. i.ids what;
-    comes = λ delivery is s among. arrivals_owed took what x.sents (record { taken = gives.taken; rising = gives.gives.rising }) x.end delivery.now s.number s.frames (came_to x y)
-        (λ ak carried k named. takes.named s ak k among carried named) (λ f j. back.none_asked s among f j) gives.tracked (i.ids what);
+    comes = λ delivery is s among here. arrivals_owed took what x.sents (record { taken = gives.taken; rising = gives.gives.rising }) x.end delivery.now s.number s.frames (frames_at here s.frames) (came_to x y)
+        (named s among here) (among_at AsksNone tt here s.frames (back.none_asked s among)) gives.tracked (i.ids what);
   })
 
   -- a new reset waits
@@ -175,9 +181,8 @@ module _ (B : Way) (b : IsReadied B) (x y : Party) (call : Call) (a : Answer) (c
   stops_call = by_coming x y a c.joined c.served (meets y x takes) (λ (e : End) (j : Intake). AreAsked Asks e.streams) call c.answer (record {
     apart = λ apart. asked_call Asks x.policy x.end y.given (sent_within done x.end.streams (b.writes x y c.gives).writes.keeps.holds) call a c.answer apart (λ id waits. inl waits) asks_still;
     none = λ delivery is. asks_still;
-    comes = λ delivery is s among. (
-        let after : AreAsked Asks (passed s.frames (started x.end delivery.now s.number)).end.streams = frames_keep (λ (e : End). AreAsked Asks e.streams) (λ f e j. asked_frame Asks f e j) s.frames (started x.end delivery.now s.number) asks_still in
-        record { ignored = λ reason. asks_still; noted = λ closing reason. asks_still; takes = λ words open_there fresh fine urged mark. after; drains = λ words open_there fresh close fault. after; refuses = λ words open_there fresh f fault. after; exhausts = λ open_there. asks_still });
+    comes = λ delivery is s among here. in_arrivals (AreAsked Asks) x.end delivery.now s.number s.frames (frames_at here s.frames) (came_to x y) asks_still
+        (frames_keep (λ (e : End). AreAsked Asks e.streams) (λ f e j. asked_frame Asks f e j) (frames_at here s.frames) (started x.end delivery.now s.number) asks_still);
   })
 
   -- ---- limits
@@ -223,12 +228,13 @@ module _ (B : Way) (b : IsReadied B) (x y : Party) (call : Call) (a : Answer) (c
   old_limit what value said = by_coming x y a c.joined c.served (meets y x takes) (λ (e : End) (j : Intake). Stated took (x.sents ++ sends) what value e) call c.answer (record {
     apart = λ apart. apart_on what value said call apart c.answer;
     none = λ delivery is. further what value x.end (i.limits what value said);
-    comes = λ delivery is s among. (
-        let all = arrivals_stated took x.sents what value (record { taken = gives.taken; rising = gives.gives.rising }) x.end delivery.now s.number s.frames (came_to x y) (λ ak carried k named. takes.named s ak k among carried named) (i.limits what value said) in
+    comes = λ delivery is s among here. (
+        let all = arrivals_stated took x.sents what value (record { taken = gives.taken; rising = gives.gives.rising }) x.end delivery.now s.number s.frames (frames_at here s.frames) (came_to x y) (named s among here) (i.limits what value said) in
         record {
           ignored = λ reason. further what value _ (all.ignored reason);
           noted = λ state reason. further what value _ (all.noted state reason);
           takes = λ words state new none urged mark. further what value _ (all.takes words state new none urged mark);
+          moves = λ p o same remote z opened j. moved_stated took (x.sents ++ sends) what value p o remote z j;
           drains = λ words state new close is. further what value _ (all.drains words state new close is);
           refuses = λ words state new f is. further what value _ (all.refuses words state new f is);
           exhausts = λ state. further what value _ (all.exhausts state);
@@ -256,12 +262,13 @@ module _ (B : Way) (b : IsReadied B) (x y : Party) (call : Call) (a : Answer) (c
   old_request f said = by_coming x y a c.joined c.served (meets y x takes) (λ (e : End) (j : Intake). Requested took (x.sents ++ sends) f.sequence e) call c.answer (record {
     apart = λ apart. go call apart c.answer;
     none = λ delivery is. further_on x.end was;
-    comes = λ delivery is s among. (
-        let all = arrivals_requested took x.sents f.sequence (record { taken = gives.taken; rising = gives.gives.rising }) x.end delivery.now s.number s.frames (came_to x y) (λ ak carried k named. takes.named s ak k among carried named) was in
+    comes = λ delivery is s among here. (
+        let all = arrivals_requested took x.sents f.sequence (record { taken = gives.taken; rising = gives.gives.rising }) x.end delivery.now s.number s.frames (frames_at here s.frames) (came_to x y) (named s among here) was in
         record {
           ignored = λ reason. further_on _ (all.ignored reason);
           noted = λ state reason. further_on _ (all.noted state reason);
           takes = λ words state new none urged mark. further_on _ (all.takes words state new none urged mark);
+          moves = λ p o same remote z opened j. moved_requested took (x.sents ++ sends) f.sequence p o remote z j;
           drains = λ words state new close is. further_on _ (all.drains words state new close is);
           refuses = λ words state new g is. further_on _ (all.refuses words state new g is);
           exhausts = λ state. further_on _ (all.exhausts state);

@@ -35,12 +35,14 @@ use Rattle.quic_machine.specs.Machine.{IsAnswer, after_call}
 use Rattle.quic_headline.specs.Runs.{Told, Intake}
 use Rattle.quic_headline.specs.Unread.{stopped_by, stopped}
 use Rattle.quic_headline.proofs.Packets.Group.{meets}
-use Rattle.quic_headline.proofs.Places.Parties.{told_of, Party, called, Beginning, begun_as}
+use Rattle.quic_headline.proofs.Places.Parties.{told_of, Party, called, came_to, Beginning, begun_as}
 use Rattle.quic_headline.proofs.Places.Groups.{Way, Calls}
 use Rattle.quic_headline.proofs.Places.Coming.{by_coming}
 use Rattle.quic_headline.proofs.Halves.Ghosts.{wrote, IsWriting}
 use Rattle.quic_headline.proofs.Halves.QuietSteps.{frame_quiet, sent_within}
 use Rattle.quic_headline.proofs.Halves.ReadCalls.{IsKept, call_kept}
+use Rattle.quic_headline.proofs.Packets.Delivered.{frames_at}
+use Rattle.quic_headline.proofs.Halves.Moved.{in_arrivals}
 
 -- ---- what is known
 
@@ -186,18 +188,12 @@ module _ (B : Way) (w : IsWriting B) (x y : Party) (call : Call) (a : Answer) (c
     halted = by_coming x y a c.joined c.served (meets y x (w.packets y x c.takes)) (λ (e : End) (j : Intake). Now call e.streams) call c.answer (record {
       apart = λ apart. apart_halts call apart c.answer;
       none = λ delivery is. comes_halts call (λ id. ap (λ (k : Call). stopped_by id k a) is) x.end i.halted;
-      comes = λ delivery is s among. (
+      comes = λ delivery is s among here. (
+          let taken : List FrameValue = frames_at here s.frames in
           let none : (id : ℕ) → stopped_by id call a ≡ false = λ id. ap (λ (k : Call). stopped_by id k a) is in
           let before : End = started x.end delivery.now s.number in
-          let after : AreHalted (λ id. stopped id x.told) (passed s.frames before).end.streams = frames_keep (λ (e : End). AreHalted (λ id. stopped id x.told) e.streams) (λ f e j. halted_frame (λ id. stopped id x.told) f e j) s.frames before i.halted in
-          record {
-            ignored = λ reason. comes_halts call none x.end i.halted;
-            noted = λ closing reason. comes_halts call none x.end i.halted;
-            takes = λ words open_there new fine urged mark. comes_halts call none (passed s.frames before).end after;
-            drains = λ words open_there new close fault. comes_halts call none (passed s.frames before).end after;
-            refuses = λ words open_there new f fault. comes_halts call none (passed s.frames before).end after;
-            exhausts = λ open_there. comes_halts call none x.end i.halted;
-          });
+          let after : AreHalted (λ id. stopped id x.told) (passed taken before).end.streams = frames_keep (λ (e : End). AreHalted (λ id. stopped id x.told) e.streams) (λ f e j. halted_frame (λ id. stopped id x.told) f e j) taken before i.halted in
+          in_arrivals (Now call) x.end delivery.now s.number s.frames taken (came_to x y) (comes_halts call none x.end i.halted) (comes_halts call none (passed taken before).end after));
     });
   }
 

@@ -38,12 +38,11 @@ use Rattle.quic_machine.specs.End.{End}
 use Rattle.quic_machine.specs.Poll.{waits, message_waits, asks_to_go}
 use Rattle.quic_machine.specs.Machine.{World, end_at}
 use Rattle.quic_machine.specs.RunLaws.{one_run}
-use Rattle.quic_headline.specs.Runs.{Run, Packet, Intake, AreServed, until, written, ended, EndHasArrived}
+use Rattle.quic_headline.specs.Runs.{Run, Packet, Intake, AreServed, until, written, ended, EndHasArrived, LeadsTo}
 use Rattle.quic_headline.specs.Unread.{stopped}
 use Rattle.quic_headline.specs.Observer.{Sent, Watch, took, sents_until}
-use Rattle.quic_headline.specs.Duties.{Limited, AllData, StreamData, StreamCount, Duty, Offset, Fin, Reset, Stop, Retire, NewId, Limit, limit_frame, limit_waits, Matters, IsSaid, lacks_size, IsOwed, on_half, is_due, IsInFlight, IsSomewhere, DutiesStand, Frequency, IsRequested, HasAsked}
+use Rattle.quic_headline.specs.Duties.{Limited, AllData, StreamData, StreamCount, Duty, Offset, Fin, Reset, Stop, Retire, NewId, Limit, limit_frame, limit_waits, Matters, IsSaid, lacks_size, IsOwed, on_half, is_due, IsInFlight, IsSomewhere, Frequency, IsRequested, HasAsked}
 use Rattle.quic_headline.specs.Headline.{IsHonest}
-use Rattle.quic_headline.specs.InUse.{in_use}
 use Rattle.quic_headline.proofs.Packets.Group.{PacketsHold}
 use Rattle.quic_headline.proofs.Packets.Sight.{Sight}
 use Rattle.quic_headline.proofs.Places.Parties.{Party, came_to}
@@ -54,7 +53,6 @@ use Rattle.quic_headline.proofs.Halves.Wrote.{wrote}
 use Rattle.quic_headline.proofs.Halves.Arrived.{OffsetIn, EndIn, Arrives}
 use Rattle.quic_headline.proofs.Halves.Finishing.{end_last}
 use Rattle.quic_headline.proofs.Halves.Writer.{WritesHold}
-use Rattle.quic_headline.proofs.NextIds.Group.{NextKnown}
 use Rattle.quic_headline.proofs.Duties.Flies.{FliesIn}
 use Rattle.quic_headline.proofs.Duties.UnderWay.{InPackets}
 use Rattle.quic_headline.proofs.Duties.Lasting.{WasUsed, Ends}
@@ -309,6 +307,11 @@ module _ (x y : Party) (writes : WritesHold x y) (packets : PacketsHold x y) (ar
 
 -- ---- the clause
 
+-- each duty is somewhere, wherever a run leads, of ids by a number that isn't above the one in use
+abbrev pub DutiesHold : Run → Type 0
+DutiesHold r = (i : ℕ) (w : World) → AreServed r i → LeadsTo r i w → (side : Side) (used : ℕ) → used ≤ (end_at side w).ids.peer.active → (duty : Duty) → IsOwed used (end_at side w) (sents_until r side i) (until r side i) duty
+    → IsSomewhere (end_at side w) (sents_until r side i) (took r (other_side side) i) (until r side i) duty
+
 -- What it rests on at a place.
 pub record SaysWhereDutiesAre (G : Way) : Type 1 where
   pub packets : (x y : Party) → G x y → PacketsHold x y
@@ -316,19 +319,19 @@ pub record SaysWhereDutiesAre (G : Way) : Type 1 where
   pub arrives : (x y : Party) → G x y → Arrives x y
   pub flying : (x y : Party) → G x y → Flying x y
   pub sight : (x y : Party) → G x y → Sight x y
-  pub next : (x y : Party) → G x y → NextKnown x y
 
 module _ (G : Way) (g : SaysWhereDutiesAre G) (r : Run) (end : World) (honest : IsHonest r) (all : (side : Side) (i : ℕ) → AreServed r i → Placed G r end side i) where
-  -- each duty is somewhere, wherever the run leads
-  pub duties_stand : DutiesStand r
-  duties_stand i v served leads side duty owed =
+  -- so it is wherever the run leads
+  pub duties_hold : DutiesHold r
+  duties_hold i v served leads side used reached duty owed =
       let p = all side i served in
       let x : Party = party_at r i p.world side p.sents in
       let y : Party = party_at r i p.world (other_side side) p.theirs in
       let is : v ≡ p.world = (one_run r.keys (take i r.answers) r.start (take i r.events) (take i r.views) (take i r.views) v p.world served leads p.leads).1 in
       let own : sents_until r side i ≡ p.sents = ap (λ (w : Watch). w.own) (watch_is r honest p.world i side p.sents p.theirs) ∙ (g.sight x y p.gives).own in
-      let due : IsOwed (in_use r side i) (end_at side p.world) p.sents (until r side i) duty = subst (λ (sents : List Sent). IsOwed (in_use r side i) (end_at side p.world) sents (until r side i) duty) own (subst (λ (u : World). IsOwed (in_use r side i) (end_at side u) (sents_until r side i) (until r side i) duty) is owed) in
-      let there : IsSomewhere (end_at side p.world) p.sents (came_to y x).took (until r side i) duty = duty_somewhere x y (g.writes x y p.gives) (g.packets x y p.gives) (g.arrives x y p.gives) (g.flying x y p.gives) (in_use r side i) (g.next x y p.gives).reaches.least duty due in
+      let due : IsOwed used (end_at side p.world) p.sents (until r side i) duty = subst (λ (sents : List Sent). IsOwed used (end_at side p.world) sents (until r side i) duty) own (subst (λ (u : World). IsOwed used (end_at side u) (sents_until r side i) (until r side i) duty) is owed) in
+      let within : used ≤ (end_at side p.world).ids.peer.active = subst (λ (u : World). used ≤ (end_at side u).ids.peer.active) is reached in
+      let there : IsSomewhere (end_at side p.world) p.sents (came_to y x).took (until r side i) duty = duty_somewhere x y (g.writes x y p.gives) (g.packets x y p.gives) (g.arrives x y p.gives) (g.flying x y p.gives) used within duty due in
       subst (λ (u : World). IsSomewhere (end_at side u) (sents_until r side i) (took r (other_side side) i) (until r side i) duty) (sym is)
       (subst (λ (sents : List Sent). IsSomewhere (end_at side p.world) sents (took r (other_side side) i) (until r side i) duty) (sym own)
       (subst (λ (packets : List Packet). IsSomewhere (end_at side p.world) p.sents packets (until r side i) duty) (sym (ap (λ (j : Intake). j.took) (took_there r honest p.world i side p.sents p.theirs))) there))

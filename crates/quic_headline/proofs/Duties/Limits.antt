@@ -32,6 +32,8 @@ use Rattle.quic_machine.specs.Receive.{is_above, names_ungiven, take_frame, Outc
 use Rattle.quic_machine.specs.FrameCases.{OnStreams, Settling, named, ack_taken, acked_keeps, begun, passed, frames_leave, by_marks, Apart, with_apart, apart_leaves}
 use Rattle.quic_machine.specs.FrameCases as cases
 use Rattle.quic_machine.specs.Steps as steps
+use Rattle.quic_machine.specs.Migration.{migrated}
+use Rattle.quic_machine.specs.Policy.{Policy}
 use Rattle.quic_headline.specs.Runs.{Packet, Intake, In}
 use Rattle.quic_headline.specs.Observer.{Sent}
 use Rattle.quic_headline.specs.InFlight.{is_max_data, is_max_streams, limits_in, again_in}
@@ -44,6 +46,9 @@ use Rattle.quic_headline.proofs.Packets.Rising.{one_number}
 use Rattle.quic_headline.proofs.Grown.Flags.{KeptIn, Decides, calls_keep, acked_keeps as acked_flags, reset_acked_keeps, lost_keeps, frame_keeps}
 use Rattle.quic_headline.proofs.Duties.Carrier.{any_is}
 use Rattle.quic_headline.proofs.Duties.Lasting.{Knows, Ends, knows_lasts, ends_lasts, frame_lasts}
+use Rattle.quic_headline.proofs.Packets.Moved.{by_migrated}
+use Rattle.quic_headline.proofs.Halves.Moved.{streams_stay}
+use Rattle.quic_packet.specs.Datagram.{Opening}
 
 -- ---- what waits
 
@@ -213,6 +218,17 @@ filter_has f x (y ∷ xs) i on = go (f y) refl i (filter_has f x xs)
     go false is (inr more) later = later more on
 
 module _ (took : List Packet) (own : List Sent) (what : Limited) (value : ℕ) where
+  -- where the peer is at another address
+  moved_stands : (p : Policy) (o : Opening) (remote : ℕ) (e : End) → LimitStands took own what value e → LimitStands took own what value (migrated p o remote e)
+  moved_stands p o remote e (inl ends) = inl (streams_stay (AllReceiving (Ends what)) p o remote e ends)
+  moved_stands p o remote e (inr (inl waits)) =
+      let v = waits_in what (streams_at e) waits in
+      inr (inl (waits_of what (streams_at (migrated p o remote e)) (by_migrated (λ (x : End). Waits what (streams_at x)) p o remote e (λ c. v) (λ c most. v))))
+  moved_stands p o remote e (inr (inr more)) = inr (inr (by_migrated (λ (x : End). FliesFrom own x.tracking.packets what value ⊎ LimitHasArrived took what value) p o remote e (λ c. more) (λ c most. more)))
+
+  pub moved_stated : (p : Policy) (o : Opening) (remote : ℕ) (e : End) → Stated took own what value e → Stated took own what value (migrated p o remote e)
+  moved_stated p o remote e i = record { knows = streams_stay (AllReceiving (Knows what)) p o remote e i.knows; stand = moved_stands p o remote e i.stand }
+
   -- it is under way still where its packet stays tracked
   pub still : (before after : Table TrackedPacket) (i : FliesFrom own before what value) → In (i.flies.sent.number, i.flies.packet) after → FliesFrom own after what value
   still before after i there = record {
@@ -321,16 +337,17 @@ module _ (took : List Packet) (own : List Sent) (what : Limited) (value : ℕ) (
   }) fs e g
 
   -- each case of a delivery
-  pub arrivals_stated : (e : End) (now n : ℕ) (frames : List FrameValue) (came : Intake) → ((a : AckValue) → In (ack a) frames → NamesTaken took a) → Stated took own what value e
-      → Arrivals e now n frames came (λ (o : Outcome) (j : Intake). Stated took own what value o.end)
-  arrivals_stated e now n frames came takes i = record {
+  pub arrivals_stated : (e : End) (now n : ℕ) (frames taken : List FrameValue) (came : Intake) → ((a : AckValue) → In (ack a) taken → NamesTaken took a) → Stated took own what value e
+      → Arrivals e now n frames taken came (λ (o : Outcome) (j : Intake). Stated took own what value o.end)
+  arrivals_stated e now n frames taken came takes i = record {
     ignored = λ reason. i;
     noted = λ state reason. record { knows = i.knows; stand = i.stand };
     takes = λ words state new none urged mark. record { knows = after.1.knows; stand = after.1.stand };
+    moves = λ p o same remote x opened j. moved_stated took own what value p o remote x j;
     drains = λ words state new close is. record { knows = after.1.knows; stand = after.1.stand };
     refuses = λ words state new f is. record { knows = after.1.knows; stand = after.1.stand };
     exhausts = λ state. record { knows = i.knows; stand = i.stand };
   }
     where
-      after : (over : List FrameValue) × Going over (arrived e now n frames).end
-      after = frames_stand frames (begun e now n) (record { takes = takes; knows = i.knows; stand = i.stand })
+      after : (over : List FrameValue) × Going over (arrived e now n taken).end
+      after = frames_stand taken (begun e now n) (record { takes = takes; knows = i.knows; stand = i.stand })

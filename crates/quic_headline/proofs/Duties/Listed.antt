@@ -88,6 +88,7 @@ use Rattle.quic_machine.specs.Sizes.{search_acked}
 use Rattle.quic_headline.proofs.Packets.Closes.{by_closes}
 use Rattle.quic_headline.proofs.Packets.Apart.{by_waits, by_frequency}
 use Rattle.quic_headline.proofs.Packets.Entries.{by_request}
+use Rattle.quic_headline.proofs.Packets.Moving.{moving_keeps}
 
 -- ---- what waits in a list
 
@@ -560,14 +561,22 @@ module _ (took : List Packet) (what : Listed) where
     }) fs e (record { takes = takes; tracked = tracked; stand = i })).1.stand
 
     -- each case of a delivery
-    pub arrivals_stand : (e : End) (now n : ℕ) (frames : List FrameValue) (came : Intake) → ((a : AckValue) → In (ack a) frames → NamesTaken took a) → AreTracked sents e.tracking.packets → ListedStands took what e → Arrivals e now n frames came (λ (o : Outcome) (j : Intake). ListedStands took what o.end)
-    arrivals_stand e now n frames came takes tracked i = record { ignored = λ reason. i; noted = λ state reason. i; takes = λ words state new none urged mark. draws words (after_taken n (asks_in (map Ok frames)) urged mark (arrived e now n frames).end) after; drains = λ words state new close is. draws words (drained_at n close (arrived e now n frames).end) after; refuses = λ words state new f is. draws words (closed_by (reason_of f) (arrived e now n frames).end) after; exhausts = λ state. i }
+    pub arrivals_stand : (e : End) (now n : ℕ) (frames taken : List FrameValue) (came : Intake) → ((a : AckValue) → In (ack a) taken → NamesTaken took a) → AreTracked sents e.tracking.packets → ListedStands took what e → Arrivals e now n frames taken came (λ (o : Outcome) (j : Intake). ListedStands took what o.end)
+    arrivals_stand e now n frames taken came takes tracked i = record {
+      ignored = λ reason. i;
+      noted = λ state reason. i;
+      takes = λ words state new none urged mark. draws words (after_taken n (asks_in (map Ok frames)) urged mark (arrived e now n taken).end) after;
+      moves = λ p o same remote x opened j. moving_keeps (ListedStands took what) (λ m z k. k) (next_stands took what) p o remote x j;
+      drains = λ words state new close is. draws words (drained_at n close (arrived e now n taken).end) after;
+      refuses = λ words state new f is. draws words (closed_by (reason_of f) (arrived e now n taken).end) after;
+      exhausts = λ state. i;
+    }
       where
         draws : (words : ℕ → ℕ) (x : End) → ListedStands took what x → ListedStands took what (drawn words x)
         draws words x j = drawn_stands took what words x j
 
-        after : ListedStands took what (arrived e now n frames).end
-        after = frames_stand frames (begun e now n) takes tracked i
+        after : ListedStands took what (arrived e now n taken).end
+        after = frames_stand taken (begun e now n) takes tracked i
 
 -- ---- a poll
 

@@ -48,6 +48,7 @@ use Rattle.quic_machine.specs.PollCases.{at_poll, ready_at, draft_at, frames_at,
 use Rattle.quic_machine.specs.CallCases.{is_delivery, by_call}
 use Rattle.quic_machine.specs.LeaveCases.{by_expired, by_event}
 use Rattle.quic_machine.specs.Machine.{IsAnswer, after_call, fails, gave}
+use Rattle.quic_machine.specs.Migration.{migrated}
 use Rattle.quic_headline.specs.Runs.{Packet, Intake, In}
 use Rattle.quic_headline.specs.Observer.{Sent}
 use Rattle.quic_headline.specs.Duties.{has_retirement, has_new_id}
@@ -63,7 +64,9 @@ use Rattle.quic_headline.proofs.Places.Told.{in_append}
 use Rattle.quic_headline.proofs.Places.Steps.{poll_answer}
 use Rattle.quic_config.specs.Transport.{parameters_of}
 use Rattle.quic_headline.proofs.Places.Parties.{sent_by, sent_if, sents_by, Beginning, begun_as}
-use Rattle.quic_headline.proofs.Duties.Listed.{Listed, ResetOf, StopOf, RetireOf, NewIdOf, ListedStands, frame_stands, drawn_stands, shortened_stands}
+use Rattle.quic_headline.proofs.Duties.Listed.{Listed, ResetOf, StopOf, RetireOf, NewIdOf, ListedStands, frame_stands, drawn_stands, shortened_stands, next_stands}
+use Rattle.quic_packet.specs.Datagram.{Opening}
+use Rattle.quic_headline.proofs.Packets.Moving.{moving_keeps}
 
 -- what is owed of ids
 abbrev pub IdOwed : Listed → Ids → Type 0
@@ -309,47 +312,6 @@ module _ (took : List Packet) where
       (λ other m same none owed. inl (subst (IdOwed what) (ap (λ (x : End). x.ids) same) owed))
       (λ other apart none owed. apart_owed what f e apart none owed)
 
-  -- ---- a delivery
-
-  module _ (what : Listed) (sents : List Sent) (stands : Stands took sents) where
-    -- over the frames of a packet
-    record Passing (left : List FrameValue) (e : End) : Type 0 where
-      takes : (a : AckValue) → In (ack a) left → NamesTaken took a
-      none : AskNone left
-      tracked : AreTracked sents e.tracking.packets
-      here : IdOwed what e.ids → ListedStands took what e
-
-    frames_owed : (fs : List FrameValue) (e : End) → ((a : AckValue) → In (ack a) fs → NamesTaken took a) → AskNone fs → AreTracked sents e.tracking.packets → (IdOwed what e.ids → ListedStands took what e) → IdOwed what (passed fs e).end.ids → ListedStands took what (passed fs e).end
-    frames_owed fs e takes none tracked h = (frames_leave Passing (λ f left x g. record {
-      takes = λ a j. g.takes a (inr j);
-      none = λ k j. g.none k (inr j);
-      tracked = λ n t j. g.tracked n t (frame_fewer x f x (λ m u k. k) n t j);
-      here = λ owed. elim (frame_owed what f x (g.none f (inl refl)) owed) [
-        | inl before ↦ frame_stands took what sents stands f left x (record { takes = g.takes; tracked = g.tracked; stand = g.here before })
-        | inr now ↦ now
-      ];
-    }) fs e (record { takes = takes; none = none; tracked = tracked; here = h })).1.here
-
-    -- each case of a delivery
-    pub arrivals_owed : (e : End) (now n : ℕ) (frames : List FrameValue) (came : Intake) → ((a : AckValue) → In (ack a) frames → NamesTaken took a) → AskNone frames → AreTracked sents e.tracking.packets → (IdOwed what e.ids → ListedStands took what e)
-        → Arrivals e now n frames came (λ (o : Outcome) (j : Intake). IdOwed what o.end.ids → ListedStands took what o.end)
-    arrivals_owed e now n frames came takes none tracked h = record {
-      ignored = λ reason. h;
-      noted = λ state reason. h;
-      takes = λ words state new fine urged mark. draws words (after_taken n (asks_in (map Ok frames)) urged mark (arrived e now n frames).end) passes;
-      drains = λ words state new close is. draws words (drained_at n close (arrived e now n frames).end) passes;
-      refuses = λ words state new f is. draws words (closed_by (reason_of f) (arrived e now n frames).end) passes;
-      exhausts = λ state. h;
-    }
-      where
-        draws : (words : ℕ → ℕ) (x : End) → (IdOwed what x.ids → ListedStands took what x) → IdOwed what (drawn words x).ids → ListedStands took what (drawn words x)
-        draws words x j owed = drawn_stands took what words x (j (drawn_owed what (drawing words x) x.ids owed))
-
-        passes : IdOwed what (arrived e now n frames).end.ids → ListedStands took what (arrived e now n frames).end
-        passes = frames_owed frames (begun e now n) takes none tracked h
-
-  -- ---- calls
-
   -- the next id of the peer
   next_owed : (what : Listed) (e : End) (a : Answer) → IdOwed what (end_on_next_id e a).ids → Or what e (end_on_next_id e a)
   next_owed what e (answers.UseNextId (Ok done)) owed = go (retires_for_next e.ids) refl owed
@@ -380,6 +342,53 @@ module _ (took : List Packet) where
       go None is owes = inl owes
       go (Some r) is owes = elim (more what r is (subst (IdOwed what) (shortened_ids _ (uses r)) owes)) [ inl before ↦ inl before | inr now ↦ inr (shortened_stands took what _ (uses r) now) ]
   next_owed what e a owed = inl owed
+
+  -- where the peer is at another address
+  moved_owed : (what : Listed) (p : Policy) (o : Opening) (remote : ℕ) (e : End) → (IdOwed what e.ids → ListedStands took what e) → IdOwed what (migrated p o remote e).ids → ListedStands took what (migrated p o remote e)
+  moved_owed what = moving_keeps (λ (x : End). IdOwed what x.ids → ListedStands took what x) (λ m x stands. stands)
+      (λ x a stands owed. elim (next_owed what x a owed) [ inl before ↦ next_stands took what x a (stands before) | inr now ↦ now ])
+
+  -- ---- a delivery
+
+  module _ (what : Listed) (sents : List Sent) (stands : Stands took sents) where
+    -- over the frames of a packet
+    record Passing (left : List FrameValue) (e : End) : Type 0 where
+      takes : (a : AckValue) → In (ack a) left → NamesTaken took a
+      none : AskNone left
+      tracked : AreTracked sents e.tracking.packets
+      here : IdOwed what e.ids → ListedStands took what e
+
+    frames_owed : (fs : List FrameValue) (e : End) → ((a : AckValue) → In (ack a) fs → NamesTaken took a) → AskNone fs → AreTracked sents e.tracking.packets → (IdOwed what e.ids → ListedStands took what e) → IdOwed what (passed fs e).end.ids → ListedStands took what (passed fs e).end
+    frames_owed fs e takes none tracked h = (frames_leave Passing (λ f left x g. record {
+      takes = λ a j. g.takes a (inr j);
+      none = λ k j. g.none k (inr j);
+      tracked = λ n t j. g.tracked n t (frame_fewer x f x (λ m u k. k) n t j);
+      here = λ owed. elim (frame_owed what f x (g.none f (inl refl)) owed) [
+        | inl before ↦ frame_stands took what sents stands f left x (record { takes = g.takes; tracked = g.tracked; stand = g.here before })
+        | inr now ↦ now
+      ];
+    }) fs e (record { takes = takes; none = none; tracked = tracked; here = h })).1.here
+
+    -- each case of a delivery
+    pub arrivals_owed : (e : End) (now n : ℕ) (frames taken : List FrameValue) (came : Intake) → ((a : AckValue) → In (ack a) taken → NamesTaken took a) → AskNone taken → AreTracked sents e.tracking.packets → (IdOwed what e.ids → ListedStands took what e)
+        → Arrivals e now n frames taken came (λ (o : Outcome) (j : Intake). IdOwed what o.end.ids → ListedStands took what o.end)
+    arrivals_owed e now n frames taken came takes none tracked h = record {
+      ignored = λ reason. h;
+      noted = λ state reason. h;
+      takes = λ words state new fine urged mark. draws words (after_taken n (asks_in (map Ok frames)) urged mark (arrived e now n taken).end) passes;
+      moves = λ p o same remote x opened j. moved_owed what p o remote x j;
+      drains = λ words state new close is. draws words (drained_at n close (arrived e now n taken).end) passes;
+      refuses = λ words state new f is. draws words (closed_by (reason_of f) (arrived e now n taken).end) passes;
+      exhausts = λ state. h;
+    }
+      where
+        draws : (words : ℕ → ℕ) (x : End) → (IdOwed what x.ids → ListedStands took what x) → IdOwed what (drawn words x).ids → ListedStands took what (drawn words x)
+        draws words x j owed = drawn_stands took what words x (j (drawn_owed what (drawing words x) x.ids owed))
+
+        passes : IdOwed what (arrived e now n taken).end.ids → ListedStands took what (arrived e now n taken).end
+        passes = frames_owed taken (begun e now n) takes none tracked h
+
+  -- ---- calls
 
   -- any call but a delivery
   pub call_owed : (what : Listed) (p : Policy) (e : End) (theirs : List (List ℕ)) (call : Call) (a : Answer) → is_delivery call ≡ false → IdOwed what (after_call p e theirs call a).ids → Or what e (after_call p e theirs call a)

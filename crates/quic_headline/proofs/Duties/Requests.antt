@@ -42,6 +42,8 @@ use Rattle.quic_machine.specs.FrameCases.{OnStreams, Settling, named, ack_taken,
 use Rattle.quic_machine.specs.FrameCases as cases
 use Rattle.quic_machine.specs.Steps as steps
 use Rattle.quic_machine.specs.Machine.{after_call, gave}
+use Rattle.quic_machine.specs.IdFrames.{end_on_next_id}
+use Rattle.quic_machine.specs.Migration.{migrated}
 use Rattle.quic_headline.specs.Runs.{Packet, Intake, In}
 use Rattle.quic_headline.specs.Observer.{Sent}
 use Rattle.quic_headline.specs.InFlight.{is_ack_frequency}
@@ -69,6 +71,8 @@ use Rattle.quic_headline.proofs.Duties.Carrier.{any_is, any_there, any_put, IsNe
 use Rattle.quic_headline.proofs.Duties.Tail.{AskBefore, sent_quiet, ready_before}
 use Rattle.quic_headline.proofs.Duties.Limits.{filter_has}
 use Rattle.quic_headline.proofs.Duties.LimitsGo.{same_in, sent_has}
+use Rattle.quic_packet.specs.Datagram.{Opening}
+use Rattle.quic_headline.proofs.Packets.Moving.{moving_keeps}
 
 -- ---- where a request is
 
@@ -252,6 +256,17 @@ losses_flag (p ∷ ps) e i = losses_flag ps (carried_lost p.1.carried e) (one i)
 -- ---- an ACK frame
 
 module _ (took : List Packet) (own : List Sent) (n : ℕ) where
+  -- the next id of the peer
+  next_requested : (e : End) (a : Answer) → Requested took own n e → Requested took own n (end_on_next_id e a)
+  next_requested e a i = record {
+    below = subst (λ (k : ℕ). n ≤ written k) (sym (next_frequency e a).next) i.below;
+    stand = by_next_id (RequestStands took own n) e a i.stand (λ c. i.stand) (λ c most. i.stand);
+  }
+
+  -- and where it is at another address
+  pub moved_requested : (p : Policy) (o : Opening) (remote : ℕ) (e : End) → Requested took own n e → Requested took own n (migrated p o remote e)
+  moved_requested = moving_keeps (Requested took own n) (λ m e k. record { below = k.below; stand = k.stand }) next_requested
+
   -- it is under way still where its packet stays tracked
   still : (before after : Table TrackedPacket) (i : IsRequested own before n) → In (i.flies.sent.number, i.flies.packet) after → IsRequested own after n
   still before after i there = record {
@@ -354,19 +369,20 @@ module _ (took : List Packet) (own : List Sent) (n : ℕ) (stands : Stands took 
   }) fs e g
 
   -- each case of a delivery
-  pub arrivals_requested : (e : End) (now number : ℕ) (frames : List FrameValue) (came : Intake) → ((a : AckValue) → In (ack a) frames → NamesTaken took a) → Requested took own n e
-      → Arrivals e now number frames came (λ (o : Outcome) (j : Intake). Requested took own n o.end)
-  arrivals_requested e now number frames came takes i = record {
+  pub arrivals_requested : (e : End) (now number : ℕ) (frames taken : List FrameValue) (came : Intake) → ((a : AckValue) → In (ack a) taken → NamesTaken took a) → Requested took own n e
+      → Arrivals e now number frames taken came (λ (o : Outcome) (j : Intake). Requested took own n o.end)
+  arrivals_requested e now number frames taken came takes i = record {
     ignored = λ reason. i;
     noted = λ state reason. record { below = i.below; stand = i.stand };
     takes = λ words state new none urged mark. record { below = after.1.stand.below; stand = after.1.stand.stand };
+    moves = λ p o same remote x opened j. moved_requested took own n p o remote x j;
     drains = λ words state new close is. record { below = after.1.stand.below; stand = after.1.stand.stand };
     refuses = λ words state new f is. record { below = after.1.stand.below; stand = after.1.stand.stand };
     exhausts = λ state. record { below = i.below; stand = i.stand };
   }
     where
-      after : (over : List FrameValue) × Going over (arrived e now number frames).end
-      after = frames_stand frames (started e now number) (record { takes = takes; stand = record { below = i.below; stand = i.stand } })
+      after : (over : List FrameValue) × Going over (arrived e now number taken).end
+      after = frames_stand taken (started e now number) (record { takes = takes; stand = record { below = i.below; stand = i.stand } })
 
 -- ---- what goes
 

@@ -42,6 +42,7 @@ use Rattle.quic_headline.proofs.Packets.Apart.{by_waits, by_next_id}
 use Rattle.quic_headline.proofs.Packets.Sends.{by_sends}
 use Rattle.quic_headline.proofs.Packets.Owing.{Owes, close_is, error_owes}
 use Rattle.quic_headline.proofs.Packets.Bare.{close_bare, asks_not}
+use Rattle.quic_headline.proofs.Packets.Moved.{by_migrated}
 
 -- those that ask aren't above the greatest that asks
 abbrev pub AskBefore : List Sent → Option ℕ → Type 0
@@ -102,6 +103,7 @@ received_stays greatest = by_received (Stays greatest) (record {
   asks_close = λ x i. i;
   exhausts = λ now x i. i;
   draws = λ words x i. i;
+  moves = λ p o remote x i. by_migrated (Stays greatest) p o remote x (λ c. i) (λ c most. i);
 })
 
 -- and timers that expire

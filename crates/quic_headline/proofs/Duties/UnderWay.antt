@@ -50,6 +50,7 @@ use Rattle.quic_headline.proofs.Duties.Tail.{AskBefore, Quiet, tail_quiet, ready
 use Rattle.quic_machine.specs.Sizes.{search_acked}
 use Rattle.quic_headline.proofs.Packets.Closes.{by_closes}
 use Rattle.quic_headline.proofs.Packets.Apart.{by_waits, by_next_id}
+use Rattle.quic_headline.proofs.Packets.Moved.{by_migrated}
 
 -- ---- where it stands
 
@@ -216,11 +217,11 @@ module _ (done : ℕ → Wrote) where
   }) fs e (record { small = small; ends = ends; fly = i })).1.fly
 
   -- each case of a delivery
-  pub arrivals_fly : (e : End) (now n : ℕ) (frames : List FrameValue) (came : Intake) → ((f : FrameValue) → In f frames → IsSmallLimit f) → TrackedEnds e.tracking.packets → Fly done e → Arrivals e now n frames came (λ (o : Outcome) (j : Intake). Fly done o.end)
-  arrivals_fly e now n frames came small ends i = record { ignored = λ reason. i; noted = λ state reason. i; takes = λ words state new none urged mark. after; drains = λ words state new close is. after; refuses = λ words state new f is. after; exhausts = λ state. i }
+  pub arrivals_fly : (e : End) (now n : ℕ) (frames taken : List FrameValue) (came : Intake) → ((f : FrameValue) → In f taken → IsSmallLimit f) → TrackedEnds e.tracking.packets → Fly done e → Arrivals e now n frames taken came (λ (o : Outcome) (j : Intake). Fly done o.end)
+  arrivals_fly e now n frames taken came small ends i = record { ignored = λ reason. i; noted = λ state reason. i; takes = λ words state new none urged mark. after; moves = λ p o same remote x opened j. by_migrated (Fly done) p o remote x (λ c. j) (λ c most. j); drains = λ words state new close is. after; refuses = λ words state new f is. after; exhausts = λ state. i }
     where
-      after : Fly done (arrived e now n frames).end
-      after = frames_fly frames (begun e now n) small ends i
+      after : Fly done (arrived e now n taken).end
+      after = frames_fly taken (begun e now n) small ends i
 
 -- ---- a poll
 

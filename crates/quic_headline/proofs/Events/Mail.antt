@@ -1,6 +1,6 @@
 -- Where an application is told nothing next while messages wait, it was told that they came: at
 -- each place of an honest run.
-use Rattle.std.proofs.Common.{◌≡◌, ℕ, ◌+◌, ◌<◌, ◌≤◌, inl, inr, Bool, true, false, List, [], ◌∷◌, length, Some, None, refl, sym, ap, ◌∙◌, subst, arith, ◌⊎◌}
+use Rattle.std.proofs.Common.{◌≡◌, ℕ, ◌+◌, ◌<◌, ◌≤◌, inl, inr, Bool, true, false, List, [], ◌∷◌, length, Some, None, refl, sym, ap, ◌∙◌, subst, arith, ◌⊎◌, map}
 use Rattle.std.specs.Prelude.{nat_lt, ◌-◌, ◌&&◌, drop, if◌then◌else◌}
 use Rattle.std.proofs.lemmas.Bool.{or_parts, lt-ltb, ltb-true, ltb-false}
 use Rattle.quic_wire_core.specs.StreamId.{other_side}
@@ -23,7 +23,7 @@ use Rattle.quic_headline.specs.Runs.{Run, Told, Intake, and_told, folded}
 use Rattle.quic_headline.specs.Observer.{Sent, news}
 use Rattle.quic_headline.specs.Headline.{IsHonest, IsRun}
 use Rattle.quic_headline.specs.Events.{messages_brought, tells_messages, unread_behind, told_behind, Mail, no_mail, mail_behind, mail_told, mail, MessagesAreTold, messages_of}
-use Rattle.quic_headline.proofs.Packets.Delivered.{Arrivals, with_taken, with_refused}
+use Rattle.quic_headline.proofs.Packets.Delivered.{Arrivals, with_taken, with_refused, frames_at}
 use Rattle.quic_headline.proofs.Packets.Group.{PacketsHold, meets}
 use Rattle.quic_headline.proofs.Packets.Intakes.{folded_more}
 use Rattle.quic_headline.proofs.Packets.Watching.{none_new, one_new}
@@ -36,9 +36,12 @@ use Rattle.quic_headline.proofs.Places.Theorems.{ready}
 use Rattle.quic_headline.proofs.Halves.Ready.{Ready}
 use Rattle.quic_headline.proofs.Timers.Still.{was_open}
 use Rattle.quic_headline.proofs.Events.Messages.{receives, call_leaves, frames_tell, Brings, frames_bring}
-use Rattle.quic_headline.proofs.Packets.Owing.{AreCloses, IsAlone, closed_alone}
+use Rattle.quic_headline.proofs.Packets.Owing.{AreCloses, IsAlone}
+use Rattle.quic_headline.proofs.Packets.Strays.{closed_at}
+use Rattle.quic_headline.proofs.Packets.Moved.{by_migrated}
 use Rattle.quic_machine.specs.DraftLaws.{IsClose}
-use Rattle.quic_wire.specs.Value.{FrameValue, datagram, padding}
+use Rattle.quic_machine.specs.Migration.{as_elsewhere}
+use Rattle.quic_wire.specs.Value.{FrameValue, datagram, padding, path_challenge, path_response}
 
 -- ---- what waits
 
@@ -95,6 +98,18 @@ closes_bring (f ∷ fs) all = first f (all f (inl refl)) ∙ closes_bring fs (λ
     first (datagram m) (inr same) = cc
     first g either = refl
 
+-- nor do frames of path validation
+messages_at : (here : Bool) (fs : List FrameValue) → messages_of (frames_at here fs) ≡ messages_of fs
+messages_at true fs = refl
+messages_at false [] = refl
+messages_at false (f ∷ fs) = one f (messages_at false fs)
+  where
+    one : (g : FrameValue) → messages_of (map as_elsewhere fs) ≡ messages_of fs → messages_of (as_elsewhere g ∷ map as_elsewhere fs) ≡ messages_of (g ∷ fs)
+    one (datagram m) rest = ap (λ (k : ℕ). k + 1) rest
+    one (path_challenge token) rest = rest
+    one (path_response token) rest = rest
+    one g rest = rest
+
 module _ (e : End) (i : Intake) (n : ℕ) (told : Bool) (h : MailHolds n told e) where
   -- what waits behind a packet
   abbrev Behind : End → Intake → Type 0
@@ -110,36 +125,43 @@ module _ (e : End) (i : Intake) (n : ℕ) (told : Bool) (h : MailHolds n told e)
   none_more : (f : End) (j : Intake) → news i j ≡ [] → MailHolds n (nat_lt 0 n && told) f → Behind f j
   none_more f j none holds = (let zero : messages_brought (news i j) ≡ 0 = ap messages_brought none in subst (λ (k : ℕ). MailHolds k (nat_lt 0 n && told) f) (omega arith) holds)
 
-  mail_arrives : (now : ℕ) (s : Sent) → IsAlone s.frames → Arrivals e now s.number s.frames i (λ (o : Outcome) (j : Intake). Behind o.end j)
-  mail_arrives now s alone = record {
+  mail_arrives : (now : ℕ) (s : Sent) (here : Bool) → IsAlone s.frames → Arrivals e now s.number s.frames (frames_at here s.frames) i (λ (o : Outcome) (j : Intake). Behind o.end j)
+  mail_arrives now s here alone = record {
     ignored = λ reason. none_more e i (none_new i) same;
     noted = λ state reason. none_more _ i (none_new i) (record { fewer = λ open_now. h.fewer open_now; waits = same.waits });
     takes = λ words state new none urged mark. taken state none _ refl refl;
-    drains = λ words state new close is. none_brought _ (closed_alone s.frames (begun e now s.number) close alone is) (record { fewer = λ open_now. cc; waits = λ some not. frames_tell s.frames (begun e now s.number) (same.waits some not) });
-    refuses = λ words state new f fault. none_more _ (with_refused i s.number s.frames) (none_new i) (record { fewer = λ open_now. cc; waits = λ some not. frames_tell s.frames (begun e now s.number) (same.waits some not) });
+    moves = λ p o same remote z opened k. by_migrated (λ (f : End). Behind f (with_taken i s.number s.frames)) p o remote z (λ c. record { fewer = k.fewer; waits = k.waits }) (λ c most. record { fewer = k.fewer; waits = k.waits });
+    drains = λ words state new close is. none_brought _ (closed_at here s.frames (begun e now s.number) close alone is) (record { fewer = λ open_now. cc; waits = λ some not. frames_tell came (begun e now s.number) (same.waits some not) });
+    refuses = λ words state new f fault. none_more _ (with_refused i s.number s.frames) (none_new i) (record { fewer = λ open_now. cc; waits = λ some not. frames_tell came (begun e now s.number) (same.waits some not) });
     exhausts = λ state. none_more _ i (none_new i) (record { fewer = λ open_now. cc; waits = same.waits });
   }
     where
+      came : List FrameValue
+      came = frames_at here s.frames
+
+      as_many : messages_of came ≡ messages_of s.frames
+      as_many = messages_at here s.frames
+
       -- a packet in which the peer closes brings none
       none_brought : (f : End) → AreCloses s.frames → MailHolds n (nat_lt 0 n && told) f → Behind f (with_taken i s.number s.frames)
       none_brought f closes holds =
           let zero : messages_brought (news i (with_taken i s.number s.frames)) ≡ 0 = ap messages_brought (one_new i s.number s.frames) ∙ ap (λ (k : ℕ). k + 0) (closes_bring s.frames closes) in
           subst (λ (k : ℕ). MailHolds k (nat_lt 0 n && told) f) (omega arith) holds
 
-      taken : e.closing.state ≡ states.Open → (passed s.frames (begun e now s.number)).fault ≡ None → (f : End) → f.messages.queues.incoming ≡ (passed s.frames (begun e now s.number)).end.messages.queues.incoming → f.messages.to_tell ≡ (passed s.frames (begun e now s.number)).end.messages.to_tell
+      taken : e.closing.state ≡ states.Open → (passed came (begun e now s.number)).fault ≡ None → (f : End) → f.messages.queues.incoming ≡ (passed came (begun e now s.number)).end.messages.queues.incoming → f.messages.to_tell ≡ (passed came (begun e now s.number)).end.messages.to_tell
           → Behind f (with_taken i s.number s.frames)
       taken state none f same_messages same_told =
-          let b = frames_bring (begun e now s.number) s.frames none in
+          let b = frames_bring (begun e now s.number) came none in
           let count : messages_brought (news i (with_taken i s.number s.frames)) ≡ messages_brought (record { number = s.number; frames = s.frames } ∷ []) = ap messages_brought (one_new i s.number s.frames) in
           record {
-            fewer = λ open_now. (let less = b.fewer in let was = h.fewer state in let as_many : length f.messages.queues.incoming ≡ length (passed s.frames (begun e now s.number)).end.messages.queues.incoming = ap length same_messages in omega arith);
+            fewer = λ open_now. (let less = b.fewer in let brought = as_many in let was = h.fewer state in let kept : length f.messages.queues.incoming ≡ length (passed came (begun e now s.number)).end.messages.queues.incoming = ap length same_messages in omega arith);
             waits = λ some not. subst (λ (k : ℕ). 0 < k) (sym same_told) (go (nat_lt 0 n) refl b count some not);
           }
         where
-          go : (c : Bool) → nat_lt 0 n ≡ c → Brings (begun e now s.number) s.frames [] (passed s.frames (begun e now s.number)).end → messages_brought (news i (with_taken i s.number s.frames)) ≡ messages_brought (record { number = s.number; frames = s.frames } ∷ [])
-              → 0 < n + messages_brought (news i (with_taken i s.number s.frames)) → (c && told) ≡ false → 0 < (passed s.frames (begun e now s.number)).end.messages.to_tell
+          go : (c : Bool) → nat_lt 0 n ≡ c → Brings (begun e now s.number) came [] (passed came (begun e now s.number)).end → messages_brought (news i (with_taken i s.number s.frames)) ≡ messages_brought (record { number = s.number; frames = s.frames } ∷ [])
+              → 0 < n + messages_brought (news i (with_taken i s.number s.frames)) → (c && told) ≡ false → 0 < (passed came (begun e now s.number)).end.messages.to_tell
           go true is b count some not = b.tells (h.waits (ltb-true 0 n is) not)
-          go false is b count some not = (let none_before = ltb-false 0 n is in let was = h.fewer state in elim (b.first (omega arith)) [ inl nothing ↦ (let zero = nothing.0 in absurd (omega arith)) | inr due ↦ due ])
+          go false is b count some not = (let none_before = ltb-false 0 n is in let was = h.fewer state in elim (b.first (omega arith)) [ inl nothing ↦ (let zero = nothing.0 in let brought = as_many in absurd (omega arith)) | inr due ↦ due ])
 
 -- ---- the group
 
@@ -184,7 +206,7 @@ module _ (B : Way) (packets : (x y : Party) → B x y → PacketsHold x y) (x y 
   next_call call a c h = by_coming x y a c.joined c.served (meets y x (packets y x c.takes)) (λ (e : End) (j : Intake). MailHolds ((mail_of x y).unread + messages_brought (news (came_to x y) j)) (nat_lt 0 (mail_of x y).unread && (mail_of x y).told) e) call c.answer (record {
     apart = λ apart. none_more x.end (came_to x y) (mail_of x y).unread (mail_of x y).told h.holds (after_call x.policy x.end y.given call a) (came_to x y) (none_new (came_to x y)) (other_holds x.policy x.end y.given (mail_of x y).unread (mail_of x y).told h.holds call a apart refl refl);
     none = λ delivery is. none_more x.end (came_to x y) (mail_of x y).unread (mail_of x y).told h.holds x.end (came_to x y) (none_new (came_to x y)) (same x.end (came_to x y) (mail_of x y).unread (mail_of x y).told h.holds);
-    comes = λ delivery is s among. mail_arrives x.end (came_to x y) (mail_of x y).unread (mail_of x y).told h.holds delivery.now s ((packets y x c.takes).alone s among);
+    comes = λ delivery is s among here. mail_arrives x.end (came_to x y) (mail_of x y).unread (mail_of x y).told h.holds delivery.now s here ((packets y x c.takes).alone s among);
   })
 
   mailed_step : (call : Call) (a : Answer) → Calls B x y call a → Mailed x y → Mailed (called x y.given call a) y

@@ -36,7 +36,7 @@ use Rattle.quic_headline.specs.Observer.{Sent, took}
 use Rattle.quic_headline.specs.Headline.{IsHonest, IsRun}
 use Rattle.quic_headline.specs.Ids.{and_packet, WasOpened}
 use Rattle.quic_headline.specs.Events.{tells_opened, Openings, no_openings, openings_told, heard_of, OpeningsAreTold}
-use Rattle.quic_headline.proofs.Packets.Delivered.{Arrivals}
+use Rattle.quic_headline.proofs.Packets.Delivered.{Arrivals, frames_at, with_taken}
 use Rattle.quic_headline.proofs.Packets.Group.{PacketsHold, meets}
 use Rattle.quic_headline.proofs.Packets.Intakes.{folded_more}
 use Rattle.quic_headline.proofs.Places.Parties.{told_of, Party, called, came_to}
@@ -51,6 +51,7 @@ use Rattle.quic_headline.proofs.Halves.ReadGroup.{ReadsHold}
 use Rattle.quic_headline.proofs.Halves.ReadClauses.{other_opens, opened_place}
 use Rattle.quic_headline.proofs.Channel.Openers.{Openers, openers_group}
 use Rattle.quic_headline.proofs.Channel.Counted.{Flagged, flagged_call, flagged_frame}
+use Rattle.quic_headline.proofs.Packets.Moved.{by_migrated}
 
 -- ---- what is to be told
 
@@ -168,19 +169,20 @@ module _ (B : Way) (b : IsHearing B) (dir : Dir) (x y : Party) where
   call_leaves call a c quiet = by_coming x y a c.joined c.served (meets y x (b.packets y x c.takes)) Leaves call c.answer (record {
     apart = λ apart is. ((flagged_call (Still dir (of dir x.end.streams.opening.remote) (of dir x.end.streams.events.opened)) (still_more dir (of dir x.end.streams.opening.remote) (of dir x.end.streams.events.opened)) x.policy x.end y.given call a apart c.answer (λ asks. cc) (λ is. (refl, is)) is).1, inl refl);
     none = λ delivery same is. (is, inl refl);
-    comes = λ delivery same s among. arrives delivery.now s;
+    comes = λ delivery same s among here. arrives delivery.now s here;
   })
     where
-      all : (now : ℕ) (s : Sent) → So (frame_cases.passed s.frames (begun x.end now s.number)).end
-      all now s = frames_still dir (of dir x.end.streams.opening.remote) (of dir x.end.streams.events.opened) s.frames (begun x.end now s.number) (λ is. (refl, is))
+      all : (now : ℕ) (s : Sent) (here : Bool) → So (frame_cases.passed (frames_at here s.frames) (begun x.end now s.number)).end
+      all now s here = frames_still dir (of dir x.end.streams.opening.remote) (of dir x.end.streams.events.opened) (frames_at here s.frames) (begun x.end now s.number) (λ is. (refl, is))
 
-      arrives : (now : ℕ) (s : Sent) → Arrivals x.end now s.number s.frames (came_to x y) (λ (o : Outcome) (j : Intake). Leaves o.end j)
-      arrives now s = record {
+      arrives : (now : ℕ) (s : Sent) (here : Bool) → Arrivals x.end now s.number s.frames (frames_at here s.frames) (came_to x y) (λ (o : Outcome) (j : Intake). Leaves o.end j)
+      arrives now s here = record {
         ignored = λ reason is. (is, inl refl);
         noted = λ state reason is. (is, inl refl);
-        takes = λ words state new none urged mark is. ((all now s is).1, inr (state, (all now s is).0));
-        drains = λ words state new close fault is. ((all now s is).1, inr (state, (all now s is).0));
-        refuses = λ words state new f fault is. ((all now s is).1, inl refl);
+        takes = λ words state new none urged mark is. ((all now s here is).1, inr (state, (all now s here is).0));
+        moves = λ p o same remote z opened j. by_migrated (λ (e : End). Leaves e (with_taken (came_to x y) s.number s.frames)) p o remote z (λ c. j) (λ c most. j);
+        drains = λ words state new close fault is. ((all now s here is).1, inr (state, (all now s here is).0));
+        refuses = λ words state new f fault is. ((all now s here is).1, inl refl);
         exhausts = λ state is. (is, inl refl);
       }
 

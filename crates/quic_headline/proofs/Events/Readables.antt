@@ -53,7 +53,7 @@ use Rattle.quic_headline.specs.Headline.{IsHonest, IsRun}
 use Rattle.quic_headline.specs.Unread.{stopped}
 use Rattle.quic_headline.specs.Credit.{resets_stream, was_reset, is_read_up}
 use Rattle.quic_headline.specs.Events.{brings_of, brings, tells_readable, is_reading, comes_to_read, Reading, no_reading, reading_behind, reading_told, reading, ReadablesAreTold}
-use Rattle.quic_headline.proofs.Packets.Delivered.{Arrivals, with_taken, with_refused}
+use Rattle.quic_headline.proofs.Packets.Delivered.{Arrivals, with_taken, with_refused, frames_at, among_at}
 use Rattle.quic_headline.proofs.Packets.Group.{PacketsHold, meets}
 use Rattle.quic_headline.proofs.Packets.Intakes.{folded_more}
 use Rattle.quic_headline.proofs.Packets.Watching.{none_new, one_new}
@@ -71,13 +71,15 @@ use Rattle.quic_headline.proofs.Channel.Told.{stays_frame}
 use Rattle.quic_headline.proofs.Channel.Within.{Within}
 use Rattle.quic_headline.proofs.Credit.Clause.{Base, Credits, credited}
 use Rattle.quic_headline.proofs.Credit.Counted.{IsAny, IsCounted, IsReadUp, Uses, grown, half_counts, frame_counts, up_more}
-use Rattle.quic_headline.proofs.Credit.Lists.{Usage, usage, UsesMore, SaysFrame, told_uses, packet_uses, uses_then, frame_said}
+use Rattle.quic_headline.proofs.Credit.Lists.{Usage, usage, UsesMore, SaysFrame, told_uses, packet_uses, uses_then, frame_said, padding_said}
 use Rattle.quic_headline.proofs.Unread.OpeningLasts.{lasts_any}
 use Rattle.quic_headline.proofs.Unread.OpeningStatus.{IsDoneStatus, ReceivesNoMore, done_lasts}
 use Rattle.quic_headline.proofs.Unread.Taken.{gone_there, no_fault, kept_before, unbroken_none}
 use Rattle.quic_headline.proofs.Unread.Walk.{Of}
-use Rattle.quic_headline.proofs.Packets.Owing.{IsAlone, closed_alone}
+use Rattle.quic_headline.proofs.Packets.Owing.{IsAlone}
 use Rattle.quic_headline.proofs.Packets.Bare.{closes_none}
+use Rattle.quic_headline.proofs.Packets.Strays.{closed_at, same_at}
+use Rattle.quic_headline.proofs.Packets.Moved.{by_migrated}
 use Rattle.quic_machine.specs.DraftLaws.{IsClose}
 use Rattle.quic_wire.specs.Close.{CloseValue}
 
@@ -497,25 +499,29 @@ module _ (B : Way) (b : IsReadying B) (id : ℕ) (x y : Party) (call : Call) (a 
       here = unhalted_at (usage came.took x.told) id _ (at x.end.streams.receiving.halves.live id) (receives_on x.end.streams.side id && is_opened x.end.streams id) (has_place x.end.streams.side x.end.streams.receiving.halves.places id)
           (λ halted. not_up (or_right (finished id x.told) (stopped id x.told || was_reset id came.took) (or_left (stopped id x.told) (was_reset id came.took) halted))) (uses.sums.each id)
 
-  arrives : (now : ℕ) (s : Sent) → IsAlone s.frames → Arrivals x.end now s.number s.frames came (λ (o : Outcome) (j : Intake). Shows o.end j)
-  arrives now s alone = record {
+  arrives : (now : ℕ) (s : Sent) (here : Bool) → IsAlone s.frames → Arrivals x.end now s.number s.frames (frames_at here s.frames) came (λ (o : Outcome) (j : Intake). Shows o.end j)
+  arrives now s here alone = record {
     ignored = λ reason. quiet x.end came (none_new came) (λ has. has);
     noted = λ state reason. quiet (with_closing (with_numbers x.end (number_opened x.end.numbers s.number)) (close_asked x.end.closing)) came (none_new came) (λ has. has);
-    takes = λ words state new none urged mark. (frames_have id s.frames (begun x.end now s.number), λ is reads alive. taken state none is reads (alive (frames_open s.frames (begun x.end now s.number) state)), λ is reads. taken_reset state none is reads);
-    drains = λ words state new close is. (frames_have id s.frames (begun x.end now s.number), (λ brought reads alive. absurd (both_ways _ (none_brought close is) brought)), λ reset reads. absurd (both_ways _ (none_reset close is) reset));
-    refuses = λ words state new f fault. quiet (drawn words (closed_by (reason_of f) (frame_cases.passed s.frames (begun x.end now s.number)).end)) (with_refused came s.number s.frames) (none_new came) (frames_have id s.frames (begun x.end now s.number));
+    takes = λ words state new none urged mark. (frames_have id seen (begun x.end now s.number), λ is reads alive. taken state none is reads (alive (frames_open seen (begun x.end now s.number) state)), λ is reads. taken_reset state none is reads);
+    moves = λ p o same remote z opened k. by_migrated (λ (e : End). Shows e (with_taken came s.number s.frames)) p o remote z (λ c. k) (λ c most. k);
+    drains = λ words state new close is. (frames_have id seen (begun x.end now s.number), (λ brought reads alive. absurd (both_ways _ (none_brought close is) brought)), λ reset reads. absurd (both_ways _ (none_reset close is) reset));
+    refuses = λ words state new f fault. quiet (drawn words (closed_by (reason_of f) (frame_cases.passed seen (begun x.end now s.number)).end)) (with_refused came s.number s.frames) (none_new came) (frames_have id seen (begun x.end now s.number));
     exhausts = λ state. quiet (exhausted now x.end) came (none_new came) (λ has. has);
   }
     where
       packet : Packet
       packet = record { number = s.number; frames = s.frames }
 
+      seen : List FrameValue
+      seen = frames_at here s.frames
+
       later : List Told
       later = x.told ++ t ∷ []
 
       -- a packet in which the peer closes brings nothing of streams
-      none_of : (test : FrameValue → Bool) → test padding ≡ false → ((f : FrameValue) → IsClose f → test f ≡ false) → (close : CloseValue) → (frame_cases.passed s.frames (begun x.end now s.number)).fault ≡ Some (closed_by_peer close) → (list_any test s.frames || false) ≡ false
-      none_of test pads each close is = ap (λ (b : Bool). b || false) (closes_none test pads each s.frames (closed_alone s.frames (begun x.end now s.number) close alone is))
+      none_of : (test : FrameValue → Bool) → test padding ≡ false → ((f : FrameValue) → IsClose f → test f ≡ false) → (close : CloseValue) → (frame_cases.passed seen (begun x.end now s.number)).fault ≡ Some (closed_by_peer close) → (list_any test s.frames || false) ≡ false
+      none_of test pads each close is = ap (λ (b : Bool). b || false) (closes_none test pads each s.frames (closed_at here s.frames (begun x.end now s.number) close alone is))
 
       brings_not : (f : FrameValue) → IsClose f → brings_of id f ≡ false
       brings_not (stream f) close = absurd close
@@ -525,30 +531,33 @@ module _ (B : Way) (b : IsReadying B) (id : ℕ) (x y : Party) (call : Call) (a 
       resets_not (reset_stream f) close = absurd close
       resets_not f close = refl
 
-      none_brought : (close : CloseValue) → (frame_cases.passed s.frames (begun x.end now s.number)).fault ≡ Some (closed_by_peer close) → brings id (news came (with_taken came s.number s.frames)) ≡ false
+      none_brought : (close : CloseValue) → (frame_cases.passed seen (begun x.end now s.number)).fault ≡ Some (closed_by_peer close) → brings id (news came (with_taken came s.number s.frames)) ≡ false
       none_brought close is = ap (brings id) (one_new came s.number s.frames) ∙ none_of (brings_of id) refl brings_not close is
 
-      none_reset : (close : CloseValue) → (frame_cases.passed s.frames (begun x.end now s.number)).fault ≡ Some (closed_by_peer close) → was_reset id (news came (with_taken came s.number s.frames)) ≡ false
+      none_reset : (close : CloseValue) → (frame_cases.passed seen (begun x.end now s.number)).fault ≡ Some (closed_by_peer close) → was_reset id (news came (with_taken came s.number s.frames)) ≡ false
       none_reset close is = ap (was_reset id) (one_new came s.number s.frames) ∙ none_of (resets_stream id) refl resets_not close is
 
-      taken : x.end.closing.state ≡ states.Open → (frame_cases.passed s.frames (begun x.end now s.number)).fault ≡ None → brings id (news came (with_taken came s.number s.frames)) ≡ true → is_reading x.side id came.took (packet ∷ came.took) (x.told ++ t ∷ []) ≡ true
-          → (ReceivesNoMore id (frame_cases.passed s.frames (begun x.end now s.number)).end.streams → ⊥) → HasReadable id (frame_cases.passed s.frames (begun x.end now s.number)).end.streams
+      taken : x.end.closing.state ≡ states.Open → (frame_cases.passed seen (begun x.end now s.number)).fault ≡ None → brings id (news came (with_taken came s.number s.frames)) ≡ true → is_reading x.side id came.took (packet ∷ came.took) (x.told ++ t ∷ []) ≡ true
+          → (ReceivesNoMore id (frame_cases.passed seen (begun x.end now s.number)).end.streams → ⊥) → HasReadable id (frame_cases.passed seen (begun x.end now s.number)).end.streams
       taken state none is reads alive =
           let one : brings id (packet ∷ []) ≡ true = sym (ap (brings id) (one_new came s.number s.frames)) ∙ is in
           let parts = and_parts (is_own x.side id || brings id came.took) (not (is_read_up id (packet ∷ came.took) later)) reads in
           let f : Facts x.side id x.end.streams = facts state parts.0 (λ up. both_ways (is_read_up id (packet ∷ came.took) later) (not-true (is_read_up id (packet ∷ came.took) later) parts.1)
           (up_more (usage came.took x.told) (usage (packet ∷ came.took) later) (uses_then (usage came.took x.told) (usage (packet ∷ came.took) x.told) (usage (packet ∷ came.took) later) (packet_uses packet came.took x.told) (told_uses (packet ∷ came.took) x.told t)) id up)) in
           elim (or_cases (list_any (brings_of id) s.frames) false one) [
-            | inl here ↦ frames_tell x.side id s.frames (begun x.end now s.number) none f alive (inl here)
+            | inl stands ↦ frames_tell x.side id seen (begun x.end now s.number) none f alive (inl (same_at (brings_of id) refl (λ token. refl) (λ token. refl) here s.frames ∙ stands))
             | inr never ↦ cc
           ]
+
+      said : (g : FrameValue) → In g seen → SaysFrame (usage (packet ∷ came.took) later) g
+      said = among_at (SaysFrame (usage (packet ∷ came.took) later)) (padding_said (usage (packet ∷ came.took) later)) here s.frames (frame_said packet came.took later)
 
       -- what was used, where the packet didn't reset the stream
       unreset : Usage
       unreset = but_reset id (was_reset id came.took) (usage (packet ∷ came.took) later)
 
-      taken_reset : x.end.closing.state ≡ states.Open → (frame_cases.passed s.frames (begun x.end now s.number)).fault ≡ None → was_reset id (news came (with_taken came s.number s.frames)) ≡ true → is_reading x.side id came.took came.took (x.told ++ t ∷ []) ≡ true
-          → HasReadable id (frame_cases.passed s.frames (begun x.end now s.number)).end.streams
+      taken_reset : x.end.closing.state ≡ states.Open → (frame_cases.passed seen (begun x.end now s.number)).fault ≡ None → was_reset id (news came (with_taken came s.number s.frames)) ≡ true → is_reading x.side id came.took came.took (x.told ++ t ∷ []) ≡ true
+          → HasReadable id (frame_cases.passed seen (begun x.end now s.number)).end.streams
       taken_reset state none is reads =
           let one : was_reset id (packet ∷ []) ≡ true = sym (ap (was_reset id) (one_new came s.number s.frames)) ∙ is in
           let parts = and_parts (is_own x.side id || brings id came.took) (not (is_read_up id came.took later)) reads in
@@ -557,9 +566,10 @@ module _ (B : Way) (b : IsReadying B) (id : ℕ) (x y : Party) (call : Call) (a 
           let uses : Of (Uses x.made.streams.receiving.window x.made.streams.receiving.stream_window unreset) x.end.streams =
           grown x.made.streams.receiving.window x.made.streams.receiving.stream_window (usage came.took x.told) unreset (uses_then (usage came.took x.told) (usage came.took later) unreset (told_uses came.took x.told t) (but_more id packet came.took later)) x.end.streams ((b.credits y x c.takes).still state) in
           elim (or_cases (list_any (resets_stream id) s.frames) false one) [
-            | inl here ↦ resets_tell x.side id x.made.streams.receiving.window x.made.streams.receiving.stream_window x.end.streams unreset
+            | inl stands ↦ resets_tell x.side id x.made.streams.receiving.window x.made.streams.receiving.stream_window x.end.streams unreset
                 (λ up. unread (subst (λ (b : Bool). (finished id later || (stopped id later || b)) ≡ true) (cond-true (id == id) (was_reset id came.took) (was_reset id (packet ∷ came.took)) (eq-eqb id id refl)) up))
-                s.frames (begun x.end now s.number) none f (b.within y x c.takes).stays uses (λ g among other. but_says id (was_reset id came.took) (usage (packet ∷ came.took) later) g other (frame_said packet came.took later g among)) here
+                seen (begun x.end now s.number) none f (b.within y x c.takes).stays uses (λ g among other. but_says id (was_reset id came.took) (usage (packet ∷ came.took) later) g other (said g among))
+                (same_at (resets_stream id) refl (λ token. refl) (λ token. refl) here s.frames ∙ stands)
             | inr never ↦ cc
           ]
 
@@ -567,7 +577,7 @@ module _ (B : Way) (b : IsReadying B) (id : ℕ) (x y : Party) (call : Call) (a 
   shows still = by_coming x y a c.joined c.served (meets y x (b.packets y x c.takes)) Shows call c.answer (record {
     apart = λ apart. quiet (after_call x.policy x.end y.given call a) came (none_new came) (flagged_call (Has id) (has_more id) x.policy x.end y.given call a apart c.answer (λ asks. cc));
     none = λ delivery is. quiet x.end came (none_new came) (λ has. has);
-    comes = λ delivery is s among. arrives delivery.now s ((b.packets y x c.takes).alone s among);
+    comes = λ delivery is s among here. arrives delivery.now s here ((b.packets y x c.takes).alone s among);
   })
 
   -- an open end behind the call isn't done with it where it is read on

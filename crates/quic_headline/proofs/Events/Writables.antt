@@ -6,6 +6,7 @@ use Rattle.std.specs.Option.{is_some, IsSome}
 use Rattle.std.proofs.lemmas.Bool.{or_cases, eqb-true, ne_eqb, leb-true, both_ways}
 use Rattle.std.proofs.lemmas.List.{append-nil, append_assoc}
 use Rattle.quic_wire_core.specs.StreamId.{other_side, dir_of}
+use Rattle.quic_wire.specs.Value.{FrameValue}
 use Rattle.quic_send_buffer.specs.Source.{bytes_of}
 use Rattle.quic_streams_parts.specs.declared.answers.WriteError.{WriteError}
 use Rattle.quic_streams_parts.specs.declared.answers.WriteError.TheVariants as write_errors
@@ -35,7 +36,7 @@ use Rattle.quic_headline.specs.Observer.{Sent}
 use Rattle.quic_headline.specs.Headline.{IsHonest, IsRun}
 use Rattle.quic_headline.specs.Amounts.{peer_parameters, first_told, stream_limit_in, greatest, data_left, stream_left, window_left}
 use Rattle.quic_headline.specs.Events.{tells_writable, is_blocked, is_used_up, Writing, no_writing, writing_told, writing, WritablesAreTold}
-use Rattle.quic_headline.proofs.Packets.Delivered.{Arrivals}
+use Rattle.quic_headline.proofs.Packets.Delivered.{Arrivals, frames_at, with_taken}
 use Rattle.quic_headline.proofs.Packets.Group.{PacketsHold, meets}
 use Rattle.quic_headline.proofs.Packets.Intakes.{folded_more}
 use Rattle.quic_headline.proofs.Places.Parties.{told_of, Party, called, came_to}
@@ -48,10 +49,11 @@ use Rattle.quic_headline.proofs.Channel.Counted.{listed_call}
 use Rattle.quic_headline.proofs.Halves.Ghosts.{wrote}
 use Rattle.quic_headline.proofs.Halves.Writer.{WritesHold, grows_behind}
 use Rattle.quic_headline.proofs.Amounts.Tally.{Tally, IsTallied, Tallies, half_tallied}
-use Rattle.quic_headline.proofs.Amounts.Frames.{frames_limit}
+use Rattle.quic_headline.proofs.Amounts.Frames.{frames_limit, greatest_at, limit_same}
 use Rattle.quic_headline.proofs.Amounts.Group.{tally_of, Tallied}
 use Rattle.quic_headline.proofs.Amounts.Clause.{Whole, whole, first_is, room_left}
 use Rattle.quic_headline.proofs.Events.Again.{Tells, Has, has_more, has_joined, IsPassed, event_stays, nothing_writable, blocked_tells, Between, stands_first, due_frames, passed_over}
+use Rattle.quic_headline.proofs.Packets.Moved.{by_migrated}
 
 -- ---- what an end owes
 
@@ -154,11 +156,12 @@ module _ (B : Way) (b : IsAwaiting B) (id : ℕ) (x y : Party) (call : Call) (a 
   ]
 
   -- each case of a delivery
-  arrives : (now : ℕ) (s : Sent) → Arrivals x.end now s.number s.frames came (λ (o : Outcome) (j : Intake). Shows o.end j)
-  arrives now s = record {
+  arrives : (now : ℕ) (s : Sent) (here : Bool) → Arrivals x.end now s.number s.frames (frames_at here s.frames) came (λ (o : Outcome) (j : Intake). Shows o.end j)
+  arrives now s here = record {
     ignored = λ reason. quiet x.end (λ still. still) (λ tells. tells);
     noted = λ state reason still. (let clash : states.Closing ≡ states.Open = sym state ∙ still in cc);
     takes = λ words state new none urged mark still. (state, taken state none);
+    moves = λ p o same remote z opened j. by_migrated (λ (e : End). Shows e (with_taken came s.number s.frames)) p o remote z (λ c. j) (λ c most. j);
     drains = λ words state new close fault still. cc;
     refuses = λ words state new f fault still. cc;
     exhausts = λ state still. cc;
@@ -167,8 +170,11 @@ module _ (B : Way) (b : IsAwaiting B) (id : ℕ) (x y : Party) (call : Call) (a 
       packet : Packet
       packet = record { number = s.number; frames = s.frames }
 
+      seen : List FrameValue
+      seen = frames_at here s.frames
+
       after : StreamsState
-      after = (passed s.frames (begun x.end now s.number)).end.streams
+      after = (passed seen (begun x.end now s.number)).end.streams
 
       before : Tally
       before = tally_of x.made.streams came.took x.told
@@ -177,11 +183,12 @@ module _ (B : Way) (b : IsAwaiting B) (id : ℕ) (x y : Party) (call : Call) (a 
       bytes = length (written id x.told)
 
       -- where the stream was neither ended nor reset
-      goes : IsOpen x.end → (passed s.frames (begun x.end now s.number)).fault ≡ None → ended id x.told ≡ false → reset id x.told ≡ None → Tells id x.end.streams ⊎ IsFull first id came.took x.told → Owes first id after (packet ∷ came.took) later
+      goes : IsOpen x.end → (passed seen (begun x.end now s.number)).fault ≡ None → ended id x.told ≡ false → reset id x.told ≡ None → Tells id x.end.streams ⊎ IsFull first id came.took x.told → Owes first id after (packet ∷ came.took) later
       goes state none unended kept due =
           let between : Between (first_limit x.end.streams) id bytes x.end.streams = record { stands = stands_first (wrote x.told) id x.end.streams holds unended kept; blocked = right } in
-          let limit = frames_limit id s.frames before in
-          elim (due_frames (first_limit x.end.streams) id bytes before s.frames (begun x.end now s.number) none (tallies state) between due) [
+          let limit = frames_limit id seen before in
+          let told = greatest_at (stream_limit_in id) (limit_same id) here s.frames in
+          elim (due_frames (first_limit x.end.streams) id bytes before seen (begun x.end now s.number) none (tallies state) between due) [
             | inl tells ↦ inl tells
             | inr full ↦ (
                 let packed : max first (greatest (stream_limit_in id) (packet ∷ came.took)) ≤ bytes = omega arith in
@@ -191,7 +198,7 @@ module _ (B : Way) (b : IsAwaiting B) (id : ℕ) (x y : Party) (call : Call) (a 
       over : IsOver (wrote x.told id) → Owes first id after (packet ∷ came.took) later
       over is = inr (rest (packet ∷ came.took) (inr is))
 
-      taken : IsOpen x.end → (passed s.frames (begun x.end now s.number)).fault ≡ None → Owes first id x.end.streams came.took x.told → Owes first id after (packet ∷ came.took) later
+      taken : IsOpen x.end → (passed seen (begun x.end now s.number)).fault ≡ None → Owes first id x.end.streams came.took x.told → Owes first id after (packet ∷ came.took) later
       taken state none owes = by_end (ended id x.told) refl
         where
           due : Owes first id x.end.streams came.took x.told → (IsOver (wrote x.told id) → ⊥) → Tells id x.end.streams ⊎ IsFull first id came.took x.told
@@ -215,7 +222,7 @@ module _ (B : Way) (b : IsAwaiting B) (id : ℕ) (x y : Party) (call : Call) (a 
   shows still = by_coming x y a c.joined c.served (meets y x (b.packets y x c.takes)) Shows call c.answer (record {
     apart = λ apart. quiet (after_call x.policy x.end y.given call a) (open_before apart) (listed_call (Has id) (has_more id) (has_joined id) x.policy x.end y.given call a apart c.answer (λ asks. cc));
     none = λ delivery is. quiet x.end (λ on. on) (λ tells. tells);
-    comes = λ delivery is s among. arrives delivery.now s;
+    comes = λ delivery is s among here. arrives delivery.now s here;
   })
 
   -- whether it is to be told behind the call

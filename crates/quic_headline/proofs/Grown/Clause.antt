@@ -2,6 +2,7 @@
 use Rattle.std.proofs.Common.{◌≡◌, ℕ, ◌+◌, true, take, List, sym, subst, arith}
 use Rattle.std.specs.Prelude.{min, ◌&&◌}
 use Rattle.std.proofs.lemmas.Bool.{le-leb, leb-true, and_from}
+use Rattle.quic_wire.specs.Value.{FrameValue}
 use Rattle.quic_wire_core.specs.declared.stream_id.Side.{Side}
 use Rattle.quic_wire_core.specs.declared.stream_id.Dir.{Dir}
 use Rattle.quic_wire_core.specs.StreamId.{other_side}
@@ -35,6 +36,8 @@ use Rattle.quic_headline.proofs.Halves.Ghosts.{wrote, read, IsWriting}
 use Rattle.quic_headline.proofs.Halves.QuietSteps.{sent_within}
 use Rattle.quic_headline.proofs.Halves.ReadGroup.{ReadsHold}
 use Rattle.quic_headline.proofs.Grown.Waiting.{Waits, call_grown, frames_wait}
+use Rattle.quic_headline.proofs.Packets.Delivered.{frames_at}
+use Rattle.quic_headline.proofs.Packets.Moved.{by_migrated}
 
 -- limits that grew wait at the end
 abbrev pub GrownWait : Way
@@ -61,12 +64,14 @@ grown_call : (B : Way) → IsWriting B → (x y : Party) (call : Call) (a : Answ
 grown_call B w x y call a c i = by_coming x y a c.joined c.served (meets y x (w.packets y x c.takes)) (λ (e : End) (j : Intake). Waits (streams_at e)) call c.answer (record {
   apart = λ apart. call_grown x.policy x.end y.given call a (sent_within (wrote x.told) x.end.streams (w.written x y c.gives)) apart c.answer i;
   none = λ delivery is. i;
-  comes = λ delivery is s among. (
-      let after : Waits (streams_at (passed s.frames (begun x.end delivery.now s.number)).end) = frames_wait s.frames (begun x.end delivery.now s.number) i in
+  comes = λ delivery is s among here. (
+      let taken : List FrameValue = frames_at here s.frames in
+      let after : Waits (streams_at (passed taken (begun x.end delivery.now s.number)).end) = frames_wait taken (begun x.end delivery.now s.number) i in
       record {
         ignored = λ reason. i;
         noted = λ state reason. i;
         takes = λ words state new none urged mark. record { all = record { bytes = after.all.bytes; counts = after.all.counts }; each = after.each };
+        moves = λ p o same remote z opened j. by_migrated (λ (e : End). Waits (streams_at e)) p o remote z (λ c. record { all = record { bytes = j.all.bytes; counts = j.all.counts }; each = j.each }) (λ c most. record { all = record { bytes = j.all.bytes; counts = j.all.counts }; each = j.each });
         drains = λ words state new close fault. record { all = record { bytes = after.all.bytes; counts = after.all.counts }; each = after.each };
         refuses = λ words state new f fault. record { all = record { bytes = after.all.bytes; counts = after.all.counts }; each = after.each };
         exhausts = λ state. i;

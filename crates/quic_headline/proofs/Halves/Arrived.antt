@@ -23,7 +23,7 @@ use Rattle.quic_headline.specs.Observer.{Sent}
 use Rattle.quic_headline.proofs.Packets.Invariant.{IsSent, WereSent, carried_stream}
 use Rattle.quic_headline.proofs.Packets.Growth.{step_of}
 use Rattle.quic_headline.proofs.Packets.Intakes.{took_more}
-use Rattle.quic_headline.proofs.Packets.Delivered.{Arrivals}
+use Rattle.quic_headline.proofs.Packets.Delivered.{Arrivals, frames_at, among_at}
 use Rattle.quic_headline.proofs.Packets.Named.{NamesTaken, WasCarried, IsCarriedBy, tracked_carried}
 use Rattle.quic_headline.proofs.Packets.Group.{PacketsHold, meets}
 use Rattle.quic_headline.proofs.Places.Parties.{Party, called, came_to, told_of, Beginning, begun_as}
@@ -32,9 +32,10 @@ use Rattle.quic_headline.proofs.Places.Coming.{by_coming}
 use Rattle.quic_headline.proofs.Halves.Wrote.{wrote, done_by, ResetsFirst, wrote_more}
 use Rattle.quic_headline.proofs.Halves.Writes.{Writes, resets_first}
 use Rattle.quic_headline.proofs.Halves.Ghosts.{SaysOf, Saying}
-use Rattle.quic_headline.proofs.Halves.Small.{payload_small}
+use Rattle.quic_headline.proofs.Halves.Small.{payload_small, IsSmallLimit}
 use Rattle.quic_headline.proofs.Halves.WordsCalls.{HaveEnds, call_on_is, call_keeps}
 use Rattle.quic_headline.proofs.Halves.Finished.{finished_words, finished_same, finished_grows, Brought, finished_arrivals}
+use Rattle.quic_headline.proofs.Packets.Strays.{acks_at}
 
 -- ---- what frames say
 
@@ -123,19 +124,19 @@ module _ (B : Way) (b : IsSpoken B) where
       (by_coming x y a c.joined c.served (meets y x takes) (λ (e : End) (j : Intake). FinishedHave (OffsetIn took) (EndIn took) (done_by call a (wrote x.told)) e.streams) call c.answer (record {
         apart = λ apart. call_keeps (FinishedHave (OffsetIn took) (EndIn took)) (finished_words (OffsetIn took) (EndIn took)) x.policy (wrote x.told) x.end y.given call a apart c.answer (ends x y gives (b.says x y c.gives)) i;
         none = λ delivery is. none delivery is;
-        comes = λ delivery is s among. comes gives takes delivery is s among;
+        comes = λ delivery is s among here. comes gives takes delivery is s among here;
       }))
     where
       none : (delivery : Delivery) → call ≡ calls.Deliver delivery → FinishedHave (OffsetIn (came_to y x).took) (EndIn (came_to y x).took) (done_by call a (wrote x.told)) x.end.streams
       none delivery is = rw is i
 
-      comes : PacketsHold x y → PacketsHold y x → (delivery : Delivery) → call ≡ calls.Deliver delivery → (s : Sent) → In s y.sents
-          → Arrivals x.end delivery.now s.number s.frames (came_to x y) (λ (o : Outcome) (j : Intake). FinishedHave (OffsetIn (came_to y x).took) (EndIn (came_to y x).took) (done_by call a (wrote x.told)) o.end.streams)
-      comes gives takes delivery is s among =
+      comes : PacketsHold x y → PacketsHold y x → (delivery : Delivery) → call ≡ calls.Deliver delivery → (s : Sent) → In s y.sents → (here : Bool)
+          → Arrivals x.end delivery.now s.number s.frames (frames_at here s.frames) (came_to x y) (λ (o : Outcome) (j : Intake). FinishedHave (OffsetIn (came_to y x).took) (EndIn (came_to y x).took) (done_by call a (wrote x.told)) o.end.streams)
+      comes gives takes delivery is s among here =
           let took : List Packet = (came_to y x).took in
           let spelled = step_of (IsSent y.policy) y.sents y.given s takes.gives.each among in
-          rw is (finished_arrivals took x.sents (record { taken = gives.taken; rising = gives.gives.rising }) (OffsetIn took) (EndIn took) (wrote x.told) (brought x.sents (wrote x.told) (b.says x y c.gives) took gives.taken) x.end delivery.now s.number s.frames (came_to x y)
-          (λ ak carried. names_taken x y takes s among ak carried) (payload_small s.frames spelled.1.payload spelled.1.spells) gives.tracked i)
+          rw is (finished_arrivals took x.sents (record { taken = gives.taken; rising = gives.gives.rising }) (OffsetIn took) (EndIn took) (wrote x.told) (brought x.sents (wrote x.told) (b.says x y c.gives) took gives.taken) x.end delivery.now s.number s.frames (frames_at here s.frames) (came_to x y)
+          (acks_at (NamesTaken took) here s.frames (names_taken x y takes s among)) (among_at IsSmallLimit tt here s.frames (payload_small s.frames spelled.1.payload spelled.1.spells)) gives.tracked i)
 
   -- y makes a call: what it took stays taken
   arrives_reader : (x y : Party) (call : Call) (a : Answer) → Arrives y x → Arrives y (called x y.given call a)

@@ -3,7 +3,7 @@
 use Rattle.std.proofs.Common.{◌≡◌, ℕ, true, false, List, [], ◌∷◌, ◌++◌, Option, Some, None, refl, sym, ap, ◌∙◌, subst, inl, inr, ◌⊎◌}
 use Rattle.std.proofs.lemmas.List.{append_assoc, append-nil}
 use Rattle.quic_wire_core.specs.declared.stream_id.Side.{Side}
-use Rattle.quic_wire.specs.Value.{FrameValue, StreamValue, stream, reset_stream, stop_sending, max_stream_data, padding}
+use Rattle.quic_wire.specs.Value.{FrameValue, StreamValue, stream, reset_stream, stop_sending, max_stream_data, padding, path_challenge, path_response}
 use Rattle.quic_streams_parts.specs.declared.answers.Breach.{Breach}
 use Rattle.quic_streams_parts.specs.Dirs.{is_own}
 use Rattle.quic_streams_parts.specs.RecvHalf.{end_of}
@@ -31,6 +31,7 @@ use Rattle.quic_headline.proofs.Places.Told.{in_append}
 use Rattle.quic_headline.proofs.Halves.Ghosts.{SaysOf}
 use Rattle.quic_headline.proofs.Halves.QuietSteps.{frame_quiet}
 use Rattle.quic_headline.proofs.Halves.Opened.{IsOpened, IsOf, opened_stays, side_stays, stop_opens, limit_opens, reset_opens, stream_opens}
+use Rattle.quic_headline.proofs.Packets.Strays.{IsPath}
 
 -- a rule of streams that was not broken
 no_breach : (o : Option Breach) → fault_of o ≡ None → o ≡ None
@@ -182,6 +183,19 @@ frames_bring side were more frames e one none i =
       is = append_assoc g.front (f ∷ []) left ∙ g.is;
       holds = frame_brings side (so_far were g.front) (so_far were (g.front ++ f ∷ [])) f x (by_part g.front f) right g.holds;
     }
+
+-- frames of path validation bring nothing
+pub brought_strays : (side : Side) (were more : FrameValue → Type 0) (s : StreamsState) → ((g : FrameValue) → more g → were g ⊎ IsPath g) → Brought side were s → Brought side more s
+brought_strays side were more s one i = record {
+  taken = taken_fewer (λ g. were (stream g)) (λ g. more (stream g)) s (λ g m. elim (one (stream g) m) [ inl was ↦ was | inr path ↦ absurd path ]) i.taken;
+  of_side = i.of_side;
+  opened = λ f id m opens theirs. elim (one f m) [ inl was ↦ i.opened f id was opens theirs | inr path ↦ absurd (opens_no_path f id path opens) ];
+}
+  where
+    opens_no_path : (f : FrameValue) (id : ℕ) → IsPath f → OpensStream f id → ⊥
+    opens_no_path (path_challenge token) id path opens = opens
+    opens_no_path (path_response token) id path opens = opens
+    opens_no_path f id path opens = path
 
 -- a close brings nothing, nor does what goes beside it
 close_brings_not : (f : FrameValue) → IsClose f ⊎ (f ≡ padding) → (id : ℕ) → OpensStream f id → ⊥

@@ -27,7 +27,7 @@ use Rattle.quic_machine.specs.Steps as steps
 use Rattle.quic_headline.specs.Runs.{In, Intake}
 use Rattle.quic_headline.proofs.Packets.Invariant.{IsSent}
 use Rattle.quic_headline.proofs.Packets.Growth.{step_of}
-use Rattle.quic_headline.proofs.Packets.Delivered.{Arrivals}
+use Rattle.quic_headline.proofs.Packets.Delivered.{Arrivals, frames_at, among_at}
 use Rattle.quic_headline.proofs.Packets.Named.{by_frame as by_kind}
 use Rattle.quic_streams_laws.specs.QuietLaws.{by_told}
 use Rattle.quic_headline.proofs.Packets.Group.{PacketsHold, meets}
@@ -37,6 +37,7 @@ use Rattle.quic_headline.proofs.Places.Coming.{by_coming}
 use Rattle.quic_headline.proofs.Halves.Small.{IsSmallLimit, payload_small}
 use Rattle.quic_headline.proofs.Halves.Words.{Words, frame_on}
 use Rattle.quic_headline.proofs.Halves.WordsCalls.{call_keeps}
+use Rattle.quic_headline.proofs.Halves.Moved.{streams_stay}
 
 -- the limit is small
 abbrev pub HasSmallLimit : StreamsState → Type 0
@@ -157,13 +158,14 @@ small_frames : (fs : List FrameValue) (e : End) → ((f : FrameValue) → In f f
 small_frames fs e small i = (frames_leave (λ (left : List FrameValue) (x : End). ((f : FrameValue) → In f left → IsSmallLimit f) × SmallAt x) (λ f left x both. (λ g among. both.0 g (inr among), small_frame f x (both.0 f (inl refl)) both.1)) fs e (small, i)).1.1
 
 -- each case of a delivery
-small_arrivals : (e : End) (now n : ℕ) (frames : List FrameValue) (came : Intake) → ((f : FrameValue) → In f frames → IsSmallLimit f) → SmallAt e → Arrivals e now n frames came (λ (o : Outcome) (j : Intake). SmallAt o.end)
-small_arrivals e now n frames came small i = record {
+small_arrivals : (e : End) (now n : ℕ) (frames taken : List FrameValue) (came : Intake) → ((f : FrameValue) → In f taken → IsSmallLimit f) → SmallAt e → Arrivals e now n frames taken came (λ (o : Outcome) (j : Intake). SmallAt o.end)
+small_arrivals e now n frames taken came small i = record {
   ignored = λ reason. i;
   noted = λ state reason. i;
-  takes = λ words state new none urged mark. small_frames frames (begun e now n) small i;
-  drains = λ words state new close is. small_frames frames (begun e now n) small i;
-  refuses = λ words state new f is. small_frames frames (begun e now n) small i;
+  takes = λ words state new none urged mark. small_frames taken (begun e now n) small i;
+  moves = λ p o same remote x opened j. streams_stay HasSmallLimit p o remote x j;
+  drains = λ words state new close is. small_frames taken (begun e now n) small i;
+  refuses = λ words state new f is. small_frames taken (begun e now n) small i;
   exhausts = λ state. i;
 }
 
@@ -178,9 +180,9 @@ limit_step x y call a c i = record {
   small = by_coming x y a c.joined c.served (meets y x c.takes) (λ (e : End) (j : Intake). SmallAt e) call c.answer (record {
     apart = λ apart. call_keeps (λ done s. HasSmallLimit s) small_words x.policy ended_all x.end y.given call a apart c.answer (λ n t among m inside fin. refl) i.small;
     none = λ delivery is. i.small;
-    comes = λ delivery is s among. (
+    comes = λ delivery is s among here. (
         let spelled = step_of (IsSent y.policy) y.sents y.given s c.takes.gives.each among in
-        small_arrivals x.end delivery.now s.number s.frames (came_to x y) (payload_small s.frames spelled.1.payload spelled.1.spells) i.small);
+        small_arrivals x.end delivery.now s.number s.frames (frames_at here s.frames) (came_to x y) (among_at IsSmallLimit tt here s.frames (payload_small s.frames spelled.1.payload spelled.1.spells)) i.small);
   });
 }
 

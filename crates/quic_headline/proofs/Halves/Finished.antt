@@ -29,6 +29,7 @@ use Rattle.quic_headline.proofs.Packets.Delivered.{Arrivals, arrived as frames_a
 use Rattle.quic_headline.proofs.Packets.Named.{NamesTaken, Stands, WasCarried, IsCarriedBy, SettlesOn, frames_settle}
 use Rattle.quic_headline.proofs.Halves.Words.{Words, frame_on}
 use Rattle.quic_headline.proofs.Halves.Small.{IsSmallLimit}
+use Rattle.quic_headline.proofs.Halves.Moved.{streams_stay}
 
 -- ---- words
 
@@ -126,12 +127,12 @@ module _ (took : List Packet) (sents : List Sent) (stands : Stands took sents) (
   settles s e may i = i
 
   -- so do all frames of a packet, taken or refused, whose ACK frames name packets that were taken
-  pub finished_arrivals : (e : End) (now n : ℕ) (frames : List FrameValue) (came : Intake) → ((a : AckValue) → In (ack a) frames → NamesTaken took a) → ((f : FrameValue) → In f frames → IsSmallLimit f) → AreTracked sents e.tracking.packets → Holds e
-      → Arrivals e now n frames came (λ (o : Outcome) (i : Intake). Holds o.end)
-  finished_arrivals e now n frames came names small tracked i = record { ignored = λ reason. i; noted = λ state reason. i; takes = λ words state new none urged mark. after; drains = λ words state new close is. after; refuses = λ words state new f is. after; exhausts = λ state. i }
+  pub finished_arrivals : (e : End) (now n : ℕ) (frames taken : List FrameValue) (came : Intake) → ((a : AckValue) → In (ack a) taken → NamesTaken took a) → ((f : FrameValue) → In f taken → IsSmallLimit f) → AreTracked sents e.tracking.packets → Holds e
+      → Arrivals e now n frames taken came (λ (o : Outcome) (i : Intake). Holds o.end)
+  finished_arrivals e now n frames taken came names small tracked i = record { ignored = λ reason. i; noted = λ state reason. i; takes = λ words state new none urged mark. after; moves = λ p o same remote x opened j. streams_stay (FinishedHave arrived end_arrived wrote) p o remote x j; drains = λ words state new close is. after; refuses = λ words state new f is. after; exhausts = λ state. i }
     where
-      after : Holds (frames_arrived e now n frames).end
-      after = frames_settle took sents stands frames Holds (record {
+      after : Holds (frames_arrived e now n taken).end
+      after = frames_settle took sents stands taken Holds (record {
         settles = settles;
         names = λ a x among h. h;
         on_streams = λ f x among on h. frame_on (FinishedHave arrived end_arrived) (finished_words arrived end_arrived) wrote f x on (small f among) h;

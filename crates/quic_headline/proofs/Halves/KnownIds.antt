@@ -25,8 +25,8 @@ use Rattle.quic_machine.specs.Sizes.{without_longer_if, shortened}
 use Rattle.quic_machine.specs.Validation.{word_of, validated_if}
 use Rattle.quic_paths.specs.Paths.{is_asked}
 use Rattle.quic_machine.specs.End.{End, with_closing, with_ids, closed_by}
-use Rattle.quic_machine.specs.Receive.{Outcome, is_above, names_ungiven, retired_for as retiring_for, id_judged, retirement_judged, take_frame}
-use Rattle.quic_machine.specs.FrameCases.{Settling, named, ack_taken, acked_keeps, losses_keep, message_leaves, begun, passed, frames_leave}
+use Rattle.quic_machine.specs.Receive.{is_above, names_ungiven, retired_for as retiring_for, id_judged, retirement_judged, take_frame}
+use Rattle.quic_machine.specs.FrameCases.{Settling, named, ack_taken, acked_keeps, losses_keep, message_leaves, passed, frames_leave}
 use Rattle.quic_machine.specs.Steps as steps
 use Rattle.quic_machine.specs.LeaveCases.{by_expired}
 use Rattle.quic_machine.specs.Poll.{Polled, polled}
@@ -34,10 +34,9 @@ use Rattle.quic_machine.specs.PollCases.{by_poll, at_poll, composes}
 use Rattle.quic_machine.specs.CallCases.{Plain, is_delivery, by_plain_call}
 use Rattle.quic_machine.specs.CallCases as cases
 use Rattle.quic_machine.specs.Machine.{after_call}
-use Rattle.quic_headline.specs.Runs.{In, Intake}
+use Rattle.quic_headline.specs.Runs.{In}
 use Rattle.quic_headline.proofs.Packets.Apart.{by_waits, by_frequency}
 use Rattle.quic_headline.proofs.Packets.Closes.{by_closes}
-use Rattle.quic_headline.proofs.Packets.Delivered.{Arrivals}
 use Rattle.quic_headline.proofs.Packets.Named.{in_filter}
 use Rattle.quic_headline.proofs.Packets.Probes.{may_leave}
 use Rattle.quic_headline.proofs.Halves.Small.{IsSmallNumber}
@@ -200,26 +199,12 @@ abbrev pub Left : List FrameValue → Type 0
 Left left = (f : FrameValue) → In f left → IsSmallNumber f
 
 -- all frames of a packet do
-frames_written : (fs : List FrameValue) (e : End) → Left fs → AreWritten e.ids.peer → AreWritten (passed fs e).end.ids.peer
+pub frames_written : (fs : List FrameValue) (e : End) → Left fs → AreWritten e.ids.peer → AreWritten (passed fs e).end.ids.peer
 frames_written fs e small w =
     (frames_leave (λ (left : List FrameValue) (x : End). Left left × AreWritten x.ids.peer) (λ f left x i. ((λ g j. i.0 g (inr j)), frame_written f x (i.0 f (inl refl)) i.1)) fs e (small, w)).1.1
 
--- in each case of a delivery
-pub written_arrivals : (e : End) (now n : ℕ) (frames : List FrameValue) (came : Intake) → Left frames → AreWritten e.ids.peer → Arrivals e now n frames came (λ (o : Outcome) (i : Intake). AreWritten o.end.ids.peer)
-written_arrivals e now n frames came small w = record {
-  ignored = λ reason. w;
-  noted = λ state reason. w;
-  takes = λ words state new none urged mark. after;
-  drains = λ words state new close is. after;
-  refuses = λ words state new f is. after;
-  exhausts = λ state. w;
-}
-  where
-    after : AreWritten (passed frames (begun e now n)).end.ids.peer
-    after = frames_written frames (begun e now n) small w
-
 -- the next id of the peer is used, or it isn't
-next_id_written : (e : End) (a : Answer) → AreWritten e.ids.peer → AreWritten (end_on_next_id e a).ids.peer
+pub next_id_written : (e : End) (a : Answer) → AreWritten e.ids.peer → AreWritten (end_on_next_id e a).ids.peer
 next_id_written e (answers.UseNextId (Ok done)) w = taken (retires_for_next e.ids)
   where
     taken : (o : Option (Range ℕ)) → AreWritten (next_id_taken o e).ids.peer

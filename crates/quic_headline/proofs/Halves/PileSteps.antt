@@ -33,11 +33,15 @@ use Rattle.quic_headline.proofs.Packets.Named.{in_filter}
 use Rattle.quic_headline.proofs.Places.Told.{in_left, in_right, in_append}
 use Rattle.quic_headline.proofs.Halves.InUse.{InUse, in_use_kept, acked_free}
 use Rattle.quic_headline.proofs.Halves.Small.{IsSmallNumber}
-use Rattle.quic_headline.proofs.Halves.KnownIds.{AreWritten, Left, frame_written}
+use Rattle.quic_headline.proofs.Halves.KnownIds.{AreWritten, Left, frame_written, frames_written, next_id_written}
 use Rattle.quic_headline.proofs.Halves.ToldIds.{drawn_else, apart_else, next_else}
 use Rattle.quic_headline.proofs.Halves.Pile.{times, times_append, times_in, IsPile, part_of, NothingElse, SamePile, else_same, resets_of, stops_of, times_split, resets_among, stops_among}
 use Rattle.quic_machine.specs.Sizes.{search_acked}
+use Rattle.quic_machine.specs.Migration.{migrated}
+use Rattle.quic_machine.specs.Policy.{Policy}
 use Rattle.quic_headline.proofs.Packets.Probes.{with_asked}
+use Rattle.quic_packet.specs.Datagram.{Opening}
+use Rattle.quic_headline.proofs.Packets.Moving.{moving_keeps}
 
 -- ---- an end
 
@@ -356,19 +360,27 @@ frames_hold fs e small w h =
     (frames_leave (λ (left : List FrameValue) (x : End). Left left × (AreWritten x.ids.peer × HoldsAll x))
     (λ f left x i. ((λ g j. i.0 g (inr j)), (frame_written f x (i.0 f (inl refl)) i.1.0, one_holds f x (i.0 f (inl refl)) i.1.0 i.1.1))) fs e (small, (w, h))).1.1.1
 
--- in each case of a delivery
-pub arrivals_hold : (e : End) (now n : ℕ) (frames : List FrameValue) (came : Intake) → Left frames → AreWritten e.ids.peer → HoldsAll e → Arrivals e now n frames came (λ (o : Outcome) (i : Intake). HoldsAll o.end)
-arrivals_hold e now n frames came small w h = record {
-  ignored = λ reason. h;
-  noted = λ state reason. again_all e _ refl refl refl h;
-  takes = λ words state new none urged mark. (let x : End = after_taken n (asks_in (map Ok frames)) urged mark left in drawn_holds words x (again_all left x refl refl refl after));
-  drains = λ words state new close is. (let x : End = drained_at n close left in drawn_holds words x (again_all left x refl refl refl after));
-  refuses = λ words state new f is. (let x : End = closed_by (reason_of f) left in drawn_holds words x (again_all left x refl refl refl after));
-  exhausts = λ state. again_all e _ refl refl refl h;
+-- a peer at another address
+moved_holds : (p : Policy) (o : Opening) (remote : ℕ) (e : End) → HoldsAll e × AreWritten e.ids.peer → HoldsAll (migrated p o remote e) × AreWritten (migrated p o remote e).ids.peer
+moved_holds = moving_keeps (λ (x : End). HoldsAll x × AreWritten x.ids.peer) (λ m e i. (again_all e _ refl refl refl i.0, i.1)) (λ e a i. (next_holds e a i.1 i.0, next_id_written e a i.1))
+
+-- in each case of a delivery, of the ids of the peer too
+pub arrivals_hold : (e : End) (now n : ℕ) (frames taken : List FrameValue) (came : Intake) → Left taken → AreWritten e.ids.peer → HoldsAll e → Arrivals e now n frames taken came (λ (o : Outcome) (i : Intake). HoldsAll o.end × AreWritten o.end.ids.peer)
+arrivals_hold e now n frames taken came small w h = record {
+  ignored = λ reason. (h, w);
+  noted = λ state reason. (again_all e _ refl refl refl h, w);
+  takes = λ words state new none urged mark. (let x : End = after_taken n (asks_in (map Ok frames)) urged mark left in (drawn_holds words x (again_all left x refl refl refl after), written));
+  moves = λ p o same remote x opened i. moved_holds p o remote x i;
+  drains = λ words state new close is. (let x : End = drained_at n close left in (drawn_holds words x (again_all left x refl refl refl after), written));
+  refuses = λ words state new f is. (let x : End = closed_by (reason_of f) left in (drawn_holds words x (again_all left x refl refl refl after), written));
+  exhausts = λ state. (again_all e _ refl refl refl h, w);
 }
   where
     left : End
-    left = (passed frames (begun e now n)).end
+    left = (passed taken (begun e now n)).end
 
     after : HoldsAll left
-    after = frames_hold frames (begun e now n) small w (again_all e (begun e now n) refl refl refl h)
+    after = frames_hold taken (begun e now n) small w (again_all e (begun e now n) refl refl refl h)
+
+    written : AreWritten left.ids.peer
+    written = frames_written taken (begun e now n) small w

@@ -1,6 +1,6 @@
 -- What one end reads is what the other wrote, at each place: a group over what the other's writing
 -- gives.
-use Rattle.std.proofs.Common.{◌≡◌, ℕ, List, [], ◌∷◌, ◌++◌, None, Ok, refl, sym, subst, inl, inr, ◌⊎◌}
+use Rattle.std.proofs.Common.{◌≡◌, ℕ, List, [], ◌∷◌, ◌++◌, None, Ok, refl, sym, subst, inl, inr, ◌⊎◌, Bool}
 use Rattle.quic_wire_core.specs.declared.stream_id.Side.{Side}
 use Rattle.quic_wire.specs.Value.{FrameValue, stream}
 use Rattle.quic_config.specs.Transport.{Settings, parameters_of}
@@ -23,9 +23,9 @@ use Rattle.quic_machine.specs.End.{End}
 use Rattle.quic_machine.specs.Receive.{Outcome}
 use Rattle.quic_machine.specs.FrameCases.{begun, passed}
 use Rattle.quic_headline.specs.Runs.{Told, Next, Packet, Intake, In, accepts}
-use Rattle.quic_headline.proofs.Packets.Delivered.{Arrivals, with_taken}
+use Rattle.quic_headline.proofs.Packets.Delivered.{Arrivals, with_taken, frames_at, among_at}
 use Rattle.quic_headline.proofs.Packets.Group.{meets}
-use Rattle.quic_headline.proofs.Packets.Owing.{IsAlone, closed_alone}
+use Rattle.quic_headline.proofs.Packets.Owing.{IsAlone}
 use Rattle.quic_headline.proofs.Places.Told.{accepts_append, in_left}
 use Rattle.quic_headline.proofs.Places.Parties.{told_of, Party, called, came_to, Beginning, begun_as}
 use Rattle.quic_headline.proofs.Places.Groups.{Way, Calls, Group}
@@ -33,9 +33,11 @@ use Rattle.quic_headline.proofs.Places.Coming.{by_coming}
 use Rattle.quic_headline.proofs.Halves.Ghosts.{wrote, read, SaysOf, IsWriting}
 use Rattle.quic_headline.proofs.Halves.QuietSteps.{sent_within}
 use Rattle.quic_headline.proofs.Halves.Reading.{read_same}
-use Rattle.quic_headline.proofs.Halves.Bringing.{frames_read, Brought, frames_leave_brought, frames_bring, closed_brings, frames_accepted}
+use Rattle.quic_headline.proofs.Halves.Bringing.{frames_read, Brought, frames_leave_brought, frames_bring, closed_brings, frames_accepted, brought_strays}
 use Rattle.quic_headline.proofs.Halves.ReadCalls.{brought_call, accepted_call, read_as, reads_call}
 use Rattle.quic_headline.proofs.Halves.Ends.{EndsRight, ends_grow, ends_call}
+use Rattle.quic_headline.proofs.Packets.Strays.{IsPath, in_at, closed_at}
+use Rattle.quic_headline.proofs.Packets.Moved.{by_migrated}
 
 -- A frame stood in one of these packets.
 pub record WasIn (packets : List Packet) (f : FrameValue) : Type 0 where
@@ -60,36 +62,44 @@ record Holds (side : Side) (done : ℕ → Wrote) (r : ℕ → Reads) (accepted 
   brought : Brought side (WasIn i.took) e.streams
 
 -- in each case of a delivery, where the packet's frames say what was done
-holds_arrivals : (side : Side) (done : ℕ → Wrote) (r : ℕ → Reads) (accepted : ℕ → Type 0) (e : End) (now n : ℕ) (frames : List FrameValue) (i : Intake) → ((f : FrameValue) → In f frames → SaysOf done f) → IsAlone frames → Holds side done r accepted e i
-    → Arrivals e now n frames i (λ (o : Outcome) (j : Intake). Holds side done r accepted o.end j)
-holds_arrivals side done r accepted e now n frames i says alone h = record {
+holds_arrivals : (side : Side) (done : ℕ → Wrote) (r : ℕ → Reads) (accepted : ℕ → Type 0) (e : End) (now n : ℕ) (frames : List FrameValue) (here : Bool) (i : Intake) → ((f : FrameValue) → In f frames → SaysOf done f) → IsAlone frames → Holds side done r accepted e i
+    → Arrivals e now n frames (frames_at here frames) i (λ (o : Outcome) (j : Intake). Holds side done r accepted o.end j)
+holds_arrivals side done r accepted e now n frames here i says alone h = record {
   ignored = λ reason. h;
   noted = λ state reason. record { reads = h.reads; accepted_are = h.accepted_are; brought = h.brought };
   takes = λ words state new none urged mark. record {
-    reads = frames_read done r frames (begun e now n) says h.reads;
-    accepted_are = frames_accepted accepted frames (begun e now n) h.accepted_are;
-    brought = frames_bring side (WasIn i.took) (WasIn (with_taken i n frames).took) frames (begun e now n) among none h.brought;
+    reads = frames_read done r taken (begun e now n) (among_at (SaysOf done) tt here frames says) h.reads;
+    accepted_are = frames_accepted accepted taken (begun e now n) h.accepted_are;
+    brought = brought_strays side (λ g. WasIn i.took g ⊎ In g taken) (WasIn (with_taken i n frames).took) (passed taken (begun e now n)).end.streams among_taken
+        (frames_bring side (WasIn i.took) (λ g. WasIn i.took g ⊎ In g taken) taken (begun e now n) (λ g m. m) none h.brought);
   };
+  moves = λ p o same remote x opened k. by_migrated (λ (z : End). Holds side done r accepted z (with_taken i n frames)) p o remote x (λ c. record { reads = k.reads; accepted_are = k.accepted_are; brought = k.brought }) (λ c most. record { reads = k.reads; accepted_are = k.accepted_are; brought = k.brought });
   drains = λ words state new close is. record {
-    reads = frames_read done r frames (begun e now n) says h.reads;
-    accepted_are = frames_accepted accepted frames (begun e now n) h.accepted_are;
-    brought = closed_brings side (WasIn i.took) (WasIn (with_taken i n frames).took) frames (passed frames (begun e now n)).end.streams (closed_alone frames (begun e now n) close alone is) among
-        (frames_leave_brought side (WasIn i.took) frames (begun e now n) h.brought);
+    reads = frames_read done r taken (begun e now n) (among_at (SaysOf done) tt here frames says) h.reads;
+    accepted_are = frames_accepted accepted taken (begun e now n) h.accepted_are;
+    brought = closed_brings side (WasIn i.took) (WasIn (with_taken i n frames).took) frames (passed taken (begun e now n)).end.streams (closed_at here frames (begun e now n) close alone is) among
+        (frames_leave_brought side (WasIn i.took) taken (begun e now n) h.brought);
   };
   refuses = λ words state new f is. record {
-    reads = frames_read done r frames (begun e now n) says h.reads;
-    accepted_are = frames_accepted accepted frames (begun e now n) h.accepted_are;
-    brought = frames_leave_brought side (WasIn i.took) frames (begun e now n) h.brought;
+    reads = frames_read done r taken (begun e now n) (among_at (SaysOf done) tt here frames says) h.reads;
+    accepted_are = frames_accepted accepted taken (begun e now n) h.accepted_are;
+    brought = frames_leave_brought side (WasIn i.took) taken (begun e now n) h.brought;
   };
   exhausts = λ state. record { reads = h.reads; accepted_are = h.accepted_are; brought = h.brought };
 }
   where
+    taken : List FrameValue
+    taken = frames_at here frames
+
     among : (g : FrameValue) → WasIn (with_taken i n frames).took g → WasIn i.took g ⊎ In g frames
     among g w = go w.was_taken
       where
         go : In w.packet (with_taken i n frames).took → WasIn i.took g ⊎ In g frames
         go (inl is) = inr (subst (λ (p : Packet). In g p.frames) is w.carried)
         go (inr there) = inl (record { packet = w.packet; was_taken = there; carried = w.carried })
+
+    among_taken : (g : FrameValue) → WasIn (with_taken i n frames).took g → (WasIn i.took g ⊎ In g taken) ⊎ IsPath g
+    among_taken g w = elim (among g w) [ inl was ↦ inl (inl was) | inr there ↦ elim (in_at here frames g there) [ inl one ↦ inl (inr one) | inr path ↦ inr path ] ]
 
 -- a delivery reads and accepts nothing
 delivery_holds : (side : Side) (done : ℕ → Wrote) (told : List Told) (call : Call) (a : Answer) (state : State) (delivery : Delivery) (e : End) (i : Intake) → call ≡ calls.Deliver delivery
@@ -147,10 +157,11 @@ module _ (B : Way) (w : IsWriting B) where
           brought = brought_call x.side (WasIn (came_to x y).took) x.policy x.end y.given call a within c.answer apart p.brought;
         };
         none = λ delivery is. at_once delivery x.end (came_to x y) is before;
-        comes = λ delivery is s among. (let cases = holds_arrivals x.side (wrote y.told) (read x.told) (λ id. In id (accepts x.told)) x.end delivery.now s.number s.frames (came_to x y) (w.says y x c.takes s among) ((w.packets y x c.takes).alone s among) before in record {
+        comes = λ delivery is s among here. (let cases = holds_arrivals x.side (wrote y.told) (read x.told) (λ id. In id (accepts x.told)) x.end delivery.now s.number s.frames here (came_to x y) (w.says y x c.takes s among) ((w.packets y x c.takes).alone s among) before in record {
           ignored = λ reason. at_once delivery _ _ is (cases.ignored reason);
           noted = λ closing reason. at_once delivery _ _ is (cases.noted closing reason);
           takes = λ words open_there new none urged mark. at_once delivery _ _ is (cases.takes words open_there new none urged mark);
+          moves = λ p o same remote z opened k. by_migrated (λ (e : End). Holds x.side (wrote y.told) (read later) (λ id. In id (accepts later)) e (with_taken (came_to x y) s.number s.frames)) p o remote z (λ c. record { reads = k.reads; accepted_are = k.accepted_are; brought = k.brought }) (λ c most. record { reads = k.reads; accepted_are = k.accepted_are; brought = k.brought });
           drains = λ words open_there new close fault. at_once delivery _ _ is (cases.drains words open_there new close fault);
           refuses = λ words open_there new f fault. at_once delivery _ _ is (cases.refuses words open_there new f fault);
           exhausts = λ open_there. at_once delivery _ _ is (cases.exhausts open_there);

@@ -9,13 +9,10 @@ use Rattle.quic_machine.specs.declared.run.Answer.{Answer}
 use Rattle.quic_machine.specs.Ids.{words_behind}
 use Rattle.quic_machine.specs.Parts.{Windows}
 use Rattle.quic_machine.specs.End.{End, silent_end, new_end}
-use Rattle.quic_machine.specs.Receive.{Outcome}
 use Rattle.quic_machine.specs.PollCases.{ready_at}
-use Rattle.quic_headline.specs.Runs.{In, Intake}
-use Rattle.quic_headline.specs.Observer.{Sent}
+use Rattle.quic_headline.specs.Runs.{Intake}
 use Rattle.quic_headline.proofs.Packets.Invariant.{IsSent}
 use Rattle.quic_headline.proofs.Packets.Growth.{step_of}
-use Rattle.quic_headline.proofs.Packets.Delivered.{Arrivals}
 use Rattle.quic_headline.proofs.Packets.MayGo.{AreReady}
 use Rattle.quic_headline.proofs.Packets.Group.{PacketsHold, meets}
 use Rattle.quic_headline.proofs.Places.Told.{in_left}
@@ -24,13 +21,14 @@ use Rattle.quic_headline.proofs.Places.Groups.{And, Calls, Group}
 use Rattle.quic_headline.proofs.Places.Coming.{by_coming}
 use Rattle.quic_headline.proofs.Halves.Wrote.{wrote}
 use Rattle.quic_headline.proofs.Halves.Writer.{WritesHold}
-use Rattle.quic_headline.proofs.Halves.Small.{payload_numbers}
-use Rattle.quic_headline.proofs.Halves.KnownIds.{AreWritten, Left, written_arrivals, call_written}
+use Rattle.quic_headline.proofs.Halves.Small.{payload_numbers, IsSmallNumber}
+use Rattle.quic_headline.proofs.Halves.KnownIds.{AreWritten, call_written}
 use Rattle.quic_headline.proofs.Halves.ToldIds.{first_told}
 use Rattle.quic_headline.proofs.Halves.Pile.{resets_of, stops_of}
 use Rattle.quic_headline.proofs.Halves.PileSteps.{HoldsAll, again_all, arrivals_hold}
 use Rattle.quic_headline.proofs.Halves.PileCalls.{step_holds}
 use Rattle.quic_headline.proofs.Halves.PilePolls.{ready_holds}
+use Rattle.quic_headline.proofs.Packets.Delivered.{frames_at, among_at}
 
 -- RESET_STREAM and STOP_SENDING that wait at x, or that its tracked packets carried, are a pile;
 -- and the numbers of the ids of y that it knows can be written
@@ -77,23 +75,10 @@ calls_ready x y call a c ready = by_coming x y a c.joined c.served (meets y x c.
       let w = c.gives.1.writes.keeps in
       (step_holds x.policy x.end y.given call a (wrote x.told) w.holds w.few c.codes c.answer apart ready.peer c.gives.0.ascends ready.all, call_written x.policy x.end y.given call a apart ready.peer));
   none = λ delivery is. (ready.all, ready.peer);
-  comes = λ delivery is s among. comes delivery.now s among;
+  comes = λ delivery is s among here. (
+      let given = (step_of (IsSent y.policy) y.sents y.given s c.takes.0.gives.each among).1 in
+      arrivals_hold x.end delivery.now s.number s.frames (frames_at here s.frames) (came_to x y) (among_at IsSmallNumber tt here s.frames (payload_numbers s.frames given.payload given.spells)) ready.peer ready.all);
 })
-  where
-    comes : (now : ℕ) (s : Sent) → In s y.sents → Arrivals x.end now s.number s.frames (came_to x y) (λ (o : Outcome) (i : Intake). HoldsAll o.end × AreWritten o.end.ids.peer)
-    comes now s among =
-        let given = (step_of (IsSent y.policy) y.sents y.given s c.takes.0.gives.each among).1 in
-        let small : Left s.frames = payload_numbers s.frames given.payload given.spells in
-        let all = arrivals_hold x.end now s.number s.frames (came_to x y) small ready.peer ready.all in
-        let known = written_arrivals x.end now s.number s.frames (came_to x y) small ready.peer in
-        record {
-          ignored = λ reason. (all.ignored reason, known.ignored reason);
-          noted = λ state reason. (all.noted state reason, known.noted state reason);
-          takes = λ words state new none urged mark. (all.takes words state new none urged mark, known.takes words state new none urged mark);
-          drains = λ words state new close is. (all.drains words state new close is, known.drains words state new close is);
-          refuses = λ words state new f is. (all.refuses words state new f is, known.refuses words state new f is);
-          exhausts = λ state. (all.exhausts state, known.exhausts state);
-        }
 
 pub ready_group : Group (And PacketsHold WritesHold) Ready
 ready_group = record {

@@ -37,8 +37,8 @@ use Rattle.quic_headline.proofs.Packets.Owing.{sent_fine}
 use Rattle.quic_headline.proofs.Places.Told.{in_append}
 use Rattle.quic_headline.proofs.Places.Steps.{poll_answer}
 use Rattle.quic_headline.proofs.Packets.Invariant.{IsSent}
-use Rattle.quic_headline.proofs.Packets.Delivered.{Arrivals, arrived}
-use Rattle.quic_headline.proofs.Packets.Named.{TakesOn, frames_settle}
+use Rattle.quic_headline.proofs.Packets.Delivered.{Arrivals, arrived, frames_at as taken_at, among_at}
+use Rattle.quic_headline.proofs.Packets.Named.{TakesOn, frames_settle, NamesTaken}
 use Rattle.quic_headline.proofs.Packets.Group.{PacketsHold, meets}
 use Rattle.quic_headline.proofs.Places.Coming.{by_coming}
 use Rattle.quic_headline.proofs.Places.Groups.{Way, Calls, Group}
@@ -57,6 +57,8 @@ use Rattle.quic_machine.specs.Closing.{ticked}
 use Rattle.quic_headline.proofs.Packets.Apart.{by_waits, by_next_id}
 use Rattle.quic_headline.proofs.Packets.Losses.{Losing, expiry_stays, ready_stays}
 use Rattle.quic_headline.proofs.Packets.Probes.{poll_streams}
+use Rattle.quic_headline.proofs.Packets.Strays.{acks_at}
+use Rattle.quic_headline.proofs.Packets.Moved.{by_migrated}
 
 -- x gives
 pub record WritesHold (x y : Party) : Type 0 where
@@ -175,11 +177,12 @@ module _ (p : Policy) (e : End) (theirs : List (List ℕ)) (done : ℕ → Wrote
 
 module _ (x y : Party) (p : PacketsHold x y) (back : PacketsHold y x) (say : Saying x y) (w : Writes (wrote x.told) (streams_at x.end)) where
   -- what comes leaves
-  arrivals_write : (now : ℕ) (s : Sent) → In s y.sents → Arrivals x.end now s.number s.frames (came_to x y) (λ (o : Outcome) (i : Intake). Writes (wrote x.told) (streams_at o.end))
-  arrivals_write now s among = record {
+  arrivals_write : (now : ℕ) (s : Sent) → In s y.sents → (here : Bool) → Arrivals x.end now s.number s.frames (taken_at here s.frames) (came_to x y) (λ (o : Outcome) (i : Intake). Writes (wrote x.told) (streams_at o.end))
+  arrivals_write now s among here = record {
     ignored = λ reason. w;
     noted = λ state reason. w;
     takes = λ words state new none urged mark. (let a = passed_writes in record { keeps = a.keeps; waits = a.waits });
+    moves = λ q o same remote z opened j. by_migrated (λ (e : End). Writes (wrote x.told) (streams_at e)) q o remote z (λ c. record { keeps = j.keeps; waits = j.waits }) (λ c most. record { keeps = j.keeps; waits = j.waits });
     drains = λ words state new close is. (let a = passed_writes in record { keeps = a.keeps; waits = a.waits });
     refuses = λ words state new f is. (let a = passed_writes in record { keeps = a.keeps; waits = a.waits });
     exhausts = λ state. w;
@@ -188,10 +191,13 @@ module _ (x y : Party) (p : PacketsHold x y) (back : PacketsHold y x) (say : Say
       took : List Packet
       took = (came_to y x).took
 
-      small : (f : FrameValue) → In f s.frames → IsSmallLimit f
-      small f i = let given = (step_of (IsSent y.policy) y.sents y.given s back.gives.each among).1 in payload_small s.frames given.payload given.spells f i
+      taken : List FrameValue
+      taken = taken_at here s.frames
 
-      takes : TakesOn took x.sents s.frames (λ (e : End). Writes (wrote x.told) (streams_at e))
+      small : (f : FrameValue) → In f taken → IsSmallLimit f
+      small = let given = (step_of (IsSent y.policy) y.sents y.given s back.gives.each among).1 in among_at IsSmallLimit tt here s.frames (payload_small s.frames given.payload given.spells)
+
+      takes : TakesOn took x.sents taken (λ (e : End). Writes (wrote x.told) (streams_at e))
       takes = record {
         settles = settles_leave (wrote x.told) took x.sents (taken_says (wrote x.told) x.sents say took p.taken) (sent_says (wrote x.told) x.sents say);
         names = λ a e i j. j;
@@ -200,9 +206,9 @@ module _ (x y : Party) (p : PacketsHold x y) (back : PacketsHold y x) (say : Say
         apart = λ f e i apart j. apart_leaves (λ (g : End). Writes (wrote x.told) (streams_at g)) f e apart (λ c. record { keeps = j.keeps; waits = j.waits }) (λ c most. record { keeps = j.keeps; waits = j.waits });
       }
 
-      passed_writes : Writes (wrote x.told) (streams_at (arrived x.end now s.number s.frames).end)
-      passed_writes = frames_settle took x.sents (record { taken = p.taken; rising = p.gives.rising }) s.frames (λ (e : End). Writes (wrote x.told) (streams_at e)) takes (begun x.end now s.number)
-          (λ a i k named. back.named s a k among i named) p.tracked w
+      passed_writes : Writes (wrote x.told) (streams_at (arrived x.end now s.number taken).end)
+      passed_writes = frames_settle took x.sents (record { taken = p.taken; rising = p.gives.rising }) taken (λ (e : End). Writes (wrote x.told) (streams_at e)) takes (begun x.end now s.number)
+          (acks_at (NamesTaken took) here s.frames (λ a i k named. back.named s a k among i named)) p.tracked w
 
 -- ---- any call
 
@@ -231,8 +237,8 @@ module _ (B : Way) (packets : (x y : Party) → B x y → PacketsHold x y) (x y 
       (by_coming x y a c.joined c.served (meets y x (packets y x c.takes)) (λ (e : End) (i : Intake). Writes (done_by call a done) (streams_at e)) call c.answer (record {
         apart = λ apart. call_writes x.policy x.end y.given done g.writes tracked call a c.answer apart (is_on_streams call) refl;
         none = λ delivery is. subst (λ (k : Call). Writes (done_by k a done) (streams_at x.end)) (sym is) g.writes;
-        comes = λ delivery is s among. subst (λ (k : Call). Arrivals x.end delivery.now s.number s.frames (came_to x y) (λ (o : Outcome) (i : Intake). Writes (done_by k a done) (streams_at o.end))) (sym is)
-            (arrivals_write x y (packets x y c.gives) (packets y x c.takes) g.says g.writes delivery.now s among);
+        comes = λ delivery is s among here. subst (λ (k : Call). Arrivals x.end delivery.now s.number s.frames (taken_at here s.frames) (came_to x y) (λ (o : Outcome) (i : Intake). Writes (done_by k a done) (streams_at o.end))) (sym is)
+            (arrivals_write x y (packets x y c.gives) (packets y x c.takes) g.says g.writes delivery.now s among here);
       }))
 
   -- what was sent says so still

@@ -1,10 +1,11 @@
--- How many bytes an end counts are those that the lists of its run say, where it had counted none
--- before the first event.
-use Rattle.std.proofs.Common.{◌≡◌, ◌⊎◌, ℕ, zero, suc, ◌+◌, ◌*◌, ◌<◌, ◌≤◌, Bool, true, false, List, [], ◌∷◌, ◌++◌, length, take, Option, Some, None, Result, Ok, Err, refl, sym, ap, ◌∙◌, subst, inl, inr, arith}
-use Rattle.std.specs.Prelude.{slice_get, sum_by, if◌then◌else◌}
-use Rattle.std.proofs.lemmas.List.{append-nil}
-use Rattle.std.proofs.lemmas.List.Sums.{sum_by-append, sum_by-cons}
-use Rattle.std.proofs.lemmas.Option.{slice_get_cases, slice_get_within}
+-- How many bytes an end counts on its path are those that the lists of its run say, where it had
+-- counted none before the first event.
+use Rattle.std.proofs.Common.{◌≡◌, ◌⊎◌, ℕ, suc, ◌+◌, ◌*◌, ◌<◌, ◌≤◌, Bool, true, false, List, [], ◌∷◌, ◌++◌, length, take, Option, Some, None, Result, Ok, Err, refl, sym, ap, ◌∙◌, subst, inl, inr, arith}
+use Rattle.std.specs.Prelude.{slice_get, ◌==◌, not, ◌||◌, if◌then◌else◌}
+use Rattle.std.specs.Option.{option_to_list}
+use Rattle.std.proofs.lemmas.Bool.{eq-eqb}
+use Rattle.std.proofs.lemmas.List.{append_assoc}
+use Rattle.std.proofs.lemmas.Option.{slice_get_within}
 use Rattle.quic_wire_core.specs.declared.stream_id.Side.{Side}
 use Rattle.quic_wire_core.specs.declared.stream_id.Side.TheVariants.{Client, Server}
 use Rattle.quic_wire_core.specs.StreamId.{other_side}
@@ -27,31 +28,47 @@ use Rattle.quic_machine.specs.Closing.{ticked}
 use Rattle.quic_machine.specs.Parts.{current_mtu}
 use Rattle.quic_machine.specs.End.{End, with_closing, closed_by}
 use Rattle.quic_machine.specs.Opens.{would_open}
-use Rattle.quic_machine.specs.Heard.{Heard, nothing_heard, counted, is_key_limit, heard_failure, heard_answer, heard_received, heard_datagram}
-use Rattle.quic_machine.specs.Poll.{Polled, datagram_of, draft_as, polled}
+use Rattle.quic_machine.specs.Heard.{Heard, nothing_heard, is_key_limit, heard_failure, heard_answer, heard_anew, received_if, heard_datagram}
+use Rattle.quic_machine.specs.Migration.{is_there, has_moved}
+use Rattle.quic_machine.specs.Poll.{Polled, mark_of, gives_datagram, datagram_of, draft_as, after_close, polled}
 use Rattle.quic_machine.specs.Poll as poll
 use Rattle.quic_machine.specs.Receive.{received}
 use Rattle.quic_machine.specs.Arrival.{injected_by}
-use Rattle.quic_machine.specs.PollCases.{ready_at, draft_at, given_as, gives_as, by_poll_to}
-use Rattle.quic_machine.specs.Machine.{World, IsStep, IsHeard, IsDelivered, IsAnswer, injected_if, says_last, heard_by, heard_delivery, gives, fails, end_at, given_by, heard_at, policy_at, end_met, view_of}
-use Rattle.quic_machine.specs.RunLaws.{as_many_views, one_run}
-use Rattle.quic_headline.specs.Runs.{Run, Told, size_of, bytes_in_call, bytes_handed, bytes_given, given_of, given_until, same_side, told_by, until, state_at, LeadsTo, AreServed}
+use Rattle.quic_machine.specs.PollCases.{at_poll, after_draft, by_poll}
+use Rattle.quic_machine.specs.CallCases.{is_delivery}
+use Rattle.quic_machine.specs.Machine.{World, IsStep, IsHeard, IsDelivered, IsAnswer, injected_if, says_last, heard_by, heard_delivery, gives, gave, end_at, given_by, heard_at, policy_at, end_met, view_of}
+use Rattle.quic_machine.specs.RunLaws.{one_run}
+use Rattle.quic_headline.specs.Runs.{Run, Told, Packet, Intake, size_of, handed, and_handed, and_told, bytes_in_call, folded, given_of, same_side, until, state_at, LeadsTo, AreServed}
+use Rattle.quic_headline.specs.Observer.{Route, route_behind, Watch, Lens, news, has_opened, moment_of, clock_behind, is_timely, watch_sent, watch_given, watch_moment, watch_came, watch_moved, watch_told, watch_from, watch, lens_of, has_changed, path_changes}
+use Rattle.quic_headline.specs.Allowance.{Allowance, is_from, first_size, allowance_told, no_allowance, allowance, bytes_handed, bytes_given}
 use Rattle.quic_headline.specs.Headline.{IsHonest, IsRun}
 use Rattle.quic_headline.specs.Polls.{end_in, mtu_in, GaveNothing, IsLimited, IsMade}
 use Rattle.quic_headline.proofs.Packets.Closes.{by_closes}
 use Rattle.quic_headline.proofs.Packets.Growth.{get_front}
-use Rattle.quic_headline.proofs.Packets.Group.{PacketsHold}
+use Rattle.quic_headline.proofs.Packets.Intakes.{folded_more, nothing_handed}
+use Rattle.quic_headline.proofs.Packets.Watching.{none_new}
 use Rattle.quic_headline.proofs.Places.Moments.{told_none}
 use Rattle.quic_headline.proofs.Places.Parties.{told_of}
-use Rattle.quic_headline.proofs.Places.Steps.{poll_answer}
-use Rattle.quic_headline.proofs.Places.Placed.{Placed, shown}
-use Rattle.quic_headline.proofs.Places.Openings.{given_here}
-use Rattle.quic_headline.proofs.Held.Behind.{IsBlocked, last_step, mtu_at}
-use Rattle.quic_headline.proofs.Rest.Between.{side_is}
-use Rattle.quic_headline.proofs.Sizes.Moves.{did_there}
-use Rattle.quic_headline.proofs.Steps.Made.{made_served, served_before, told_next, told_here}
+use Rattle.quic_headline.proofs.Places.Steps.{poll_answer, only_polls_give}
+use Rattle.quic_headline.proofs.Places.Placed.{Placed, shown, watch_is}
+use Rattle.quic_headline.proofs.Moves.Route.{routed_at, changes_at}
+use Rattle.quic_headline.proofs.Timers.Watched.{Observed}
+use Rattle.quic_headline.proofs.Held.Behind.{IsBlocked, mtu_at}
+use Rattle.quic_headline.proofs.Steps.Made.{made_served, served_before}
+use Rattle.quic_headline.proofs.Steps.Along.{own_told, along}
 
--- ---- one call
+-- ---- what is counted by a call
+
+-- how many bytes came on a path behind so many more, which come from there or from elsewhere, on
+-- another path or on the same
+abbrev pub came_behind : Bool → Bool → ℕ → ℕ → ℕ
+came_behind changed from size came = if changed then size else came + (if from then size else 0)
+
+-- and how many went, where so many more go or don't
+abbrev pub went_behind : Bool → Bool → ℕ → ℕ → ℕ
+went_behind changed gives size went = if changed then 0 else went + (if gives then size else 0)
+
+-- ---- a datagram that comes
 
 -- what a datagram came to counts no bytes
 answer_received : (r : Received) (h : Heard) → (heard_answer r h).received ≡ h.received
@@ -78,94 +95,245 @@ delivery_answers p e delivery None a is = inl is
 delivery_answers p e delivery (Some d) a (inl is) = inr (_, is)
 delivery_answers p e delivery (Some d) a (inr is) = inr (_, is)
 
-module _ (p : Policy) (e : End) (theirs rest final : List (List ℕ)) (front : theirs ++ rest ≡ final) (h : Heard) where
-  -- what an injection came to
-  abbrev handed_in : Bool → Injection → Received
-  handed_in is_last injection = (received p e (injected_by is_last injection) injection.bytes).answer
+-- what a datagram counts by where it came from, and whether it made another path
+module _ (h : Heard) (came went : ℕ) (was : h.received ≡ saturated came) (gone : h.sent ≡ saturated went) where
+  counts_received : (here new : Bool) (d : List ℕ) (r : Received) → (heard_datagram here new d r h).received ≡ saturated (came_behind new here (length d) came)
+  counts_received here new d r = answer_received r (received_if (here || new) (length d) (heard_anew new h)) ∙ go here new
+    where
+      go : (a b : Bool) → (received_if (a || b) (length d) (heard_anew b h)).received ≡ saturated (came_behind b a (length d) came)
+      go true true = omega arith
+      go false true = omega arith
+      go true false = omega (arith, was)
+      go false false = omega (arith, was)
 
-  module _ (sum : ℕ) (was : h.received ≡ saturated sum) where
-    -- so many more bytes came
-    more_received : (n : ℕ) → counted h.received n ≡ saturated (sum + n)
-    more_received n = omega (arith, was)
+  counts_sent : (here new : Bool) (d : List ℕ) (r : Received) → (heard_datagram here new d r h).sent ≡ saturated (went_behind new false 0 went)
+  counts_sent here new d r = answer_sent r (received_if (here || new) (length d) (heard_anew new h)) ∙ go here new
+    where
+      go : (a b : Bool) → (received_if (a || b) (length d) (heard_anew b h)).sent ≡ saturated (went_behind b false 0 went)
+      go true true = omega arith
+      go false true = omega arith
+      go true false = omega (arith, gone)
+      go false false = omega (arith, gone)
 
-    none_received : h.received ≡ saturated (sum + 0)
-    none_received = omega (arith, was)
+-- no bytes are none, from wherever they come
+none_came : (from : Bool) (came : ℕ) → came_behind false from 0 came ≡ came
+none_came true came = omega arith
+none_came false came = omega arith
 
-    abbrev pub Counts : Call → Answer → Type 0
-    Counts call a = (heard_by theirs call a h).received ≡ saturated (sum + bytes_in_call final call a)
+-- ---- what a poll gives
 
-    delivered_counts : (delivery : Delivery) (r : Received) → IsDelivered p e delivery (slice_get theirs delivery.index) (answers.Deliver r) → Counts (calls.Deliver delivery) (answers.Deliver r)
-    delivered_counts delivery r is = go (slice_get theirs delivery.index) refl is
-      where
-        go : (o : Option (List ℕ)) → slice_get theirs delivery.index ≡ o → IsDelivered p e delivery o (answers.Deliver r) → (heard_delivery o r h).received ≡ saturated (sum + size_of (slice_get final delivery.index))
-        go None there none = cc
-        go (Some d) there came =
-            let at : slice_get final delivery.index ≡ Some d = subst (λ (ds : List (List ℕ)). slice_get ds delivery.index ≡ Some d) front (get_front theirs rest delivery.index d there) in
-            subst (λ (o : Option (List ℕ)). (heard_datagram d r h).received ≡ saturated (sum + size_of o)) (sym at) (answer_received r (heard_received (length d) h) ∙ more_received (length d))
+-- A poll gives this datagram, of as many bytes as its answer says.
+pub record GivesThis (q : Polled) (t : Transmit) : Type 0 where
+  pub given : List ℕ
+  pub is : q.datagram ≡ Some given
+  pub size : length given ≡ t.size
 
-    polled_counts : (now : ℕ) (r : Result (Option Transmit) Failed) → Counts (calls.Poll now) (answers.Poll r)
-    polled_counts now (Ok None) = none_received
-    polled_counts now (Ok (Some t)) = none_received
-    polled_counts now (Err f) = none_received
+said_size : (d : List ℕ) (x : End) (t : Transmit) → (gives_datagram d x).answer ≡ Ok (Some t) → GivesThis (gives_datagram d x) t
+said_size d x t is =
+    let same : record { size = length d; ecn = mark_of x.path.marking; remote = x.path.remote } ≡ t = cc in
+    record { given = d; is = refl; size = ap (λ (u : Transmit). u.size) same }
 
-    injected_counts : (injection : Injection) (b is_last : Bool) → Counts (calls.Inject injection) (injected_if b is_last p e injection)
-    injected_counts injection true is_last = none_received
-    injected_counts injection false is_last = answer_received (handed_in is_last injection) (heard_received (length injection.bytes) h) ∙ more_received (length injection.bytes)
+pub gives_this : (p : Policy) (e : End) (now : ℕ) (t : Transmit) → (polled p e now).answer ≡ Ok (Some t) → GivesThis (polled p e now) t
+gives_this p e now t = by_poll p e now Of (record {
+  silent = λ is. cc;
+  failed = λ is. cc;
+  nothing = λ c is. cc;
+  repeats = λ state. close (with_closing e (ticked e.closing now));
+  closes = λ reason c bound. close (closed_by reason (at_poll e now c));
+  gives = λ leaving c left state bound ready some is. said_size (datagram_of p (draft_as leaving (at_poll e now c))) (after_draft p (draft_as leaving (at_poll e now c)) left) t is;
+})
+  where
+    Of : Polled → Type 0
+    Of q = q.answer ≡ Ok (Some t) → GivesThis q t
 
-    -- a call counts the bytes that it hands in
-    pub call_received : (call : Call) (a : Answer) → IsAnswer p e theirs call a → Counts call a
-    call_received (calls.Deliver delivery) a is = elim (delivery_answers p e delivery (slice_get theirs delivery.index) a is) [
-      | inl none ↦ subst (Counts (calls.Deliver delivery)) (sym none) none_received
-      | inr came ↦ subst (Counts (calls.Deliver delivery)) (sym came.1) (delivered_counts delivery came.0 (subst (IsDelivered p e delivery (slice_get theirs delivery.index)) came.1 is))
-    ]
-    call_received (calls.Inject injection) a is = subst (Counts (calls.Inject injection)) (sym is) (injected_counts injection (would_open p e injection.remote injection.bytes) (says_last a))
-    call_received (calls.Poll now) a (inl is) = subst (Counts (calls.Poll now)) (sym is) (polled_counts now (polled p e now).answer)
-    call_received (calls.Poll now) a (inr is) = subst (Counts (calls.Poll now)) (sym is) (polled_counts now (Err (record {})))
-    call_received call a is = none_received
+    -- the close of an end that closes, or is closing
+    close : (x : End) → Of (poll.closes p x)
+    close x = by_closes p x Of (λ is. cc) (λ f goes is. said_size (datagram_of p (draft_as (poll.closing f) x)) (after_close p (draft_as (poll.closing f) x)) t is)
 
-  module _ (sum : ℕ) (was : h.sent ≡ saturated sum) where
-    abbrev pub Gives : Call → Answer → Type 0
-    Gives call a = (heard_by theirs call a h).sent ≡ saturated (sum + sum_by length (gives p e call a))
+-- the first of what is given so has so many bytes
+pub first_given : (o : Option (List ℕ)) (d : List ℕ) (rest : List (List ℕ)) → o ≡ Some d → first_size (option_to_list o ++ rest) ≡ length d
+first_given o d rest is = ap (λ (x : Option (List ℕ)). first_size (option_to_list x ++ rest)) is
 
-    -- what a poll gives
-    abbrev Goes : ℕ → Polled → Type 0
-    Goes now q = (heard_by theirs (calls.Poll now) (answers.Poll q.answer) h).sent ≡ saturated (sum + sum_by length (given_as q.answer q.datagram))
+-- ---- a call
 
-    none_given : (n : ℕ) → n ≡ h.sent → n ≡ saturated (sum + 0)
-    none_given n same = omega (arith, was, same)
+-- whether what a call hands in comes from where an end has its peer
+abbrev pub from_there : End → Call → Bool
+from_there e (calls.Deliver delivery) = is_there delivery.remote e
+from_there e (calls.Inject injection) = is_there injection.remote e
+from_there e call = false
 
-    one_given : (d : List ℕ) → counted h.sent (length d) ≡ saturated (sum + sum_by length (d ∷ []))
-    one_given d = (let one = sum_by-cons length d [] in omega (arith, was, one))
+-- A call at an end, behind which it is another, where the other gave these datagrams, and a call
+-- counts as from where the peer is or doesn't; of its own the end gives one of so many bytes, if it
+-- gives one.
+module _ (p : Policy) (e before after : End) (theirs rest final : List (List ℕ)) (front : theirs ++ rest ≡ final) (h : Heard) (came went n : ℕ) (was : h.received ≡ saturated came) (gone : h.sent ≡ saturated went) where
+  abbrev pub CountsOn : Bool → Call → Answer → Type 0
+  CountsOn changed call a =
+      ((heard_by before after theirs call a h).received ≡ saturated (came_behind changed (from_there before call) (bytes_in_call final call a) came))
+      × ((heard_by before after theirs call a h).sent ≡ saturated (went_behind changed (gave a) n went))
 
-    polled_goes : (now : ℕ) → Goes now (polled p e now)
-    polled_goes now = by_poll_to p e now (Goes now) (record {
-      silent = none_given h.sent refl;
-      failed = none_given h.sent refl;
-      nothing = λ is none. none_given h.sent refl;
-      repeats = λ is. by_closes p (with_closing e (ticked e.closing now)) (Goes now) (none_given h.sent refl) (λ f goes. one_given (datagram_of p (draft_as (poll.closing f) (with_closing e (ticked e.closing now)))));
-      closes = λ reason bound. by_closes p (closed_by reason (ready_at e now).end) (Goes now) (none_given h.sent refl) (λ f goes. one_given (datagram_of p (draft_as (poll.closing f) (closed_by reason (ready_at e now).end))));
-      gives = λ is may some. one_given (datagram_of p (draft_at e now));
-    })
+  -- what is counted by the call
+  abbrev pub Counts : Call → Answer → Type 0
+  Counts call a = CountsOn (has_moved before after) call a
 
-    delivered_given : (delivery : Delivery) (o : Option (List ℕ)) (r : Received) → (heard_delivery o r h).sent ≡ h.sent
-    delivered_given delivery None r = refl
-    delivered_given delivery (Some d) r = answer_sent r (heard_received (length d) h)
+  -- a call that counts nothing, where the path stays
+  none_counted : (call : Call) (a : Answer) → heard_by before after theirs call a h ≡ h → bytes_in_call final call a ≡ 0 → gave a ≡ false → has_moved before after ≡ false → Counts call a
+  none_counted call a same none silent still = subst (λ (b : Bool). CountsOn b call a) (sym still) (
+    ap (λ (x : Heard). x.received) same ∙ was ∙ ap saturated (sym (ap (λ (k : ℕ). came_behind false (from_there before call) k came) none ∙ none_came (from_there before call) came)),
+    ap (λ (x : Heard). x.sent) same ∙ gone ∙ ap saturated (sym (ap (λ (b : Bool). went_behind false b n went) silent ∙ none_went)),
+  )
+    where
+      none_went : went_behind false false n went ≡ went
+      none_went = omega arith
 
-    injected_given : (injection : Injection) (b is_last : Bool) → Gives (calls.Inject injection) (injected_if b is_last p e injection)
-    injected_given injection true is_last = none_given h.sent refl
-    injected_given injection false is_last = none_given (heard_answer (handed_in is_last injection) (heard_received (length injection.bytes) h)).sent (answer_sent (handed_in is_last injection) (heard_received (length injection.bytes) h))
+  delivered_counts : (delivery : Delivery) (r : Received) → IsDelivered p e delivery (slice_get theirs delivery.index) (answers.Deliver r) → Counts (calls.Deliver delivery) (answers.Deliver r)
+  delivered_counts delivery r is = go (slice_get theirs delivery.index) refl is
+    where
+      new : Bool
+      new = has_moved before after
 
-    -- and those that it gives
-    pub call_sent : (call : Call) (a : Answer) → IsAnswer p e theirs call a → fails a ≡ false → Gives call a
-    call_sent (calls.Deliver delivery) a is served = elim (delivery_answers p e delivery (slice_get theirs delivery.index) a is) [
-      | inl none ↦ subst (Gives (calls.Deliver delivery)) (sym none) (none_given h.sent refl)
-      | inr came ↦ subst (Gives (calls.Deliver delivery)) (sym came.1) (none_given (heard_delivery (slice_get theirs delivery.index) came.0 h).sent (delivered_given delivery (slice_get theirs delivery.index) came.0))
-    ]
-    call_sent (calls.Inject injection) a is served = subst (Gives (calls.Inject injection)) (sym is) (injected_given injection (would_open p e injection.remote injection.bytes) (says_last a))
-    call_sent (calls.Poll now) a is served =
-        subst (Gives (calls.Poll now)) (sym (poll_answer p e now a is served))
-        (subst (λ (ds : List (List ℕ)). (heard_by theirs (calls.Poll now) (answers.Poll (polled p e now).answer) h).sent ≡ saturated (sum + sum_by length ds)) (sym (gives_as p e now (polled p e now).answer)) (polled_goes now))
-    call_sent call a is served = none_given h.sent refl
+      Of : Option (List ℕ) → Type 0
+      Of o = ((heard_delivery before after delivery.remote o r h).received ≡ saturated (came_behind new (is_there delivery.remote before) (size_of (slice_get final delivery.index)) came))
+          × ((heard_delivery before after delivery.remote o r h).sent ≡ saturated (went_behind new false n went))
+
+      same_went : (b : Bool) → went_behind b false 0 went ≡ went_behind b false n went
+      same_went true = refl
+      same_went false = refl
+
+      go : (o : Option (List ℕ)) → slice_get theirs delivery.index ≡ o → IsDelivered p e delivery o (answers.Deliver r) → Of o
+      go None there none = cc
+      go (Some d) there came_here =
+          let at : slice_get final delivery.index ≡ Some d = subst (λ (ds : List (List ℕ)). slice_get ds delivery.index ≡ Some d) front (get_front theirs rest delivery.index d there) in (
+            counts_received h came went was gone (is_there delivery.remote before) new d r ∙ ap (λ (o : Option (List ℕ)). saturated (came_behind new (is_there delivery.remote before) (size_of o) came)) (sym at),
+            counts_sent h came went was gone (is_there delivery.remote before) new d r ∙ ap saturated (same_went new),
+          )
+
+  injected_counts : (injection : Injection) (b is_last : Bool) → has_moved before after ≡ false → Counts (calls.Inject injection) (injected_if b is_last p e injection)
+  injected_counts injection true is_last still = none_counted (calls.Inject injection) (injected_if true is_last p e injection) refl refl refl still
+  injected_counts injection false is_last still =
+      let r : Received = (received p e (injected_by is_last injection) injection.bytes).answer in
+      subst (λ (b : Bool). CountsOn b (calls.Inject injection) (answers.Inject r)) (sym still) (
+        counts_received h came went was gone (is_there injection.remote before) false injection.bytes r,
+        counts_sent h came went was gone (is_there injection.remote before) false injection.bytes r ∙ ap saturated (omega arith),
+      )
+
+  polled_counts : (now : ℕ) (r : Result (Option Transmit) Failed) → ((t : Transmit) → r ≡ Ok (Some t) → n ≡ t.size) → has_moved before after ≡ false → Counts (calls.Poll now) (answers.Poll r)
+  polled_counts now (Ok None) size still = none_counted (calls.Poll now) (answers.Poll (Ok None)) refl refl refl still
+  polled_counts now (Err f) size still = none_counted (calls.Poll now) (answers.Poll (Err f)) refl refl refl still
+  polled_counts now (Ok (Some t)) size still =
+      let same : n ≡ t.size = size t refl in
+      subst (λ (b : Bool). CountsOn b (calls.Poll now) (answers.Poll (Ok (Some t)))) (sym still) (omega (arith, was), omega (arith, gone, same))
+
+  -- where only a delivery of a datagram leads to another path
+  pub call_counts : (call : Call) (a : Answer) → IsAnswer p e theirs call a → ((is_delivery call ≡ false) ⊎ (a ≡ answers.NoDatagram) → has_moved before after ≡ false) → ((now : ℕ) (t : Transmit) → call ≡ calls.Poll now → a ≡ answers.Poll (Ok (Some t)) → n ≡ t.size) → Counts call a
+  call_counts (calls.Deliver delivery) a is still size = elim (delivery_answers p e delivery (slice_get theirs delivery.index) a is) [
+    | inl none ↦ subst (Counts (calls.Deliver delivery)) (sym none) (none_counted (calls.Deliver delivery) answers.NoDatagram refl refl refl (still (inr none)))
+    | inr came_here ↦ subst (Counts (calls.Deliver delivery)) (sym came_here.1) (delivered_counts delivery came_here.0 (subst (IsDelivered p e delivery (slice_get theirs delivery.index)) came_here.1 is))
+  ]
+  call_counts (calls.Inject injection) a is still size = subst (Counts (calls.Inject injection)) (sym is) (injected_counts injection (would_open p e injection.remote injection.bytes) (says_last a) (still (inl refl)))
+  call_counts (calls.Poll now) a (inl is) still size = subst (Counts (calls.Poll now)) (sym is) (polled_counts now (polled p e now).answer (λ t said. size now t refl (is ∙ ap answers.Poll said)) (still (inl refl)))
+  call_counts (calls.Poll now) a (inr is) still size = subst (Counts (calls.Poll now)) (sym is) (polled_counts now (Err (record {})) (λ t said. cc) (still (inl refl)))
+  call_counts call a is still size = none_counted call a refl refl (only_polls_give p e theirs call a refl is) (still (inl refl))
+
+-- ---- what the lists count
+
+-- what counts knows what the observer does
+allowance_watch : (l : Lens) (told : List Told) (a : Allowance) → (folded (allowance_told l) told a).watch ≡ folded (watch_told l) told a.watch
+allowance_watch l [] a = refl
+allowance_watch l (t ∷ told) a = allowance_watch l told (allowance_told l t a) ∙ ap (λ (w : Watch). folded (watch_told l) told w) (go (has_changed a.watch (watch_told l t a.watch)))
+  where
+    after : Watch
+    after = watch_told l t a.watch
+
+    behind : Bool → Allowance
+    behind b =
+        if b then record { watch = after; came = bytes_in_call l.peer_gave t.call t.answer; went = 0 }
+        else record {
+          watch = after;
+          came = a.came + (if is_from a.watch.route t.call then bytes_in_call l.peer_gave t.call t.answer else 0);
+          went = a.went + (if gave t.answer then first_size a.watch.left else 0);
+        }
+
+    go : (b : Bool) → (behind b).watch ≡ after
+    go true = refl
+    go false = refl
+
+-- what one call more counts
+told_came : (l : Lens) (t : Told) (a : Allowance) → (allowance_told l t a).came ≡ came_behind (has_changed a.watch (watch_told l t a.watch)) (is_from a.watch.route t.call) (bytes_in_call l.peer_gave t.call t.answer) a.came
+told_came l t a = go (has_changed a.watch (watch_told l t a.watch))
+  where
+    behind : Bool → Allowance
+    behind b =
+        if b then record { watch = watch_told l t a.watch; came = bytes_in_call l.peer_gave t.call t.answer; went = 0 }
+        else record {
+          watch = watch_told l t a.watch;
+          came = a.came + (if is_from a.watch.route t.call then bytes_in_call l.peer_gave t.call t.answer else 0);
+          went = a.went + (if gave t.answer then first_size a.watch.left else 0);
+        }
+
+    go : (b : Bool) → (behind b).came ≡ came_behind b (is_from a.watch.route t.call) (bytes_in_call l.peer_gave t.call t.answer) a.came
+    go true = refl
+    go false = refl
+
+told_went : (l : Lens) (t : Told) (a : Allowance) → (allowance_told l t a).went ≡ went_behind (has_changed a.watch (watch_told l t a.watch)) (gave t.answer) (first_size a.watch.left) a.went
+told_went l t a = go (has_changed a.watch (watch_told l t a.watch))
+  where
+    behind : Bool → Allowance
+    behind b =
+        if b then record { watch = watch_told l t a.watch; came = bytes_in_call l.peer_gave t.call t.answer; went = 0 }
+        else record {
+          watch = watch_told l t a.watch;
+          came = a.came + (if is_from a.watch.route t.call then bytes_in_call l.peer_gave t.call t.answer else 0);
+          went = a.went + (if gave t.answer then first_size a.watch.left else 0);
+        }
+
+    go : (b : Bool) → (behind b).went ≡ went_behind b (gave t.answer) (first_size a.watch.left) a.went
+    go true = refl
+    go false = refl
+
+-- where the peer is stays where nothing comes
+sent_route : (taker : Policy) (ds : List (List ℕ)) (w : Watch) → (watch_sent taker ds w).route ≡ w.route
+sent_route taker [] w = refl
+sent_route taker (d ∷ ds) w = refl
+
+given_route : (gives timely : Bool) (l : Lens) (w : Watch) → (watch_given gives l (watch_moment timely l.terms w)).route ≡ w.route
+given_route true true l w = sent_route l.taker w.left (watch_moment true l.terms w)
+given_route true false l w = sent_route l.taker w.left w
+given_route false true l w = refl
+given_route false false l w = refl
+
+none_moves : (serves : Bool) (took : List Packet) (call : Call) (r : Route) → route_behind serves took [] call r ≡ r
+none_moves true took call r = refl
+none_moves false took call r = refl
+
+apart_moves : (serves : Bool) (took came : List Packet) (call : Call) (r : Route) → is_delivery call ≡ false → route_behind serves took came call r ≡ r
+apart_moves false took came call r apart = refl
+apart_moves true took [] call r apart = refl
+apart_moves true took (n ∷ ns) (calls.Deliver delivery) r apart = cc
+apart_moves true took (n ∷ ns) call r apart = refl
+
+nothing_there : (given : List (List ℕ)) (call : Call) (a : Answer) → a ≡ answers.NoDatagram → handed given call a ≡ None
+nothing_there given (calls.Deliver delivery) a none = ap (λ (b : Answer). handed given (calls.Deliver delivery) b) none
+nothing_there given call a none = refl
+
+quiet_told : (l : Lens) (t : Told) (w : Watch) → (is_delivery t.call ≡ false) ⊎ (t.answer ≡ answers.NoDatagram) → (watch_told l t w).route ≡ w.route
+quiet_told l t w quiet = given_route (gave t.answer) (is_timely t.state t.call) l (watch_came l.terms after (clock_behind w.clock (moment_of t.state (has_opened w.intake after) t.call)) (watch_moved l.serves after t.call w)) ∙ go quiet
+  where
+    after : Intake
+    after = and_told l.own l.peer_gave t w.intake
+
+    go : (is_delivery t.call ≡ false) ⊎ (t.answer ≡ answers.NoDatagram) → route_behind l.serves w.intake.took (news w.intake after) t.call w.route ≡ w.route
+    go (inl apart) = apart_moves l.serves w.intake.took (news w.intake after) t.call w.route apart
+    go (inr none) =
+        let same : after ≡ w.intake = ap (λ (o : Option (List ℕ)). and_handed t.state o l.own t.answer w.intake) (nothing_there l.peer_gave t.call t.answer none) ∙ nothing_handed t.state l.own t.answer w.intake in
+        ap (λ (j : Intake). route_behind l.serves w.intake.took (news w.intake j) t.call w.route) same
+        ∙ ap (λ (ps : List Packet). route_behind l.serves w.intake.took ps t.call w.route) (none_new w.intake)
+        ∙ none_moves l.serves w.intake.took t.call w.route
+
+-- what comes from where the observer has the peer comes from where its end has it
+pub from_same : (route : Route) (e : End) (call : Call) → route.address ≡ e.path.remote → is_from route call ≡ from_there e call
+from_same route e (calls.Deliver delivery) same = ap (λ (n : ℕ). delivery.remote == n) same
+from_same route e (calls.Inject injection) same = ap (λ (n : ℕ). injection.remote == n) same
+from_same route e call same = refl
 
 -- ---- at each place
 
@@ -176,25 +344,31 @@ limit_stays came counted_came given counted_given size mtu received sent same fu
 limit_back : (came counted_came given counted_given size mtu : ℕ) → counted_came ≡ saturated came → counted_given ≡ saturated given → mtu ≡ size → 0 < size → saturated (3 * came) < given + mtu → saturated (3 * counted_came) < counted_given + size
 limit_back came counted_came given counted_given size mtu received sent same some full = omega (arith, received, sent, same, some, full)
 
-module _ (r : Run) (end : World) (honest : IsHonest r) (run : IsRun r end) (all : (by : Side) (i : ℕ) → AreServed r i → Placed PacketsHold r end by i) (side : Side) (nothing : heard_at side r.start ≡ nothing_heard) where
+module _ (r : Run) (end : World) (honest : IsHonest r) (run : IsRun r end) (all : (by : Side) (i : ℕ) → AreServed r i → Placed Observed r end by i) (side : Side) (nothing : heard_at side r.start ≡ nothing_heard) where
   -- it counted what its lists say
   pub record Counted (i : ℕ) (w : World) : Type 0 where
     pub received : (heard_at side w).received ≡ saturated (bytes_handed r side i)
-    pub sent : (heard_at side w).sent ≡ saturated (sum_by length (given_by side w))
+    pub sent : (heard_at side w).sent ≡ saturated (bytes_given r side i)
 
-  -- how many bytes a call hands in
-  abbrev pub handed_by : Told → ℕ
-  handed_by t = bytes_in_call (given_of r (other_side side)) t.call t.answer
+  abbrev l : Lens
+  l = lens_of r side
 
-  pub gave_none : (by : Side) → given_by by r.start ≡ []
-  gave_none Client = honest.start.client_gave
-  gave_none Server = honest.start.server_gave
+  -- what counts by these calls
+  abbrev pub counting : List Told → Allowance
+  counting told = folded (allowance_told l) told (no_allowance (watch_from (end_at side r.start) (given_of r side)))
+
+  none_told : until r side 0 ≡ []
+  none_told = told_none side r.events r.views (end_at side r.start).closing.state
 
   first_counted : Counted 0 r.start
   first_counted = record {
-    received = ap (λ (h : Heard). h.received) nothing ∙ ap (λ (ts : List Told). saturated (sum_by handed_by ts)) (sym (told_none side r.events r.views (end_at side r.start).closing.state));
-    sent = ap (λ (h : Heard). h.sent) nothing ∙ ap (λ (ds : List (List ℕ)). saturated (sum_by length ds)) (sym (gave_none side));
+    received = ap (λ (h : Heard). h.received) nothing ∙ ap (λ (ts : List Told). saturated (counting ts).came) (sym none_told);
+    sent = ap (λ (h : Heard). h.sent) nothing ∙ ap (λ (ts : List Told). saturated (counting ts).went) (sym none_told);
   }
+
+  -- nothing went before the first call
+  pub none_given : bytes_given r side 0 ≡ 0
+  none_given = ap (λ (ts : List Told). (counting ts).went) none_told
 
   -- one world behind the first so many answers
   pub there : (i : ℕ) (w : World) (served : AreServed r i) → LeadsTo r i w → (all side i served).world ≡ w
@@ -224,80 +398,120 @@ module _ (r : Run) (end : World) (honest : IsHonest r) (run : IsRun r end) (all 
       go Client w next call a s = ap (λ (v : World). v.from_client) s.others
       go Server w next call a s = ap (λ (v : World). v.from_server) s.others
 
-  -- one event more
-  module _ (i : ℕ) (event : RunEvent) (a : Answer) (w next : World) (at_event : slice_get r.events i ≡ Some event) (at_answer : slice_get r.answers i ≡ Some a)
-      (step : IsStep r.keys w event a next) (before : Counted i w) where
-    told : until r side (suc i) ≡ until r side i ++ told_by side (state_at r side i) event a
-    told = told_next side (end_at side r.start).closing.state i r.events r.answers r.views event a at_event at_answer (as_many_views r.keys r.start end r.events r.answers r.views run.follows)
+  -- ---- one event more
 
-    other_counts : same_side event.side side ≡ false → Counted (suc i) next
-    other_counts other =
-        let same = other_heard event.side w next event.call a other step in
-        let none : told_by side (state_at r side i) event a ≡ [] = ap (λ (b : Bool). if b then record { call = event.call; answer = a; state = state_at r side i } ∷ [] else []) other in
+  other_counts : (i : ℕ) (event : RunEvent) (a : Answer) (w next : World) → slice_get r.events i ≡ Some event → same_side event.side side ≡ false → IsStep r.keys w event a next → until r side (suc i) ≡ until r side i → Counted i w → Counted (suc i) next
+  other_counts i event a w next at other step told before =
+      let same = other_heard event.side w next event.call a other step in
+      record {
+        received = ap (λ (h : Heard). h.received) same.0 ∙ before.received ∙ ap (λ (ts : List Told). saturated (counting ts).came) (sym told);
+        sent = ap (λ (h : Heard). h.sent) same.0 ∙ before.sent ∙ ap (λ (ts : List Told). saturated (counting ts).went) (sym told);
+      }
+
+  -- a call of its own
+  module _ (i : ℕ) (call : Call) (a : Answer) (w next : World) (m : IsMade r i side call a w next) (leads : LeadsTo r (suc i) next) where
+    abbrev p : Policy
+    p = policy_at side r.keys
+
+    abbrev e : End
+    e = end_met w (record { side = side; call = call })
+
+    abbrev here : End
+    here = end_at side w
+
+    abbrev behind : End
+    behind = end_at side next
+
+    abbrev t : Told
+    t = told_of call a (state_at r side i)
+
+    served : AreServed r i
+    served = served_before r.answers i m.served
+
+    told : until r side (suc i) ≡ until r side i ++ t ∷ []
+    told = own_told r end run side i call a w next m
+
+    -- what the observer knows before it, and behind it
+    abbrev seen : Watch
+    seen = watch r side i
+
+    seen_next : watch r side (suc i) ≡ watch_told l t seen
+    seen_next = ap (λ (ts : List Told). folded (watch_told l) ts (watch_from (end_at side r.start) (given_of r side))) told ∙ folded_more (watch_told l) (until r side i) t (watch_from (end_at side r.start) (given_of r side))
+
+    seen_within : (allowance r side i).watch ≡ seen
+    seen_within = allowance_watch l (until r side i) (no_allowance (watch_from (end_at side r.start) (given_of r side)))
+
+    -- whether the path changes
+    pub changes : path_changes r side i ≡ has_moved here behind
+    changes = changes_at r end honest run side i w next m.served m.leads leads
+
+    -- it does only by a datagram that comes
+    stays : (is_delivery call ≡ false) ⊎ (a ≡ answers.NoDatagram) → has_moved here behind ≡ false
+    stays quiet =
+        sym changes
+        ∙ ap (λ (v : Watch). has_changed seen v) seen_next
+        ∙ ap (λ (g : ℕ). not (g == seen.route.generation)) (ap (λ (x : Route). x.generation) (quiet_told l t seen quiet))
+        ∙ ap not (eq-eqb seen.route.generation seen.route.generation refl)
+
+    -- what the observer waits for is what goes next
+    gives_next : (rest : List (List ℕ)) × (seen.left ≡ gives p e call a ++ rest)
+    gives_next =
+        let at = all side i served in
+        let more = (all side (suc i) m.served).joined.x_more in
+        let whole : given_by side next ++ more.0 ≡ given_of r side = subst (λ (v : World). given_by side v ++ more.0 ≡ given_of r side) (there (suc i) next m.served leads) more.1 in
+        let parts : given_by side w ++ (gives p e call a ++ more.0) ≡ given_of r side = sym (append_assoc (given_by side w) (gives p e call a) more.0) ∙ ap (λ (ds : List (List ℕ)). ds ++ more.0) (sym (own_given w next call a m.step)) ∙ whole in
+        (more.0, ap (λ (v : Watch). v.left) (watch_is r honest at.world i side at.sents at.theirs) ∙ at.gives.1.left (gives p e call a ++ more.0) (ap (λ (v : World). given_by side v ++ (gives p e call a ++ more.0)) (there i w served m.leads) ∙ parts))
+
+    -- a poll gives as many bytes as it says
+    pub gives_size : (now : ℕ) (u : Transmit) → call ≡ calls.Poll now → a ≡ answers.Poll (Ok (Some u)) → first_size seen.left ≡ u.size
+    gives_size now u polls said =
+        let answer : answers.Poll (Ok (Some u)) ≡ answers.Poll (polled p met now).answer = sym said ∙ poll_answer p met now a (subst (λ (c : Call). IsAnswer p (end_met w (record { side = side; call = c })) (given_by (other_side side) w) c a) polls m.step.answer) (made_served r i side call a w next m) in
+        let this = gives_this p met now u (let same : (polled p met now).answer ≡ Ok (Some u) = cc in same) in
+        ap first_size (gives_next.1
+        ∙ ap (λ (c : Call). gives p (end_met w (record { side = side; call = c })) c a ++ gives_next.0) polls
+        ∙ ap (λ (b : Answer). gives p met (calls.Poll now) b ++ gives_next.0) said)
+        ∙ first_given (polled p met now).datagram this.given gives_next.0 this.is
+        ∙ this.size
+      where
+        met : End
+        met = end_met w (record { side = side; call = calls.Poll now })
+
+    counted_next : allowance r side (suc i) ≡ allowance_told l t (allowance r side i)
+    counted_next = ap counting told ∙ folded_more (allowance_told l) (until r side i) t (no_allowance (watch_from (end_at side r.start) (given_of r side)))
+
+    moves_so : has_changed seen (watch_told l t seen) ≡ has_moved here behind
+    moves_so = ap (λ (v : Watch). has_changed seen v) (sym seen_next) ∙ changes
+
+    -- what counts on the path behind it
+    pub handed_next : bytes_handed r side (suc i) ≡ came_behind (has_moved here behind) (from_there here call) (bytes_in_call (given_of r (other_side side)) call a) (bytes_handed r side i)
+    handed_next =
+        ap (λ (x : Allowance). x.came) counted_next
+        ∙ told_came l t (allowance r side i)
+        ∙ ap (λ (v : Watch). came_behind (has_changed v (watch_told l t v)) (is_from v.route call) (bytes_in_call l.peer_gave call a) (bytes_handed r side i)) seen_within
+        ∙ ap (λ (b : Bool). came_behind b (is_from seen.route call) (bytes_in_call l.peer_gave call a) (bytes_handed r side i)) moves_so
+        ∙ ap (λ (b : Bool). came_behind (has_moved here behind) b (bytes_in_call l.peer_gave call a) (bytes_handed r side i)) (from_same seen.route here call (routed_at r end honest run side i w served m.leads).address)
+
+    pub given_next : bytes_given r side (suc i) ≡ went_behind (has_moved here behind) (gave a) (first_size seen.left) (bytes_given r side i)
+    given_next =
+        ap (λ (x : Allowance). x.went) counted_next
+        ∙ told_went l t (allowance r side i)
+        ∙ ap (λ (v : Watch). went_behind (has_changed v (watch_told l t v)) (gave a) (first_size v.left) (bytes_given r side i)) seen_within
+        ∙ ap (λ (b : Bool). went_behind b (gave a) (first_size seen.left) (bytes_given r side i)) moves_so
+
+    own_counts : Counted i w → Counted (suc i) next
+    own_counts before =
+        let front = theirs_front i w served m.leads in
+        let theirs : List (List ℕ) = given_by (other_side side) w in
+        let heard : heard_at side next ≡ heard_by here behind theirs call a (heard_at side w) = subst (λ (b : Bool). IsHeard b here behind theirs call a (heard_at side w) (heard_at side next)) (made_served r i side call a w next m) m.step.heard in
+        let counts = call_counts p e here behind theirs front.0 (given_of r (other_side side)) front.1 (heard_at side w) (bytes_handed r side i) (bytes_given r side i) (first_size seen.left) before.received before.sent call a m.step.answer stays gives_size in
         record {
-          received = ap (λ (h : Heard). h.received) same.0 ∙ before.received ∙ ap (λ (ts : List Told). saturated (sum_by handed_by ts)) (sym (told ∙ ap (λ (ts : List Told). until r side i ++ ts) none ∙ append-nil (until r side i)));
-          sent = ap (λ (h : Heard). h.sent) same.0 ∙ before.sent ∙ ap (λ (ds : List (List ℕ)). saturated (sum_by length ds)) (sym same.1);
+          received = ap (λ (h : Heard). h.received) heard ∙ counts.0 ∙ ap saturated (sym handed_next);
+          sent = ap (λ (h : Heard). h.sent) heard ∙ counts.1 ∙ ap saturated (sym given_next);
         }
-
-  own_counts : (i : ℕ) (call : Call) (a : Answer) (w next : World) → slice_get r.events i ≡ Some (record { side = side; call = call }) → slice_get r.answers i ≡ Some a → AreServed r i → LeadsTo r i w → fails a ≡ false
-      → IsStep r.keys w (record { side = side; call = call }) a next → Counted i w → Counted (suc i) next
-  own_counts i call a w next at_event at_answer served leads answered step before = record {
-    received = ap (λ (h : Heard). h.received) heard ∙ call_received p e theirs front.0 (given_of r (other_side side)) front.1 (heard_at side w) (bytes_handed r side i) before.received call a step.answer ∙ ap saturated (sym sum);
-    sent = ap (λ (h : Heard). h.sent) heard
-        ∙ call_sent p e theirs front.0 (given_of r (other_side side)) front.1 (heard_at side w) (sum_by length (given_by side w)) before.sent call a step.answer answered
-        ∙ ap saturated (sym (ap (sum_by length) (own_given w next call a step) ∙ sum_by-append length (given_by side w) (gives p e call a)));
-  }
-    where
-      p : Policy
-      p = policy_at side r.keys
-
-      e : End
-      e = end_met w (record { side = side; call = call })
-
-      theirs : List (List ℕ)
-      theirs = given_by (other_side side) w
-
-      front : (rest : List (List ℕ)) × (theirs ++ rest ≡ given_of r (other_side side))
-      front = theirs_front i w served leads
-
-      heard : heard_at side next ≡ heard_by theirs call a (heard_at side w)
-      heard = subst (λ (b : Bool). IsHeard b theirs call a (heard_at side w) (heard_at side next)) answered step.heard
-
-      t : Told
-      t = told_of call a (state_at r side i)
-
-      sum : bytes_handed r side (suc i) ≡ bytes_handed r side i + bytes_in_call (given_of r (other_side side)) call a
-      sum =
-          let one = sum_by-cons handed_by t [] in
-          ap (sum_by handed_by) (told_next side (end_at side r.start).closing.state i r.events r.answers r.views (record { side = side; call = call }) a at_event at_answer (as_many_views r.keys r.start end r.events r.answers r.views run.follows) ∙ ap (λ (ts : List Told). until r side i ++ ts) (told_here side (state_at r side i) call a))
-          ∙ sum_by-append handed_by (until r side i) (t ∷ []) ∙ omega (arith, one)
-
-  -- one event more
-  next_counts : (i : ℕ) (v : View) (next : World) → slice_get r.views i ≡ Some v → AreServed r (suc i) → LeadsTo r (suc i) next → ((w : World) → LeadsTo r i w → Counted i w) → Counted (suc i) next
-  next_counts i v next at_view served leads before =
-      let did = did_there i r.keys r.start end r.events r.answers r.views v run.follows at_view in
-      let last = last_step r.keys i r.start next r.events r.answers r.views did.event did.answer did.at_event did.at_answer leads in
-      go did.event did.answer did.at_event did.at_answer last.before last.leads last.step (same_side did.event.side side) refl
-    where
-      go : (event : RunEvent) (a : Answer) → slice_get r.events i ≡ Some event → slice_get r.answers i ≡ Some a → (w : World) → LeadsTo r i w → IsStep r.keys w event a next → (b : Bool) → same_side event.side side ≡ b → Counted (suc i) next
-      go event a at_event at_answer w leads_there step false other = other_counts i event a w next at_event at_answer step (before w leads_there) other
-      go event a at_event at_answer w leads_there step true is =
-          made event.call a w leads_there (subst (λ (by : Side). IsMade r i by event.call a w next) (side_is event.side side is) (record { at = record { event = at_event; answer = at_answer }; leads = leads_there; step = step; served = served }))
-        where
-          made : (call : Call) (b : Answer) (u : World) → LeadsTo r i u → IsMade r i side call b u next → Counted (suc i) next
-          made call b u leads_u m = own_counts i call b u next m.at.event m.at.answer (served_before r.answers i m.served) leads_u (made_served r i side call b u next m) m.step (before u leads_u)
 
   -- at each place
   pub counts_at : (i : ℕ) (w : World) → i ≤ length r.views → AreServed r i → LeadsTo r i w → Counted i w
-  counts_at zero w within served leads = subst (λ (u : World). Counted 0 u) (sym leads) first_counted
-  counts_at (suc i) next within served leads = elim (slice_get_cases r.views i).1 [
-    | inl there ↦ next_counts i there.0 next there.2 served leads (λ w before. counts_at i w (omega (arith, within)) (served_before r.answers i served) before)
-    | inr past ↦ (let far = past.0 in absurd (omega (arith, within, far)))
-  ]
-
-  -- what was given so far
-  pub given_there : (i : ℕ) (w : World) → AreServed r i → LeadsTo r i w → given_until r side i ≡ given_by side w
-  given_there i w served leads = given_here r end honest side i (all side i served) ∙ ap (λ (u : World). given_by side u) (there i w served leads)
+  counts_at = along r end run side Counted (record { first = first_counted; own = own_counts; other = other_counts })
 
   validated_shown : (v : View) (w : World) → v ≡ view_of w → (end_in v side).validated ≡ (end_at side w).path.validated
   validated_shown v w seen = ap (λ (u : View). (end_in u side).validated) seen ∙ at_side side w
@@ -314,7 +528,7 @@ module _ (r : Run) (end : World) (honest : IsHonest r) (run : IsRun r end) (all 
       record {
         unvalidated = validated_shown v w (shown r w i v leads gave.shown) ∙ blocked.unvalidated;
         full = limit_stays (bytes_handed r side (suc i)) (heard_at side w).received (bytes_given r side (suc i)) (heard_at side w).sent (current_mtu (end_at side w).path) (mtu_in v side) counts.received
-            (counts.sent ∙ ap (λ (ds : List (List ℕ)). saturated (sum_by length ds)) (sym (given_there (suc i) w served leads)))
+            counts.sent
             (mtu_at r side i now v w leads gave) blocked.full;
       }
 
@@ -326,6 +540,6 @@ module _ (r : Run) (end : World) (honest : IsHonest r) (run : IsRun r end) (all 
       record {
         unvalidated = sym (validated_shown v w (shown r w i v leads gave.shown)) ∙ limited.unvalidated;
         full = limit_back (bytes_handed r side (suc i)) (heard_at side w).received (bytes_given r side (suc i)) (heard_at side w).sent (current_mtu (end_at side w).path) (mtu_in v side) counts.received
-            (counts.sent ∙ ap (λ (ds : List (List ℕ)). saturated (sum_by length ds)) (sym (given_there (suc i) w served leads)))
+            counts.sent
             (mtu_at r side i now v w leads gave) some limited.full;
       }

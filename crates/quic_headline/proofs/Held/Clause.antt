@@ -31,6 +31,7 @@ use Rattle.quic_headline.proofs.Halves.Ready.{Ready}
 use Rattle.quic_headline.proofs.Halves.Writer.{WritesHold}
 use Rattle.quic_headline.proofs.Duties.Group.{Flying}
 use Rattle.quic_headline.proofs.Settled.Group.{Settled, settled_group}
+use Rattle.quic_headline.proofs.Timers.Watched.{Observed}
 use Rattle.quic_headline.proofs.Held.Behind.{IsBlocked, open_now, held_back}
 use Rattle.quic_headline.proofs.Held.Bytes.{when_blocked}
 use Rattle.quic_headline.proofs.Held.Messages.{AreShort, short_waits, short_group}
@@ -59,7 +60,7 @@ heard_first Client w quiet = quiet.0
 heard_first Server w quiet = quiet.1
 
 -- where nothing more may go by what an end counted, so it is by the lists
-pub held_or_blocked : (r : Run) (end : World) → IsHonest r → IsRun r end → ((side : Side) (i : ℕ) → AreServed r i → Placed PacketsHold r end side i) → HaveHeardNothing r.start
+pub held_or_blocked : (r : Run) (end : World) → IsHonest r → IsRun r end → ((side : Side) (i : ℕ) → AreServed r i → Placed Observed r end side i) → HaveHeardNothing r.start
     → (side : Side) (i now : ℕ) (v : View) (w : World) → AreServed r (suc i) → LeadsTo r (suc i) w → GaveNothing r side i now v → IsHeldBack r side (suc i) v ⊎ IsBlocked (end_at side w) (heard_at side w)
     → IsHeldBack r side (suc i) v ⊎ IsLimited r side (suc i) v
 held_or_blocked r end honest run all quiet side i now v w served leads gave held = elim held [
@@ -106,7 +107,7 @@ module _ (G : Way) (g : SaysWhatWaits G) (r : Run) (end : World) (honest : IsHon
     pub what_waits : IsRun r end → HaveHeardNothing r.start → PollsSendWhatWaits r
     what_waits run quiet side i now id v served gave waits =
         let at = all side (suc i) served in
-        held_or_blocked r end honest run (λ by j there. placed_less G PacketsHold r end by j g.packets (all by j there)) quiet side i now v at.world served at.leads gave
+        held_or_blocked r end honest run (λ by j there. placed_less G Observed r end by j (λ x y h. (g.packets x y h, g.sight x y h)) (all by j there)) quiet side i now v at.world served at.leads gave
         (held_back G (record { packets = g.packets; sight = g.sight }) r end honest side i now v at gave (λ none. stream_asks side (suc i) id at (open_now r side i now v at.world at.leads gave) waits))
 
     pub what_asks_there : (side : Side) (i id : ℕ) (w : World) → AreServed r i → LeadsTo r i w → (end_at side w).closing.state ≡ states.Open → IsToGo r side i id → asks_to_go (end_at side w) ≡ true
@@ -132,7 +133,7 @@ module _ (G : Way) (g : SaysWhatMessages G) (r : Run) (end : World) (honest : Is
       let is : w ≡ at.world = (one_run r.keys (take (suc i) r.answers) r.start (take (suc i) r.events) (take (suc i) r.views) (take (suc i) r.views) w at.world served leads at.leads).1 in
       let here : In message x.end.messages.queues.outgoing = subst (λ (u : World). In message (end_at side u).messages.queues.outgoing) is waits in
       let eight : length x.end.ids.peer.id ≡ own_id_length = (g.packets x y at.gives).long.peer.used in
-      held_or_blocked r end honest run (λ by j there. placed_less G PacketsHold r end by j g.packets (all by j there)) quiet side i now v at.world served at.leads gave
+      held_or_blocked r end honest run (λ by j there. placed_less G Observed r end by j (λ x y h. (g.packets x y h, g.sight x y h)) (all by j there)) quiet side i now v at.world served at.leads gave
       (held_back G (record { packets = g.packets; sight = g.sight }) r end honest side i now v at gave (λ none. message_asks x.end (short_waits x.end message none (has_room x y (g.packets x y at.gives)) eight (g.short x y at.gives).short here)))
 
 -- ---- all of it, at each place

@@ -18,11 +18,11 @@ use Rattle.quic_headline.specs.Runs.{Run, state_in, LeadsTo}
 use Rattle.quic_headline.specs.Headline.{IsHonest, IsRun}
 use Rattle.quic_headline.proofs.Packets.Quiet.{HaveHeardNothing}
 use Rattle.quic_headline.specs.Polls.{GaveNothing, IsLimited, IsMade}
-use Rattle.quic_headline.proofs.Packets.Group.{PacketsHold}
 use Rattle.quic_headline.proofs.Places.Parties.{with_shown, shown_at}
 use Rattle.quic_headline.proofs.Places.Placed.{placed, placed_less}
 use Rattle.quic_headline.proofs.Places.Steps.{poll_answer}
 use Rattle.quic_headline.proofs.Steps.Made.{one_behind, served_before, made_served}
+use Rattle.quic_headline.proofs.Timers.Watched.{Observed}
 use Rattle.quic_headline.proofs.Held.Silent.{may_not_go}
 use Rattle.quic_headline.proofs.Held.Behind.{last as last_poll, blocked_there}
 use Rattle.quic_headline.proofs.Held.Bytes.{when_blocked}
@@ -37,7 +37,7 @@ gives_none p e now opened blocked =
 pub limits_poll : (r : Run) (end : World) → IsHonest r → IsRun r end → HaveHeardNothing r.start → (side : Side) (i now : ℕ) (a : Answer) (v : View) (w next : World) → IsMade r i side (calls.Poll now) a w next → LeadsTo r (suc i) next → slice_get r.views i ≡ Some v
     → state_in v side ≡ states.Open → (end_at side w).closing.state ≡ states.Open → (with_shown (end_at side w) (shown_at side w)).path.blocked ≡ true → IsLimited r side (suc i) v
 limits_poll r end honest run quiet side i now a v w next m leads there opened before blocked =
-    when_blocked r end honest run (λ by j served. placed_less Shortly PacketsHold r end by j (λ x y h. h.0.0.0) (placed Shortly shortly r end honest run by j served)) side (heard_first side r.start quiet) i now v next m.served leads gave
+    when_blocked r end honest run (λ by j served. placed_less Shortly Observed r end by j (λ x y h. (h.0.0.0, h.0.1)) (placed Shortly shortly r end honest run by j served)) side (heard_first side r.start quiet) i now v next m.served leads gave
     (blocked_there r side i now v next leads gave (subst (λ (u : World). (with_shown (end_at side u) (shown_at side u)).path.blocked ≡ true) (sym before_is) blocked))
   where
     p : Policy

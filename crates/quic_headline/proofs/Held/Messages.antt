@@ -34,7 +34,9 @@ use Rattle.quic_headline.proofs.Packets.Apart.{by_waits}
 use Rattle.quic_congestion.specs.SearchBounds.{IsSized}
 use Rattle.quic_congestion.proofs.SizedSearch.{sized_acked, sized_polled}
 use Rattle.quic_headline.proofs.Packets.Sizes.{Sizing, sizing, Searching, sized_lost, same_size, expired_size, polled_search}
-use Rattle.quic_headline.proofs.Packets.Ids.{KnownLong}
+use Rattle.quic_wire.specs.Value.{FrameValue}
+use Rattle.quic_headline.proofs.Packets.Delivered.{frames_at, among_at}
+use Rattle.quic_headline.proofs.Packets.Ids.{SaysIds, IsLong, AnyNumber, KnownLong}
 use Rattle.quic_headline.proofs.Packets.Widths.{next_same, arrivals_size}
 use Rattle.quic_headline.proofs.Packets.Stays.{placed_call}
 use Rattle.quic_headline.proofs.Packets.Searches.{unprobed_most}
@@ -221,11 +223,11 @@ module _ (B : Way) (packets : (x y : Party) → B x y → PacketsHold x y) where
       before = record { sized = p.sized; short = i.bounded }
 
       left : AreBounded (sizing (called x y.given call a).end)
-      left = by_coming x y a c.joined c.served (meets y x (packets y x c.takes)) (λ (e : End) (j : Intake). AreBounded (sizing e)) call c.answer (record {
-        apart = λ apart. bounded_call x.policy x.end y.given call a apart p.long.peer (packets (called x y.given call a) y c.gives_behind).long.peer before;
-        none = λ delivery is. before;
-        comes = λ delivery is s among. arrivals_size AreBounded searching x.end delivery.now s.number s.frames (came_to x y) (λ f carried. (packets y x c.takes).tells s f among carried) p.long.peer before;
-      })
+      left = (by_coming x y a c.joined c.served (meets y x (packets y x c.takes)) (λ (e : End) (j : Intake). KnownLong e.ids.peer × AreBounded (sizing e)) call c.answer (record {
+        apart = λ apart. (let known = (packets (called x y.given call a) y c.gives_behind).long.peer in (known, bounded_call x.policy x.end y.given call a apart p.long.peer known before));
+        none = λ delivery is. (p.long.peer, before);
+        comes = λ delivery is s among here. arrivals_size AreBounded searching x.end delivery.now s.number s.frames (frames_at here s.frames) (came_to x y) (among_at (λ (f : FrameValue). SaysIds IsLong AnyNumber f) tt here s.frames (λ f carried. (packets y x c.takes).tells s f among carried)) p.long.peer before;
+      })).1
 
   pub short_group : Group B AreShort
   short_group = record {

@@ -1,13 +1,10 @@
 -- While the address of its peer isn't validated, an end gives no more than three times the bytes
 -- that were handed to it: it asks before each datagram, which has no more than the current size.
-use Rattle.std.proofs.Common.{◌≡◌, ◌⊎◌, ℕ, zero, suc, ◌+◌, ◌*◌, ◌<◌, ◌≤◌, Bool, true, false, not, ◌&&◌, List, [], ◌∷◌, ◌++◌, length, take, Option, Some, None, Result, Ok, Err, refl, sym, ap, ◌∙◌, subst, inl, inr, arith}
-use Rattle.std.specs.Prelude.{slice_get, sum_by, nat_lt, if◌then◌else◌, option_map}
+use Rattle.std.proofs.Common.{◌≡◌, ◌⊎◌, ℕ, zero, suc, ◌+◌, ◌*◌, ◌<◌, ◌≤◌, Bool, true, false, not, ◌&&◌, ◌==◌, List, [], ◌∷◌, length, take, Option, Some, None, Result, Ok, Err, refl, sym, ap, ◌∙◌, subst, inl, inr, arith}
+use Rattle.std.specs.Prelude.{slice_get, nat_lt, if◌then◌else◌, option_map}
 use Rattle.std.specs.List.{list_any}
-use Rattle.std.specs.Option.{option_to_list}
 use Rattle.std.proofs.lemmas.Bool.{ltb-false, both_ways, cases_lt}
-use Rattle.std.proofs.lemmas.List.{append-nil, take_all}
-use Rattle.std.proofs.lemmas.List.Sums.{sum_by-append, sum_by-cons}
-use Rattle.std.proofs.lemmas.Option.{slice_get_cases}
+use Rattle.std.proofs.lemmas.List.{take_all}
 use Rattle.quic_wire_core.specs.declared.stream_id.Side.{Side}
 use Rattle.quic_wire_core.specs.StreamId.{other_side}
 use Rattle.quic_wire.specs.Value.{FrameValue}
@@ -26,36 +23,37 @@ use Rattle.quic_machine.specs.Parts.{current_mtu}
 use Rattle.quic_machine.specs.Closing.{ticked, close_owed}
 use Rattle.quic_machine.specs.End.{End, with_closing, closed_by}
 use Rattle.quic_machine.specs.Heard.{Heard, nothing_heard}
+use Rattle.quic_machine.specs.Migration.{has_moved}
 use Rattle.quic_machine.specs.Validation.{is_blocked}
-use Rattle.quic_machine.specs.Poll.{Polled, Draft, mark_of, gives_datagram, datagram_of, draft_as, close_room, goes, fitted, can_close, close_to_go, after_close, polled}
+use Rattle.quic_machine.specs.Poll.{Polled, close_room, goes, fitted, can_close, close_to_go, polled}
 use Rattle.quic_machine.specs.Poll as poll
-use Rattle.quic_machine.specs.PollCases.{ready_at, by_poll, at_poll, after_draft}
-use Rattle.quic_machine.specs.Machine.{World, IsStep, gives, fails, end_at, given_by, heard_at, control_at, policy_at, end_met}
+use Rattle.quic_machine.specs.PollCases.{ready_at, by_poll, at_poll}
+use Rattle.quic_machine.specs.Machine.{World, IsStep, after_call, gave, fails, end_at, given_by, heard_at, control_at, policy_at, end_met}
 use Rattle.quic_machine.specs.RunLaws.{as_many_views}
-use Rattle.quic_headline.specs.Runs.{Run, Told, same_side, told_by, told_at, until, state_at, count_given, given_of, bytes_handed, bytes_given, LeadsTo, AreServed}
+use Rattle.quic_headline.specs.Runs.{Run, Told, bytes_in_call, same_side, told_at, until, given_of, LeadsTo, AreServed}
+use Rattle.quic_headline.specs.Observer.{watch}
+use Rattle.quic_headline.specs.Allowance.{first_size, bytes_handed, bytes_given}
 use Rattle.quic_headline.specs.Headline.{IsHonest, IsRun}
 use Rattle.quic_headline.specs.Polls.{end_in, seen_of, seen_behind, seen_at, IsMade, GaveOne, IsSizeProbe}
 use Rattle.quic_headline.specs.Sizes.{DatagramsAreSized}
 use Rattle.quic_headline.specs.Threefold.{Threefold}
 use Rattle.quic_headline.proofs.Packets.Closes.{by_closes}
 use Rattle.quic_headline.proofs.Packets.Quiet.{heard_nothing}
-use Rattle.quic_headline.proofs.Packets.Group.{PacketsHold}
 use Rattle.quic_headline.proofs.Places.Moments.{last_seen}
 use Rattle.quic_headline.proofs.Places.Parties.{with_shown, shown_at, sent_by}
 use Rattle.quic_headline.proofs.Places.Groups.{Way}
 use Rattle.quic_headline.proofs.Places.Placed.{Placed, placed, placed_less}
-use Rattle.quic_headline.proofs.Places.Steps.{poll_answer}
+use Rattle.quic_headline.proofs.Places.Steps.{poll_answer, only_polls_give}
 use Rattle.quic_headline.proofs.Places.Everything as everything
 use Rattle.quic_headline.proofs.Places.Theorems.{ready, datagrams_are_sized}
 use Rattle.quic_headline.proofs.Halves.Ready.{Ready}
 use Rattle.quic_headline.proofs.Timers.Watched.{Observed}
-use Rattle.quic_headline.proofs.Steps.Made.{made_served, made_end, served_before, told_next, reads_either, PollHolds, observed_poll, poll_holds, sents_more}
-use Rattle.quic_headline.proofs.Isolated.Validated.{IsValidated, call_validated}
-use Rattle.quic_headline.proofs.Rest.Between.{step_leaves, side_is}
-use Rattle.quic_headline.proofs.Sizes.Moves.{did_there}
-use Rattle.quic_headline.proofs.Held.Behind.{last_step}
+use Rattle.quic_headline.proofs.Steps.Made.{made_served, left_at, made_end, served_before, reads_either, PollHolds, observed_poll, poll_holds, sents_more}
+use Rattle.quic_headline.proofs.Steps.Along.{stands_within, along}
+use Rattle.quic_headline.proofs.Isolated.Validated.{call_validated}
+use Rattle.quic_headline.proofs.Rest.Between.{step_leaves}
 use Rattle.quic_headline.proofs.Held.Silent.{may_not_go}
-use Rattle.quic_headline.proofs.Held.Bytes.{Counted, handed_by, counts_at, gave_none, other_heard, own_given, given_there, there}
+use Rattle.quic_headline.proofs.Held.Bytes.{came_behind, went_behind, from_there, Counted, counting, none_given, there, gives_size, handed_next, given_next, counts_at}
 use Rattle.quic_headline.proofs.Held.Clause.{heard_first}
 
 -- ---- a poll
@@ -71,38 +69,23 @@ no_close_goes p e f blocked goes =
     let clash : ◌≡◌ {A = Option FrameValue} None (Some f) = sym none ∙ goes in
     cc
 
--- A poll gives a datagram of as many bytes as its answer says, and more may go.
-record GivesSo (e : End) (q : Polled) (t : Transmit) : Type 0 where
-  size : sum_by length (option_to_list q.datagram) ≡ t.size
-  free : e.path.blocked ≡ false
-
-said_size : (d : List ℕ) (x : End) (t : Transmit) → (gives_datagram d x).answer ≡ Ok (Some t) → sum_by length (d ∷ []) ≡ t.size
-said_size d x t is =
-    let same : record { size = length d; ecn = mark_of x.path.marking; remote = x.path.remote } ≡ t = cc in
-    let long : length d ≡ t.size = ap (λ (u : Transmit). u.size) same in
-    let one = sum_by-cons length d [] in
-    omega (arith, long, one)
-
-polled_gives : (p : Policy) (e : End) (now : ℕ) (t : Transmit) → (polled p e now).answer ≡ Ok (Some t) → GivesSo e (polled p e now) t
-polled_gives p e now t = by_poll p e now Of (record {
+-- where a poll gives a datagram, more may go
+free_gives : (p : Policy) (e : End) (now : ℕ) (t : Transmit) → (polled p e now).answer ≡ Ok (Some t) → e.path.blocked ≡ false
+free_gives p e now t = by_poll p e now Of (record {
   silent = λ is. cc;
   failed = λ is. cc;
   nothing = λ c is. cc;
   repeats = λ state. close (with_closing e (ticked e.closing now)) refl;
   closes = λ reason c bound. close (closed_by reason (at_poll e now c)) refl;
-  gives = λ leaving c left state bound ready some is.
-      let d : Draft = draft_as leaving (at_poll e now c) in
-      record { size = said_size (datagram_of p d) (after_draft p d left) t is; free = off e.path.blocked (λ blocked. both_ways (goes (ready_at e now)) (ap goes (may_not_go e now blocked)) some) };
+  gives = λ leaving c left state bound ready some is. off e.path.blocked (λ blocked. both_ways (goes (ready_at e now)) (ap goes (may_not_go e now blocked)) some);
 })
   where
     Of : Polled → Type 0
-    Of q = q.answer ≡ Ok (Some t) → GivesSo e q t
+    Of q = q.answer ≡ Ok (Some t) → e.path.blocked ≡ false
 
     -- the close of an end that closes, or is closing
     close : (x : End) → x.path.blocked ≡ e.path.blocked → Of (poll.closes p x)
-    close x same = by_closes p x Of (λ is. cc) (λ f goes is.
-        let d : Draft = draft_as (poll.closing f) x in
-        record { size = said_size (datagram_of p d) (after_close p d) t is; free = off e.path.blocked (λ blocked. no_close_goes p x f (same ∙ blocked) goes) })
+    close x same = by_closes p x Of (λ is. cc) (λ f goes is. off e.path.blocked (λ blocked. no_close_goes p x f (same ∙ blocked) goes))
 
 -- where more may go, one more datagram of the current size comes to no more than three times what
 -- was counted
@@ -123,156 +106,154 @@ seen_last side seen zero (v ∷ views) past = absurd (omega arith)
 seen_last side seen (suc i) [] past = refl
 seen_last side seen (suc i) (v ∷ views) past = seen_last side (end_in v side) i views (omega arith)
 
-module _ (r : Run) (end : World) (honest : IsHonest r) (run : IsRun r end) (all : (by : Side) (i : ℕ) → AreServed r i → Placed PacketsHold r end by i) (sized : DatagramsAreSized r)
+module _ (r : Run) (end : World) (honest : IsHonest r) (run : IsRun r end) (all : (by : Side) (i : ℕ) → AreServed r i → Placed Observed r end by i) (sized : DatagramsAreSized r)
     (holds : (i : ℕ) (by : Side) (now : ℕ) (a : Answer) (w next : World) → IsMade r i by (calls.Poll now) a w next → PollHolds Observed r i by now a w) (side : Side) (nothing : heard_at side r.start ≡ nothing_heard) where
-  -- at an address that isn't validated no more went than three times what came
+  -- at an address that isn't validated no more went than three times what came from there
   abbrev Within : ℕ → World → Type 0
-  Within i w = (end_at side w).path.validated ≡ false → sum_by length (given_by side w) ≤ 3 * bytes_handed r side i
+  Within i w = (end_at side w).path.validated ≡ false → bytes_given r side i ≤ 3 * bytes_handed r side i
 
   abbrev p : Policy
   p = policy_at side r.keys
 
   first_within : Within 0 r.start
-  first_within still = let none : sum_by length (given_by side r.start) ≡ 0 = ap (sum_by length) (gave_none r end honest run all side nothing side) in omega (arith, none)
-
-  -- no bytes are taken back
-  handed_grows : (i : ℕ) (event : RunEvent) (a : Answer) → slice_get r.events i ≡ Some event → slice_get r.answers i ≡ Some a → bytes_handed r side i ≤ bytes_handed r side (suc i)
-  handed_grows i event a at_event at_answer =
-      let by : Told → ℕ = handed_by r end honest run all side nothing in
-      let more : List Told = told_by side (state_at r side i) event a in
-      let sum : bytes_handed r side (suc i) ≡ bytes_handed r side i + sum_by by more =
-      ap (sum_by by) (told_next side (end_at side r.start).closing.state i r.events r.answers r.views event a at_event at_answer (as_many_views r.keys r.start end r.events r.answers r.views run.follows)) ∙ sum_by-append by (until r side i) more in
-      omega (arith, sum)
-
-  -- an address that isn't validated behind a call wasn't before
-  unvalidated : (i : ℕ) (call : Call) (a : Answer) (w next : World) → IsMade r i side call a w next → (end_at side next).path.validated ≡ false → (end_at side w).path.validated ≡ false
-  unvalidated i call a w next m still = off (end_at side w).path.validated (λ is. both_ways (end_at side next).path.validated still (made is))
-    where
-      e : End
-      e = end_met w (record { side = side; call = call })
-
-      reads : IsValidated (end_at side w) → IsValidated e
-      reads is = reads_either IsValidated (control_at side w) (heard_at side w) call (end_at side w) is is
-
-      made : IsValidated (end_at side w) → IsValidated (end_at side next)
-      made is = subst IsValidated (sym (made_end r i side call a w next m)) (call_validated p e (given_by (other_side side) w) call a (reads is))
-
-  -- a call that gives nothing
-  gives_none : (i : ℕ) (call : Call) (a : Answer) (w next : World) → IsMade r i side call a w next → gives p (end_met w (record { side = side; call = call })) call a ≡ [] → Within i w → Within (suc i) next
-  gives_none i call a w next m none before still =
-      let least = before (unvalidated i call a w next m still) in
-      let more = handed_grows i (record { side = side; call = call }) a m.at.event m.at.answer in
-      let same : sum_by length (given_by side next) ≡ sum_by length (given_by side w) =
-      ap (sum_by length) (own_given r end honest run all side nothing w next call a m.step ∙ ap (λ (ds : List (List ℕ)). given_by side w ++ ds) none ∙ append-nil (given_by side w)) in
-      omega (arith, least, more, same)
-
-  -- a poll that gives a datagram
-  gives_one : (i now : ℕ) (t : Transmit) (w next : World) → i ≤ length r.views → IsMade r i side (calls.Poll now) (answers.Poll (Ok (Some t))) w next → (polled p (with_shown (end_at side w) (shown_at side w)) now).answer ≡ Ok (Some t) → Within i w → Within (suc i) next
-  gives_one i now t w next within m is before still =
-      let more = handed_grows i (record { side = side; call = calls.Poll now }) a m.at.event m.at.answer in
-      let sum : sum_by length (given_by side next) ≡ sum_by length (given_by side w) + sum_by length (gives p e (calls.Poll now) a) =
-      ap (sum_by length) (own_given r end honest run all side nothing w next (calls.Poll now) a m.step) ∙ sum_by-append length (given_by side w) (gives p e (calls.Poll now) a) in
-      let one : sum_by length (gives p e (calls.Poll now) a) ≡ t.size = so.size in
-      let most = goes_within (bytes_handed r side i) (heard_at side w).received (sum_by length (given_by side w)) (heard_at side w).sent t.size (current_mtu (end_at side w).path) counts.received counts.sent some few
-      (may_go (end_at side w) (heard_at side w) unvalidated_there so.free) in
-      omega (arith, more, sum, one, most)
-    where
-      a : Answer
-      a = answers.Poll (Ok (Some t))
-
-      e : End
-      e = with_shown (end_at side w) (shown_at side w)
-
-      served : AreServed r i
-      served = served_before r.answers i m.served
-
-      unvalidated_there : (end_at side w).path.validated ≡ false
-      unvalidated_there = unvalidated i (calls.Poll now) a w next m still
-
-      so : GivesSo e (polled p e now) t
-      so = polled_gives p e now t is
-
-      counts : Counted r end honest run all side nothing i w
-      counts = counts_at r end honest run all side nothing i w within served m.leads
-
-      -- as its observer sees it
-      gave : GaveOne r side i now
-      gave = record { transmit = t; poll = m.at; served = m.served; sent = sent_by p e now; went = sents_more r i side now a w (holds i side now a w next m) }
-
-      seen : seen_at r side i ≡ seen_of side w
-      seen = last_seen side r.keys i r.start w r.events r.answers r.views m.leads
-
-      bounded : (gave.sent.size ≤ (seen_at r side i).current_mtu) ⊎ IsSizeProbe r side i gave.sent → gave.sent.size ≤ (seen_at r side i).current_mtu
-      bounded (inl few) = few
-      bounded (inr probe) = absurd (both_ways (end_at side w).path.validated unvalidated_there (sym (ap (λ (u : EndView). u.validated) seen) ∙ probe.validated))
-
-      few : t.size ≤ current_mtu (end_at side w).path
-      few =
-          let size = sized side i now gave in
-          let same : (seen_at r side i).current_mtu ≡ current_mtu (end_at side w).path = ap (λ (u : EndView). u.current_mtu) seen in
-          omega (arith, size.0, bounded size.1, same)
-
-      some : 0 < current_mtu (end_at side w).path
-      some =
-          let least = (all side i served).gives.sized.between.size in
-          let same : current_mtu (end_at side (all side i served).world).path ≡ current_mtu (end_at side w).path = ap (λ (u : World). current_mtu (end_at side u).path) (there r end honest run all side nothing i w served m.leads) in
-          omega (arith, least, same)
-
-  -- a poll
-  polls : (i now : ℕ) (a : Answer) (w next : World) → i ≤ length r.views → IsMade r i side (calls.Poll now) a w next → Within i w → Within (suc i) next
-  polls i now a w next within m before = go (polled p e now).answer refl
-    where
-      e : End
-      e = with_shown (end_at side w) (shown_at side w)
-
-      said : a ≡ answers.Poll (polled p e now).answer
-      said = poll_answer p e now a m.step.answer (made_served r i side (calls.Poll now) a w next m)
-
-      go : (o : Result (Option Transmit) Failed) → (polled p e now).answer ≡ o → Within (suc i) next
-      go (Ok (Some t)) is = gives_one i now t w next within (subst (λ (b : Answer). IsMade r i side (calls.Poll now) b w next) (said ∙ ap answers.Poll is) m) is before
-      go (Ok None) is = gives_none i (calls.Poll now) a w next m (ap (λ (b : Answer). gives p e (calls.Poll now) b) (said ∙ ap answers.Poll is)) before
-      go (Err f) is = gives_none i (calls.Poll now) a w next m (ap (λ (b : Answer). gives p e (calls.Poll now) b) (said ∙ ap answers.Poll is)) before
+  first_within still = let none = none_given r end honest run all side nothing in omega (arith, none)
 
   -- a call of its own
-  own_call : (i : ℕ) (call : Call) (a : Answer) (w next : World) → i ≤ length r.views → IsMade r i side call a w next → Within i w → Within (suc i) next
-  own_call i (calls.Poll now) a w next within m before = polls i now a w next within m before
-  own_call i call a w next within m before = gives_none i call a w next m refl before
+  module _ (i : ℕ) (call : Call) (a : Answer) (w next : World) (m : IsMade r i side call a w next) (leads : LeadsTo r (suc i) next) where
+    abbrev e : End
+    e = end_met w (record { side = side; call = call })
 
-  -- an event
-  one_more : (i : ℕ) (event : RunEvent) (a : Answer) (w next : World) → i ≤ length r.views → slice_get r.events i ≡ Some event → slice_get r.answers i ≡ Some a → AreServed r (suc i) → LeadsTo r i w → IsStep r.keys w event a next → Within i w → Within (suc i) next
-  one_more i event a w next within at_event at_answer served leads step before = go (same_side event.side side) refl
+    abbrev here : End
+    here = end_at side w
+
+    abbrev behind : End
+    behind = end_at side next
+
+    -- behind one that stays on the path, an address that isn't validated wasn't before
+    unvalidated : has_moved here behind ≡ false → behind.path.validated ≡ false → here.path.validated ≡ false
+    unvalidated same still = off here.path.validated (λ is. both_ways behind.path.validated still (ap (λ (x : End). x.path.validated) left ∙ call_validated p e (given_by (other_side side) w) call a (reads_either (λ (x : End). x.path.validated ≡ true) (control_at side w) (heard_at side w) call here is is) stays))
+      where
+        left : behind ≡ left_at r side w call a
+        left = made_end r i side call a w next m
+
+        reads : e.path.generation ≡ here.path.generation
+        reads = reads_either (λ (x : End). x.path.generation ≡ here.path.generation) (control_at side w) (heard_at side w) call here refl refl
+
+        stays : has_moved e (after_call p e (given_by (other_side side) w) call a) ≡ false
+        stays = ap (λ (g : ℕ). not ((after_call p e (given_by (other_side side) w) call a).path.generation == g)) reads ∙ ap (λ (x : End). has_moved here x) (sym left) ∙ same
+
+    -- how many bytes the datagram has that goes next
+    abbrev next_size : ℕ
+    next_size = first_size (watch r side i).left
+
+    -- where it is within the allowance, if one goes
+    call_within : (gave a ≡ true → here.path.validated ≡ false → bytes_given r side i + next_size ≤ 3 * bytes_handed r side i) → Within i w → Within (suc i) next
+    call_within fits before still = go (has_moved here behind) refl
+      where
+        size : ℕ
+        size = bytes_in_call (given_of r (other_side side)) call a
+
+        more : (from : Bool) (n k : ℕ) → n ≤ n + (if from then k else 0)
+        more true n k = omega arith
+        more false n k = omega arith
+
+        on_path : (b : Bool) → gave a ≡ b → here.path.validated ≡ false → bytes_given r side i + (if b then next_size else 0) ≤ 3 * bytes_handed r side i
+        on_path true gives unvalidated_there = fits gives unvalidated_there
+        on_path false silent unvalidated_there = let least = before unvalidated_there in omega (arith, least)
+
+        go : (b : Bool) → has_moved here behind ≡ b → bytes_given r side (suc i) ≤ 3 * bytes_handed r side (suc i)
+        go true is =
+            let none : bytes_given r side (suc i) ≡ 0 = given_next r end honest run all side nothing i call a w next m leads ∙ ap (λ (b : Bool). went_behind b (gave a) next_size (bytes_given r side i)) is in
+            omega (arith, none)
+        go false is =
+            let given : bytes_given r side (suc i) ≡ bytes_given r side i + (if gave a then next_size else 0) = given_next r end honest run all side nothing i call a w next m leads ∙ ap (λ (b : Bool). went_behind b (gave a) next_size (bytes_given r side i)) is in
+            let handed : bytes_handed r side (suc i) ≡ bytes_handed r side i + (if from_there here call then size else 0) = handed_next r end honest run all side nothing i call a w next m leads ∙ ap (λ (b : Bool). came_behind b (from_there here call) size (bytes_handed r side i)) is in
+            let within = on_path (gave a) refl (unvalidated is still) in
+            let grows = more (from_there here call) (bytes_handed r side i) size in
+            omega (arith, given, handed, within, grows)
+
+  -- a poll that gives a datagram
+  module _ (i now : ℕ) (t : Transmit) (w next : World) (m : IsMade r i side (calls.Poll now) (answers.Poll (Ok (Some t))) w next) (leads : LeadsTo r (suc i) next) (is : (polled p (with_shown (end_at side w) (shown_at side w)) now).answer ≡ Ok (Some t)) where
+    abbrev a : Answer
+    a = answers.Poll (Ok (Some t))
+
+    abbrev met : End
+    met = with_shown (end_at side w) (shown_at side w)
+
+    served : AreServed r i
+    served = served_before r.answers i m.served
+
+    counts : Counted r end honest run all side nothing i w
+    counts = counts_at r end honest run all side nothing i w (stands_within r end run side i side (calls.Poll now) a w next m) served m.leads
+
+    -- as its observer sees it
+    abbrev given_so : GaveOne r side i now
+    given_so = record { transmit = t; poll = m.at; served = m.served; sent = sent_by p met now; went = sents_more r i side now a w (holds i side now a w next m) }
+
+    seen : seen_at r side i ≡ seen_of side w
+    seen = last_seen side r.keys i r.start w r.events r.answers r.views m.leads
+
+    few : (end_at side w).path.validated ≡ false → t.size ≤ current_mtu (end_at side w).path
+    few unvalidated_there =
+        let size = sized side i now given_so in
+        let same : (seen_at r side i).current_mtu ≡ current_mtu (end_at side w).path = ap (λ (u : EndView). u.current_mtu) seen in
+        omega (arith, size.0, bounded size.1, same)
+      where
+        bounded : (given_so.sent.size ≤ (seen_at r side i).current_mtu) ⊎ IsSizeProbe r side i given_so.sent → given_so.sent.size ≤ (seen_at r side i).current_mtu
+        bounded (inl low) = low
+        bounded (inr probe) = absurd (both_ways (end_at side w).path.validated unvalidated_there (sym (ap (λ (u : EndView). u.validated) seen) ∙ probe.validated))
+
+    some : 0 < current_mtu (end_at side w).path
+    some =
+        let least = (all side i served).gives.0.sized.between.size in
+        let same : current_mtu (end_at side (all side i served).world).path ≡ current_mtu (end_at side w).path = ap (λ (u : World). current_mtu (end_at side u).path) (there r end honest run all side nothing i w served m.leads) in
+        omega (arith, least, same)
+
+    gives_one : Within i w → Within (suc i) next
+    gives_one = call_within i (calls.Poll now) a w next m leads (λ gives unvalidated_there.
+        let size : first_size (watch r side i).left ≡ t.size = gives_size r end honest run all side nothing i (calls.Poll now) a w next m leads now t refl refl in
+        let most = goes_within (bytes_handed r side i) (heard_at side w).received (bytes_given r side i) (heard_at side w).sent t.size (current_mtu (end_at side w).path) counts.received counts.sent some (few unvalidated_there)
+        (may_go (end_at side w) (heard_at side w) unvalidated_there (free_gives p met now t is)) in
+        omega (arith, size, most))
+
+  -- a poll
+  polls : (i now : ℕ) (a : Answer) (w next : World) → IsMade r i side (calls.Poll now) a w next → LeadsTo r (suc i) next → Within i w → Within (suc i) next
+  polls i now a w next m leads before = go (polled p met_now now).answer refl
     where
-      go : (b : Bool) → same_side event.side side ≡ b → Within (suc i) next
-      go true is = own_call i event.call a w next within (subst (λ (by : Side). IsMade r i by event.call a w next) (side_is event.side side is) (record { at = record { event = at_event; answer = at_answer }; leads = leads; step = step; served = served })) before
-      go false other = λ still.
-          let same = other_heard r end honest run all side nothing event.side w next event.call a other step in
-          let least = before (sym (ap (λ (e : End). e.path.validated) (step_leaves side r.keys w next event a other step).end) ∙ still) in
-          let more = handed_grows i event a at_event at_answer in
-          let given : sum_by length (given_by side next) ≡ sum_by length (given_by side w) = ap (sum_by length) same.1 in
-          omega (arith, least, more, given)
+      met_now : End
+      met_now = with_shown (end_at side w) (shown_at side w)
+
+      said : a ≡ answers.Poll (polled p met_now now).answer
+      said = poll_answer p met_now now a m.step.answer (made_served r i side (calls.Poll now) a w next m)
+
+      -- one that gives none
+      silent : (o : Result (Option Transmit) Failed) → a ≡ answers.Poll o → gave (answers.Poll o) ≡ false → Within (suc i) next
+      silent o is none = call_within i (calls.Poll now) a w next m leads (λ gives. absurd (both_ways (gave a) (ap gave is ∙ none) gives)) before
+
+      go : (o : Result (Option Transmit) Failed) → (polled p met_now now).answer ≡ o → Within (suc i) next
+      go (Ok (Some t)) is = gives_one i now t w next (subst (λ (b : Answer). IsMade r i side (calls.Poll now) b w next) (said ∙ ap answers.Poll is) m) leads is before
+      go (Ok None) is = silent (Ok None) (said ∙ ap answers.Poll is) refl
+      go (Err f) is = silent (Err f) (said ∙ ap answers.Poll is) refl
+
+  own_call : (i : ℕ) (call : Call) (a : Answer) (w next : World) → IsMade r i side call a w next → LeadsTo r (suc i) next → Within i w → Within (suc i) next
+  own_call i (calls.Poll now) a w next m leads before = polls i now a w next m leads before
+  own_call i call a w next m leads before = call_within i call a w next m leads (λ gives. absurd (both_ways (gave a) (only_polls_give p (end_met w (record { side = side; call = call })) (given_by (other_side side) w) call a refl m.step.answer) gives)) before
+
+  -- one of the other end
+  other_call : (i : ℕ) (event : RunEvent) (a : Answer) (w next : World) → slice_get r.events i ≡ Some event → same_side event.side side ≡ false → IsStep r.keys w event a next → until r side (suc i) ≡ until r side i → Within i w → Within (suc i) next
+  other_call i event a w next at other step told before still =
+      let least = before (sym (ap (λ (x : End). x.path.validated) (step_leaves side r.keys w next event a other step).end) ∙ still) in
+      subst (λ (ts : List Told). (counting r end honest run all side nothing ts).went ≤ 3 * (counting r end honest run all side nothing ts).came) (sym told) least
 
   -- each place
   within_at : (i : ℕ) (w : World) → i ≤ length r.views → AreServed r i → LeadsTo r i w → Within i w
-  within_at zero w within served leads = subst (λ (u : World). Within 0 u) (sym leads) first_within
-  within_at (suc i) next within served leads = elim (slice_get_cases r.views i).1 [
-    | inl there ↦ (
-        let did = did_there i r.keys r.start end r.events r.answers r.views there.0 run.follows there.2 in
-        let last = last_step r.keys i r.start next r.events r.answers r.views did.event did.answer did.at_event did.at_answer leads in
-        one_more i did.event did.answer last.before next (omega (arith, within)) did.at_event did.at_answer served last.leads last.step (within_at i last.before (omega (arith, within)) (served_before r.answers i served) last.leads))
-    | inr past ↦ (let far = past.0 in absurd (omega (arith, within, far)))
-  ]
+  within_at = along r end run side Within (record { first = first_within; own = own_call; other = other_call })
 
   -- by the lists
   limited : (i : ℕ) → i ≤ length r.views → AreServed r i → (seen_at r side i).validated ≡ false → bytes_given r side i ≤ 3 * bytes_handed r side i
   limited i within served shown =
-      subst (λ (ds : List (List ℕ)). sum_by length ds ≤ 3 * bytes_handed r side i) (sym (given_there r end honest run all side nothing i w served leads))
-      (within_at i w within served leads (sym (ap (λ (u : EndView). u.validated) (last_seen side r.keys i r.start w r.events r.answers r.views leads)) ∙ shown))
-    where
-      w : World
-      w = (all side i served).world
-
-      leads : LeadsTo r i w
-      leads = (all side i served).leads
+      let at = all side i served in
+      within_at i at.world within served at.leads (sym (ap (λ (u : EndView). u.validated) (last_seen side r.keys i r.start at.world r.events r.answers r.views at.leads)) ∙ shown)
 
   -- whatever is told behind them
   pub threefold_at : (i : ℕ) → AreServed r i → (seen_at r side i).validated ≡ false → bytes_given r side i ≤ 3 * bytes_handed r side i
@@ -288,7 +269,7 @@ module _ (r : Run) (end : World) (honest : IsHonest r) (run : IsRun r end) (all 
       at_end past =
           let many : length r.views ≡ length r.answers = as_many_views r.keys r.start end r.events r.answers r.views run.follows in
           let same : take (length r.views) r.answers ≡ take i r.answers = take_all (length r.views) r.answers (omega (arith, many)) ∙ sym (take_all i r.answers (omega (arith, many, past))) in
-          subst (λ (said : List Answer). sum_by length (take (count_given (told said)) (given_of r side)) ≤ 3 * sum_by (handed_by r end honest run all side nothing) (told said)) same
+          subst (λ (said : List Answer). (counting r end honest run all side nothing (told said)).went ≤ 3 * (counting r end honest run all side nothing (told said)).came) same
           (limited (length r.views) (omega arith) (subst (λ (said : List Answer). list_any fails said ≡ false) (sym same) served) (ap (λ (u : EndView). u.validated) (sym (seen_last side (seen_of side r.start) i r.views past)) ∙ shown))
 
 -- ---- the clause
@@ -298,5 +279,5 @@ abbrev All : Way
 All = everything.All Ready ready
 
 pub threefold : (r : Run) (end : World) → IsHonest r → IsRun r end → Threefold r
-threefold r end honest run side = threefold_at r end honest run (λ by i served. placed_less All PacketsHold r end by i (λ x y h. h.0.0) (placed All (everything.all Ready ready) r end honest run by i served)) (datagrams_are_sized r end honest run)
+threefold r end honest run side = threefold_at r end honest run (λ by i served. placed_less All Observed r end by i (λ x y h. (h.0.0, h.1)) (placed All (everything.all Ready ready) r end honest run by i served)) (datagrams_are_sized r end honest run)
     (λ i by now a w next m. observed_poll (everything.Streams Ready ready) r i by now a w (poll_holds All (everything.all Ready ready) r end honest run i by now a w next m)) side (heard_first side r.start (heard_nothing r honest))

@@ -1,6 +1,6 @@
 -- What an end counted of packets that didn't open: a run with fewer such is answered the same,
 -- while none is the last that may not open.
-use Rattle.std.proofs.Common.{◌≡◌, ℕ, ◌+◌, ◌-◌, ◌^◌, ◌≤◌, min, Bool, true, false, List, Option, Some, None, Ok, refl, sym, ◌∙◌, arith}
+use Rattle.std.proofs.Common.{◌≡◌, ℕ, ◌+◌, ◌-◌, ◌^◌, ◌≤◌, min, Bool, true, false, ◌||◌, List, length, Option, Some, None, Ok, refl, sym, ◌∙◌, subst, arith}
 use Rattle.std.proofs.lemmas.Bool.{leb-true, leb-false}
 use Rattle.std.specs.Prelude.{if◌then◌else◌, slice_get}
 use Rattle.quic_machine.specs.declared.answers.State.{State}
@@ -13,7 +13,9 @@ use Rattle.quic_machine.specs.declared.run.Call.{Call}
 use Rattle.quic_machine.specs.declared.run.Call.TheVariants as calls
 use Rattle.quic_machine.specs.declared.run.Answer.{Answer}
 use Rattle.quic_machine.specs.declared.run.Answer.TheVariants as answers
-use Rattle.quic_machine.specs.Heard.{Heard, counted, is_key_limit, is_last, heard_received, heard_failure, heard_answer, heard_given}
+use Rattle.quic_machine.specs.Heard.{Heard, counted, is_key_limit, is_last, heard_failure, heard_answer, heard_anew, received_if, heard_datagram, heard_given}
+use Rattle.quic_machine.specs.End.{End}
+use Rattle.quic_machine.specs.Migration.{is_there, has_moved}
 use Rattle.quic_machine.specs.Machine.{says_last, heard_delivery, heard_by, CountsReceived, CountsIn, CountsOpenings}
 
 -- no more packets than these didn't open
@@ -37,19 +39,29 @@ answer_fewer (receives.Closed error) less more few = go (is_key_limit error)
     go false = few
 answer_fewer a less more few = few
 
-delivery_fewer : (o : Option (List ℕ)) (a : Received) (less more : Heard) → AreFewer less more → AreFewer (heard_delivery o a less) (heard_delivery o a more)
-delivery_fewer None a less more few = few
-delivery_fewer (Some d) a less more few = answer_fewer a (heard_received _ less) (heard_received _ more) few
+-- bytes count for a path, or for none, and another path has none
+bytes_fewer : (new counts : Bool) (size : ℕ) (less more : Heard) → AreFewer less more → AreFewer (received_if counts size (heard_anew new less)) (received_if counts size (heard_anew new more))
+bytes_fewer true true size less more few = few
+bytes_fewer true false size less more few = few
+bytes_fewer false true size less more few = few
+bytes_fewer false false size less more few = few
+
+datagram_fewer : (here new : Bool) (d : List ℕ) (a : Received) (less more : Heard) → AreFewer less more → AreFewer (heard_datagram here new d a less) (heard_datagram here new d a more)
+datagram_fewer here new d a less more few = answer_fewer a (received_if (here || new) (length d) (heard_anew new less)) (received_if (here || new) (length d) (heard_anew new more)) (bytes_fewer new (here || new) (length d) less more few)
+
+delivery_fewer : (before after : End) (remote : ℕ) (o : Option (List ℕ)) (a : Received) (less more : Heard) → AreFewer less more → AreFewer (heard_delivery before after remote o a less) (heard_delivery before after remote o a more)
+delivery_fewer before after remote None a less more few = few
+delivery_fewer before after remote (Some d) a less more few = datagram_fewer (is_there remote before) (has_moved before after) d a less more few
 
 given_fewer : (o : Option Transmit) (less more : Heard) → AreFewer less more → AreFewer (heard_given o less) (heard_given o more)
 given_fewer None less more few = few
 given_fewer (Some t) less more few = few
 
-pub by_fewer : (theirs : List (List ℕ)) (call : Call) (a : Answer) (less more : Heard) → AreFewer less more → AreFewer (heard_by theirs call a less) (heard_by theirs call a more)
-by_fewer theirs (calls.Poll now) (answers.Poll (Ok given)) less more few = given_fewer given less more few
-by_fewer theirs (calls.Deliver delivery) (answers.Deliver a) less more few = delivery_fewer (slice_get theirs delivery.index) a less more few
-by_fewer theirs (calls.Inject injection) (answers.Inject a) less more few = answer_fewer a (heard_received _ less) (heard_received _ more) few
-by_fewer theirs call a less more few = few
+pub by_fewer : (before after : End) (theirs : List (List ℕ)) (call : Call) (a : Answer) (less more : Heard) → AreFewer less more → AreFewer (heard_by before after theirs call a less) (heard_by before after theirs call a more)
+by_fewer before after theirs (calls.Poll now) (answers.Poll (Ok given)) less more few = given_fewer given less more few
+by_fewer before after theirs (calls.Deliver delivery) (answers.Deliver a) less more few = delivery_fewer before after delivery.remote (slice_get theirs delivery.index) a less more few
+by_fewer before after theirs (calls.Inject injection) (answers.Inject a) less more few = datagram_fewer (is_there injection.remote before) false injection.bytes a less more few
+by_fewer before after theirs call a less more few = few
 
 -- ---- one counts, the other doesn't
 
@@ -62,19 +74,31 @@ answer_grows (receives.Closed error) h = go (is_key_limit error)
     go false = omega arith
 answer_grows a h = omega arith
 
-delivery_grows : (o : Option (List ℕ)) (a : Received) (h : Heard) → AreFewer h (heard_delivery o a h)
-delivery_grows None a h = omega arith
-delivery_grows (Some d) a h = answer_grows a (heard_received _ h)
+-- bytes count no failures
+bytes_same : (new counts : Bool) (size : ℕ) (h : Heard) → (received_if counts size (heard_anew new h)).failures ≡ h.failures
+bytes_same true true size h = refl
+bytes_same true false size h = refl
+bytes_same false true size h = refl
+bytes_same false false size h = refl
+
+datagram_grows : (here new : Bool) (d : List ℕ) (a : Received) (h : Heard) → AreFewer h (heard_datagram here new d a h)
+datagram_grows here new d a h =
+    let counted_bytes : Heard = received_if (here || new) (length d) (heard_anew new h) in
+    subst (λ (n : ℕ). counted n 1 ≤ counted (heard_answer a counted_bytes).failures 1) (bytes_same new (here || new) (length d) h) (answer_grows a counted_bytes)
+
+delivery_grows : (before after : End) (remote : ℕ) (o : Option (List ℕ)) (a : Received) (h : Heard) → AreFewer h (heard_delivery before after remote o a h)
+delivery_grows before after remote None a h = omega arith
+delivery_grows before after remote (Some d) a h = datagram_grows (is_there remote before) (has_moved before after) d a h
 
 given_grows : (o : Option Transmit) (h : Heard) → AreFewer h (heard_given o h)
 given_grows None h = omega arith
 given_grows (Some t) h = omega arith
 
-pub by_grows : (theirs : List (List ℕ)) (call : Call) (a : Answer) (h : Heard) → AreFewer h (heard_by theirs call a h)
-by_grows theirs (calls.Poll now) (answers.Poll (Ok given)) h = given_grows given h
-by_grows theirs (calls.Deliver delivery) (answers.Deliver a) h = delivery_grows (slice_get theirs delivery.index) a h
-by_grows theirs (calls.Inject injection) (answers.Inject a) h = answer_grows a (heard_received _ h)
-by_grows theirs call a h = omega arith
+pub by_grows : (before after : End) (theirs : List (List ℕ)) (call : Call) (a : Answer) (h : Heard) → AreFewer h (heard_by before after theirs call a h)
+by_grows before after theirs (calls.Poll now) (answers.Poll (Ok given)) h = given_grows given h
+by_grows before after theirs (calls.Deliver delivery) (answers.Deliver a) h = delivery_grows before after delivery.remote (slice_get theirs delivery.index) a h
+by_grows before after theirs (calls.Inject injection) (answers.Inject a) h = datagram_grows (is_there injection.remote before) false injection.bytes a h
+by_grows before after theirs call a h = omega arith
 
 -- ---- what is answered
 

@@ -3,6 +3,8 @@
 use Rattle.std.proofs.Common.{◌≡◌, ℕ, suc, Bool, true, false, List, [], ◌∷◌, Option, Some, inl, inr, refl, sym, ap, ◌∙◌, subst, arith}
 use Rattle.std.specs.Prelude.{if◌then◌else◌, slice_get}
 use Rattle.quic_wire_core.specs.declared.stream_id.Side.{Side}
+use Rattle.quic_wire_core.specs.declared.stream_id.Side.TheVariants.{Client, Server}
+use Rattle.quic_machine.specs.declared.answers.State.TheVariants as states
 use Rattle.quic_machine.specs.declared.answers.DropReason.{DropReason}
 use Rattle.quic_machine.specs.declared.answers.DropReason.TheVariants as drops
 use Rattle.quic_machine.specs.declared.answers.Received.TheVariants as receives
@@ -13,13 +15,14 @@ use Rattle.quic_machine.specs.declared.run.Answer.{Answer}
 use Rattle.quic_machine.specs.declared.run.Answer.TheVariants as answers
 use Rattle.quic_machine.specs.declared.run.View.{View}
 use Rattle.quic_machine.specs.Heard.{Heard}
-use Rattle.quic_machine.specs.Machine.{World, Policies, Follows, says_last}
-use Rattle.quic_headline.specs.Runs.{Run, In}
+use Rattle.quic_machine.specs.Machine.{World, Policies, Follows, says_last, end_at, view_of}
+use Rattle.quic_headline.specs.Runs.{Run, In, state_in}
+use Rattle.quic_headline.specs.Polls.{end_in}
 use Rattle.quic_headline.specs.Headline.{IsRun}
-use Rattle.quic_headline.specs.Isolated.{AreValidated, drops_whole, is_idle, without, OnlyIdle, SameButCounts, Isolated, is_shut_out, is_answered_idle, of_both, answered_idle, IsolatedByAnswers}
+use Rattle.quic_headline.specs.Isolated.{drops_whole, is_idle, without, OnlyIdle, SameButCounts, Isolated, is_shut_out, is_answered_idle, of_both, answered_idle, IsolatedByAnswers}
 use Rattle.quic_headline.proofs.Isolated.Idle.{with_counts, idle_leaves, HaveFewer, step_counts, idle_counts}
-use Rattle.quic_headline.proofs.Isolated.Validated.{IsReached, reached_kept}
-use Rattle.quic_headline.proofs.Timers.BothEnds.{AtBoth, step_keeps}
+use Rattle.quic_headline.proofs.Isolated.Validated.{IsReached, seen_reached}
+use Rattle.quic_headline.proofs.Timers.BothEnds.{AtBoth}
 
 -- ---- any choice
 
@@ -53,23 +56,31 @@ StayBelow told = (i : ℕ) (a : Answer) → slice_get told i ≡ Some a → says
 abbrev pub GoesOn : Policies → (ℕ → Bool) → World → World → List RunEvent → List Answer → List View → Type 0
 GoesOn k gone w end events told views = (left : World) × SameButCounts end left × Follows k w (without gone events) (without gone told) (without gone views) left
 
+-- the peers' addresses are validated in each of these views, at an end that hasn't failed
+abbrev pub AreShown : List View → Type 0
+AreShown views = (side : Side) (i : ℕ) (v : View) → slice_get views i ≡ Some v → (state_in v side ≡ states.Failed → ⊥) → (end_in v side).validated ≡ true
+
+-- so they are at the ends that one shows
+shown_reached : (v : View) (w : World) (views : List View) → v ≡ view_of w → AreShown (v ∷ views) → AtBoth IsReached w
+shown_reached v w views same shown = (seen_reached Client w (subst (λ (u : View). (state_in u Client ≡ states.Failed → ⊥) → (end_in u Client).validated ≡ true) same (shown Client 0 v refl)), seen_reached Server w (subst (λ (u : View). (state_in u Server ≡ states.Failed → ⊥) → (end_in u Server).validated ≡ true) same (shown Server 0 v refl)))
+
 -- no answer, and nothing changes
 none_left : (k : Policies) (w end : World) (events : List RunEvent) (client server : Heard) → end ≡ w → (left : World) × SameButCounts end left × Follows k (with_counts w client server) events [] [] left
 none_left k w end events client server same =
     (with_counts w client server, ap (λ (v : World). with_counts v client server) (sym same), unanswered k (with_counts w client server) (with_counts w client server) events refl)
 
 -- so it is, where fewer packets had failed to open and the addresses are validated
-erases_from : (k : Policies) (gone : ℕ → Bool) (w end : World) (events : List RunEvent) (told : List Answer) (views : List View) (client server : Heard) → Chosen gone events told → StayBelow told → AtBoth IsReached w → HaveFewer client server w
+erases_from : (k : Policies) (gone : ℕ → Bool) (w end : World) (events : List RunEvent) (told : List Answer) (views : List View) (client server : Heard) → Chosen gone events told → StayBelow told → AreShown views → AtBoth IsReached w → HaveFewer client server w
     → Follows k w events told views end → GoesOn k gone (with_counts w client server) end events told views
-erases_from k gone w end [] [] [] client server idle below reached few f = none_left k w end [] client server f
-erases_from k gone w end (event ∷ events) [] [] client server idle below reached few f = none_left k w end (without gone (event ∷ events)) client server f
-erases_from k gone w end [] [] (v ∷ views) client server idle below reached few f = absurd f
-erases_from k gone w end (event ∷ events) [] (v ∷ views) client server idle below reached few f = absurd f
-erases_from k gone w end [] (a ∷ told) views client server idle below reached few f = absurd f
-erases_from k gone w end (event ∷ events) (a ∷ told) [] client server idle below reached few f = absurd f
-erases_from k gone w end (event ∷ events) (a ∷ told) (v ∷ views) client server idle below reached few f =
+erases_from k gone w end [] [] [] client server idle below shown reached few f = none_left k w end [] client server f
+erases_from k gone w end (event ∷ events) [] [] client server idle below shown reached few f = none_left k w end (without gone (event ∷ events)) client server f
+erases_from k gone w end [] [] (v ∷ views) client server idle below shown reached few f = absurd f
+erases_from k gone w end (event ∷ events) [] (v ∷ views) client server idle below shown reached few f = absurd f
+erases_from k gone w end [] (a ∷ told) views client server idle below shown reached few f = absurd f
+erases_from k gone w end (event ∷ events) (a ∷ told) [] client server idle below shown reached few f = absurd f
+erases_from k gone w end (event ∷ events) (a ∷ told) (v ∷ views) client server idle below shown reached few f =
     go (gone 0) refl (λ c s fewer. erases_from k (λ i. gone (suc i)) f.0 end events told views c s (λ side i call b chosen at_event at_answer. idle side (suc i) call b chosen at_event at_answer) (λ i b at_answer. below (suc i) b at_answer)
-    (step_keeps IsReached reached_kept k w f.0 event a f.1 reached) fewer f.3)
+    (λ side i u at_view lasts. shown side (suc i) u at_view lasts) (shown_reached v f.0 views f.2 shown) fewer f.3)
   where
     events_left : List RunEvent
     events_left = without (λ i. gone (suc i)) events
@@ -91,14 +102,14 @@ erases_from k gone w end (event ∷ events) (a ∷ told) (v ∷ views) client se
         let rest = later step.0 step.1 step.2 in
         (rest.0, rest.1, (with_counts f.0 step.0 step.1, step.3, f.2, rest.2))
 
-pub erases : (k : Policies) (gone : ℕ → Bool) (w end : World) (events : List RunEvent) (told : List Answer) (views : List View) → AreValidated w → Chosen gone events told → StayBelow told → Follows k w events told views end
+pub erases : (k : Policies) (gone : ℕ → Bool) (w end : World) (events : List RunEvent) (told : List Answer) (views : List View) → ((side : Side) → (end_at side w).path.validated ≡ true) → AreShown views → Chosen gone events told → StayBelow told → Follows k w events told views end
     → GoesOn k gone w end events told views
-erases k gone w end events told views validated idle below f = erases_from k gone w end events told views w.client_heard w.server_heard idle below (inr validated.0, inr validated.1) (omega arith, omega arith) f
+erases k gone w end events told views validated shown idle below f = erases_from k gone w end events told views w.client_heard w.server_heard idle below shown (inr (validated Client), inr (validated Server)) (omega arith, omega arith) f
 
 -- so the run is one again
 pub isolated : (r : Run) (end : World) → IsRun r end → Isolated r end
 isolated r end run validated gone idle below =
-    let on = erases r.keys gone r.start end r.events r.answers r.views validated (λ side i call a chosen at_event at_answer. idle side i call a chosen (record { event = at_event; answer = at_answer })) below run.follows in (
+    let on = erases r.keys gone r.start end r.events r.answers r.views validated.start validated.behind (λ side i call a chosen at_event at_answer. idle side i call a chosen (record { event = at_event; answer = at_answer })) below run.follows in (
       on.0,
       on.1,
       record {

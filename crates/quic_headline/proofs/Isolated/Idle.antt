@@ -2,6 +2,7 @@
 -- is all that changes.
 use Rattle.std.proofs.Common.{◌≡◌, ℕ, ◌+◌, ◌*◌, Bool, true, false, not, ◌||◌, ◌&&◌, nat_lt, List, [], Option, Some, None, Result, Ok, Err, inl, inr, refl, sym, ap, ◌∙◌, subst, arith}
 use Rattle.std.specs.Prelude.{if◌then◌else◌, slice_get}
+use Rattle.std.proofs.lemmas.Bool.{eq-eqb}
 use Rattle.std.proofs.lemmas.List.{append-nil}
 use Rattle.quic_wire_core.specs.declared.shared.EcnCodepoint.{EcnCodepoint}
 use Rattle.quic_wire_core.specs.declared.stream_id.Side.{Side}
@@ -9,8 +10,6 @@ use Rattle.quic_wire_core.specs.declared.stream_id.Side.TheVariants.{Client, Ser
 use Rattle.quic_wire_core.specs.StreamId.{other_side}
 use Rattle.quic_packet.specs.Header.{key_phase}
 use Rattle.quic_packet.specs.Datagram.{Opening}
-use Rattle.quic_packet.specs.Destination.{decoded, fixed_length_id}
-use Rattle.quic_packet.specs.declared.packet.HeaderError.{HeaderError}
 use Rattle.quic_recovery_core.specs.Duplicates.{is_duplicate}
 use Rattle.quic_spaces.specs.Numbers.{number_opened}
 use Rattle.quic_congestion.specs.Congestion.{Told}
@@ -28,21 +27,22 @@ use Rattle.quic_machine.specs.declared.run.Injection.{Injection}
 use Rattle.quic_machine.specs.declared.run.Answer.{Answer}
 use Rattle.quic_machine.specs.declared.run.Answer.TheVariants as answers
 use Rattle.quic_machine.specs.Policy.{Policy}
-use Rattle.quic_machine.specs.Ids.{known}
 use Rattle.quic_machine.specs.End.{End, with_closing, with_numbers, with_window}
 use Rattle.quic_machine.specs.Parts.{current_mtu}
 use Rattle.quic_machine.specs.Validation.{is_blocked, with_blocked}
 use Rattle.quic_machine.specs.Poll.{polled_in}
 use Rattle.quic_machine.specs.Lacking.{GivesOrHasFailed, LacksWhere}
 use Rattle.quic_time.specs.Clocks.{saturated}
-use Rattle.quic_machine.specs.Control.{Control, after_told}
-use Rattle.quic_machine.specs.Opens.{own_id_length, would_open}
+use Rattle.quic_machine.specs.Control.{Control, after_told, with_pacing}
+use Rattle.quic_machine.specs.Migration.{has_moved, pacing_moved}
+use Rattle.quic_machine.specs.Opens.{head, would_open}
 use Rattle.quic_machine.specs.Closing.{ticked}
 use Rattle.quic_wire.specs.Items.{items}
-use Rattle.quic_machine.specs.Receive.{Fault, dropped, asks_in, is_urged, ends_as, take_payload, by_state, opened_to, opened_as, opening, headed, received_in, received, told_by_state, told_opened, told_opened_as, told_headed, told_received_in, told_received, broke, too_many_pieces, closed_by_peer, unopened_in, is_read, drawn_if}
+use Rattle.quic_machine.specs.Receive.{Fault, Outcome, dropped, asks_in, is_urged, ends_as, take_payload, by_state, opened_to, opened_as, opening, headed, received_in, received, told_by_state, told_opened, told_opened_as, told_headed, told_received_in, told_received, broke, too_many_pieces, closed_by_peer, unopened_in, is_read, is_taken, items_taken, drawn_if, with_ids_drawn}
 use Rattle.quic_machine.specs.Heard.{Heard}
-use Rattle.quic_machine.specs.Machine.{IsAnswer, IsDelivered, injected_if, after_call, after_delivered, told_delivered, tells, gives, fails, reads_window, end_left, IsLeft, IsTold, IsHeard, heard_by, World, Policies, policy_at, end_at, end_met, control_at, heard_at, given_by, changed, IsStep, says_last, after_injected_if}
+use Rattle.quic_machine.specs.Machine.{IsAnswer, IsDelivered, injected_if, after_call, after_delivered, told_delivered, tells, gives, fails, reads_window, pacing_left, end_left, IsLeft, IsTold, IsHeard, heard_by, World, Policies, policy_at, end_at, end_met, control_at, heard_at, given_by, changed, IsStep, says_last, after_injected_if}
 use Rattle.quic_machine.specs.declared.answers.Received.{Received}
+use Rattle.quic_headline.proofs.Packets.Moved.{by_migration}
 use Rattle.quic_headline.proofs.Timers.BothEnds.{AtBoth}
 use Rattle.quic_headline.proofs.Isolated.Injected.{injected_stays}
 use Rattle.quic_headline.proofs.Isolated.Validated.{HasFailed, IsReached}
@@ -73,8 +73,10 @@ ends_taken (Some too_many_pieces) asking urged n mark e reason is = cc
 state_drops : (state : State) (o : Opening) (arrival : Arrival) (e : End) (reason : DropReason) → reads state ≡ true → (by_state state o arrival e).answer ≡ Dropped reason → drops_whole reason ≡ true → ⊥
 state_drops states.Open o arrival e reason reading is whole =
     let begins : End = with_closing e (ticked e.closing arrival.now) in
-    let p = take_payload o.first (items o.payload) begins in
-    ends_taken p.fault (asks_in (items o.payload)) (is_urged arrival.mark (items o.payload) begins) o.number arrival.mark p.end reason is
+    let asks = asks_in (items o.payload) in
+    let within = items_taken o arrival e in
+    let p = take_payload o.first within begins in
+    ends_taken p.fault asks (is_urged arrival.mark asks within begins) o.number arrival.mark p.end reason is
 state_drops states.Closing o arrival e reason reading is whole =
     let same : reason ≡ drops.Closing = cc in
     let clash : ◌≡◌ {A = Bool} false true = subst (λ (x : DropReason). drops_whole x ≡ true) same whole in
@@ -110,11 +112,12 @@ drops_undrawn a reason is = ap is_read is
 
 packet_idle : (o : Option Opening) (p : Policy) (arrival : Arrival) (e : End) (reason : DropReason) → reads e.closing.state ≡ true → drops_whole reason ≡ true → (opened_as o p arrival e).answer ≡ Dropped reason
     → Untouched e (opened_as o p arrival e).end (told_opened_as o arrival e)
-packet_idle None p arrival e reason reading whole is = unopened_idle e.closing.state arrival.last arrival e reason is
-packet_idle (Some o) p arrival e reason reading whole is =
-    subst (λ (b : Bool). Untouched e (drawn_if b p (opened_to o arrival e).end) (told_opened o arrival e)) (sym (drops_undrawn (opened_to o arrival e).answer reason is)) (opened_idle o arrival e reason reading whole is)
+packet_idle None p arrival e reason reading whole = unopened_idle e.closing.state arrival.last arrival e reason
+packet_idle (Some o) p arrival e reason reading whole = by_migration (λ (out : Outcome). out.answer ≡ Dropped reason → Untouched e out.end (told_opened o arrival e)) p o arrival.remote e (with_ids_drawn p (opened_to o arrival e))
+    (λ is. subst (λ (b : Bool). Untouched e (drawn_if b p (opened_to o arrival e).end) (told_opened o arrival e)) (sym (drops_undrawn (opened_to o arrival e).answer reason is)) (opened_idle o arrival e reason reading whole is))
+    (λ moved taken opened is. (let clash : false ≡ true = sym (ap is_taken is) ∙ taken in cc))
 
-headed_idle : (r : Result (List ℕ) HeaderError) (p : Policy) (e : End) (arrival : Arrival) (d : List ℕ) (reason : DropReason) → reads e.closing.state ≡ true → drops_whole reason ≡ true → (headed r p e arrival d).answer ≡ Dropped reason
+headed_idle : (r : Result (List ℕ) DropReason) (p : Policy) (e : End) (arrival : Arrival) (d : List ℕ) (reason : DropReason) → reads e.closing.state ≡ true → drops_whole reason ≡ true → (headed r p e arrival d).answer ≡ Dropped reason
     → Untouched e (headed r p e arrival d).end (told_headed r p e arrival d)
 headed_idle (Err error) p e arrival d reason reading whole is = (refl, refl)
 headed_idle (Ok id) p e arrival d reason reading whole is = packet_idle (opening p e d) p arrival e reason reading whole is
@@ -124,14 +127,14 @@ pub received_idle : (p : Policy) (e : End) (arrival : Arrival) (d : List ℕ) (r
     → Untouched e (received p e arrival d).end (told_received p e arrival d)
 received_idle p e arrival d reason whole = go e.closing.state refl
   where
-    head : Result (List ℕ) HeaderError
-    head = decoded (fixed_length_id own_id_length) (known e.ids) d
+    header : Result (List ℕ) DropReason
+    header = head e arrival.remote d
 
     go : (state : State) → e.closing.state ≡ state → (received_in state p e arrival d).answer ≡ Dropped reason → Untouched e (received_in state p e arrival d).end (told_received_in state p e arrival d)
     go states.Failed here is = (refl, refl)
     go states.Drained here is = (refl, refl)
-    go states.Open here is = headed_idle head p e arrival d reason (ap reads here) whole is
-    go states.Closing here is = headed_idle head p e arrival d reason (ap reads here) whole is
+    go states.Open here is = headed_idle header p e arrival d reason (ap reads here) whole is
+    go states.Closing here is = headed_idle header p e arrival d reason (ap reads here) whole is
 
 -- ---- an idle call
 
@@ -156,6 +159,15 @@ delivered_idle (Some d) p e delivery reason whole (inl is) =
     received_idle p e (delivered_by false delivery) d reason whole dropped
 delivered_idle (Some d) p e delivery reason whole (inr is) = absurd cc
 
+-- where the end is as it was, so is its pacer
+pacing_same : (p : Policy) (control : Control) (e left : End) (theirs : List (List ℕ)) (delivery : Delivery) → left ≡ e → with_pacing left (pacing_left (control (tells p e theirs (calls.Deliver delivery))) (calls.Deliver delivery) e left) ≡ e
+pacing_same p control e left theirs delivery same =
+    ap (λ (x : End). with_pacing x (pacing_moved (has_moved e x) window x)) same
+    ∙ ap (λ (b : Bool). with_pacing e (pacing_moved (not b) window e)) (eq-eqb e.path.generation e.path.generation refl)
+  where
+    window : ℕ
+    window = control (tells p e theirs (calls.Deliver delivery))
+
 idle_call : (p : Policy) (control : Control) (heard : Heard) (e : End) (theirs : List (List ℕ)) (call : Call) (a : Answer) → is_idle call a ≡ true → says_last a ≡ false → IsAnswer p (reads_window control heard call e) theirs call a → Idles p control heard e theirs call a
 idle_call p control heard e theirs (calls.Inject injection) a idle early is = record {
   left = subst (λ (b : Bool). after_injected_if (would_open p e injection.remote injection.bytes) b p e injection ≡ e) (sym early) (injected_stays p e injection);
@@ -165,7 +177,7 @@ idle_call p control heard e theirs (calls.Inject injection) a idle early is = re
 }
 idle_call p control heard e theirs (calls.Deliver delivery) (answers.Deliver (Dropped reason)) idle early is =
     let untouched = delivered_idle (slice_get theirs delivery.index) p e delivery reason idle is in
-    record { left = untouched.0; told = untouched.1; given = refl; served = refl }
+    record { left = pacing_same p control e (after_delivered p e (delivered_by false delivery) (slice_get theirs delivery.index)) theirs delivery untouched.0; told = untouched.1; given = refl; served = refl }
 idle_call p control heard e theirs call a idle early is = absurd cc
 
 -- ---- an idle event
@@ -230,11 +242,11 @@ idle_leaves k w next event a idle early step = subst (SameButCounts w) (sym same
 -- ---- what was counted before
 
 -- what memory doesn't lack for is counted; of an end that fails nothing is said
-next_counts : (failed : Bool) (theirs : List (List ℕ)) (call : Call) (a : Answer) (less more next : Heard) → AreFewer less more → IsHeard failed theirs call a more next
-    → (left : Heard) × IsHeard failed theirs call a less left × AreFewer left next
-next_counts true theirs call a less more next few is = (next, tt, omega arith)
-next_counts false theirs call a less more next few is =
-    (heard_by theirs call a less, refl, subst (λ (h : Heard). AreFewer (heard_by theirs call a less) h) (sym is) (by_fewer theirs call a less more few))
+next_counts : (failed : Bool) (before after : End) (theirs : List (List ℕ)) (call : Call) (a : Answer) (less more next : Heard) → AreFewer less more → IsHeard failed before after theirs call a more next
+    → (left : Heard) × IsHeard failed before after theirs call a less left × AreFewer left next
+next_counts true before after theirs call a less more next few is = (next, tt, omega arith)
+next_counts false before after theirs call a less more next few is =
+    (heard_by before after theirs call a less, refl, subst (λ (h : Heard). AreFewer (heard_by before after theirs call a less) h) (sym is) (by_fewer before after theirs call a less more few))
 
 -- what an end is answered, leaves, tells and gives, where it has counted this
 record Parts (p : Policy) (control : Control) (heard : Heard) (e next : End) (theirs : List (List ℕ)) (call : Call) (a : Answer) (after : Control) (given : List (List ℕ)) : Type 0 where
@@ -251,7 +263,7 @@ module _ (p : Policy) (control : Control) (less more : Heard) (e next : End) (th
 
   left_same : (b : Bool) → met more ≡ met less → IsLeft b p control more e theirs call a next → IsLeft b p control less e theirs call a next
   left_same true same is = is
-  left_same false same is = is ∙ ap (λ (x : End). after_call p x theirs call a) same
+  left_same false same is = is ∙ ap (λ (x : End). with_pacing (after_call p x theirs call a) (pacing_left (control (tells p x theirs call)) call x (after_call p x theirs call a))) same
 
   told_same : (b : Bool) → met more ≡ met less → IsTold b p control more e theirs call after → IsTold b p control less e theirs call after
   told_same true same is = is
@@ -314,7 +326,7 @@ step_counts k w next event a client server reached early few step = go event.sid
     go : (side : Side) (call : Call) → IsStep k w (record { side = side; call = call }) a next
         → (client_next : Heard) × (server_next : Heard) × HaveFewer client_next server_next next × IsStep k (with_counts w client server) (record { side = side; call = call }) a (with_counts next client_next server_next)
     go Client call s =
-        let heard = next_counts (fails a) w.from_server call a client w.client_heard next.client_heard few.0 s.heard in
+        let heard = next_counts (fails a) w.client next.client w.from_server call a client w.client_heard next.client_heard few.0 s.heard in
         let parts = parts_less k.client w.client_control client w.client_heard w.client next.client w.from_server call a next.client_control _ reached.0
         (record { answer = s.answer; end = s.end; told = s.control; sends = refl; lacking = s.lacking }) in
         let kept : next.server_heard ≡ w.server_heard = ap (λ (v : World). v.server_heard) s.others in (
@@ -332,7 +344,7 @@ step_counts k w next event a client server reached early few step = go event.sid
           },
         )
     go Server call s =
-        let heard = next_counts (fails a) w.from_client call a server w.server_heard next.server_heard few.1 s.heard in
+        let heard = next_counts (fails a) w.server next.server w.from_client call a server w.server_heard next.server_heard few.1 s.heard in
         let parts = parts_less k.server w.server_control server w.server_heard w.server next.server w.from_client call a next.server_control _ reached.1
         (record { answer = s.answer; end = s.end; told = s.control; sends = refl; lacking = s.lacking }) in
         let kept : next.client_heard ≡ w.client_heard = ap (λ (v : World). v.client_heard) s.others in (
@@ -354,10 +366,10 @@ step_counts k w next event a client server reached early few step = go event.sid
 pub idle_counts : (k : Policies) (w next : World) (event : RunEvent) (a : Answer) (client server : Heard) → is_idle event.call a ≡ true → says_last a ≡ false → HaveFewer client server w → IsStep k w event a next → HaveFewer client server next
 idle_counts k w next event a client server idle early few step = go event.side event.call (idle_serves event.call a idle step.answer) step
   where
-    counted : (theirs : List (List ℕ)) (call : Call) (less more after : Heard) → fails a ≡ false → AreFewer less more → IsHeard (fails a) theirs call a more after → AreFewer less after
-    counted theirs call less more after served fewer is =
-        let same : after ≡ heard_by theirs call a more = subst (λ (b : Bool). IsHeard b theirs call a more after) served is in
-        let grown : AreFewer more after = subst (λ (h : Heard). AreFewer more h) (sym same) (by_grows theirs call a more) in
+    counted : (e x : End) (theirs : List (List ℕ)) (call : Call) (less more after : Heard) → fails a ≡ false → AreFewer less more → IsHeard (fails a) e x theirs call a more after → AreFewer less after
+    counted e x theirs call less more after served fewer is =
+        let same : after ≡ heard_by e x theirs call a more = subst (λ (b : Bool). IsHeard b e x theirs call a more after) served is in
+        let grown : AreFewer more after = subst (λ (h : Heard). AreFewer more h) (sym same) (by_grows e x theirs call a more) in
         omega arith
 
     idle_serves : (call : Call) (b : Answer) → is_idle call b ≡ true → IsAnswer (policy_at event.side k) (reads_window (control_at event.side w) (heard_at event.side w) call (end_at event.side w)) (given_by (other_side event.side) w) call b → fails b ≡ false
@@ -367,10 +379,10 @@ idle_counts k w next event a client server idle early few step = go event.side e
 
     go : (side : Side) (call : Call) → fails a ≡ false → IsStep k w (record { side = side; call = call }) a next → HaveFewer client server next
     go Client call served s = (
-      counted w.from_server call client w.client_heard next.client_heard served few.0 s.heard,
+      counted w.client next.client w.from_server call client w.client_heard next.client_heard served few.0 s.heard,
       subst (λ (h : Heard). AreFewer server h) (sym (ap (λ (v : World). v.server_heard) s.others)) few.1,
     )
     go Server call served s = (
       subst (λ (h : Heard). AreFewer client h) (sym (ap (λ (v : World). v.client_heard) s.others)) few.0,
-      counted w.from_client call server w.server_heard next.server_heard served few.1 s.heard,
+      counted w.server next.server w.from_client call server w.server_heard next.server_heard served few.1 s.heard,
     )

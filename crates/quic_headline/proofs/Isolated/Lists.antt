@@ -168,11 +168,11 @@ module _ (r : Run) (end : World) (run : IsRun r end) (started : AreStarted r.sta
       (of_chosen (brings_nothing r j) (slice_get r.events j) (slice_get r.answers j) event a chosen is_event is_answer)
 
   -- so without what is chosen it goes on
-  pub goes_on_without : AreValidated r.start → (i : ℕ) → AreServed r i → FailuresStayBelow r → GoesOnWithout (listed_idle r) r i
+  pub goes_on_without : AreValidated r → (i : ℕ) → AreServed r i → FailuresStayBelow r → GoesOnWithout (listed_idle r) r i
   goes_on_without validated i served below =
       let at : Place i = place i served in
       let gave = grown r.keys at.world (drop i r.events) (drop i r.answers) (drop i r.views) end at.goes_on in
-      let on = erases r.keys (listed_idle r) r.start at.world (take i r.events) (take i r.answers) (take i r.views) validated (chosen_idle i served below) (λ j a at_answer. below j a (taken_get r.answers i j a at_answer)) at.came in
+      let on = erases r.keys (listed_idle r) r.start at.world (take i r.events) (take i r.answers) (take i r.views) validated.start (λ by j v at_view. validated.behind by j v (taken_get r.views i j v at_view)) (chosen_idle i served below) (λ j a at_answer. below j a (taken_get r.answers i j a at_answer)) at.came in
       let client = gave_first Client at.world gave in
       let server = gave_first Server at.world gave in
       record {

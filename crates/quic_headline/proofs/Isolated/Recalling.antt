@@ -8,7 +8,6 @@ use Rattle.quic_wire.specs.declared.frame.InvalidFrame.{InvalidFrame}
 use Rattle.quic_wire.specs.Value.{FrameValue}
 use Rattle.quic_packet.specs.Header.{key_phase, reserved_bits}
 use Rattle.quic_packet.specs.Datagram.{Opening}
-use Rattle.quic_packet.specs.Destination.{decoded, fixed_length_id}
 use Rattle.quic_packet.specs.declared.packet.HeaderError.{HeaderError}
 use Rattle.quic_packet.specs.declared.packet.HeaderError.TheVariants as headers
 use Rattle.quic_recovery_core.specs.Duplicates.{Seen, is_duplicate, after_insert}
@@ -26,12 +25,11 @@ use Rattle.quic_machine.specs.declared.run.Delivery.{Delivery}
 use Rattle.quic_machine.specs.declared.run.Answer.{Answer}
 use Rattle.quic_machine.specs.declared.run.Answer.TheVariants as answers
 use Rattle.quic_machine.specs.Policy.{Policy}
-use Rattle.quic_machine.specs.Ids.{known}
 use Rattle.quic_machine.specs.Closing.{ticked}
 use Rattle.quic_machine.specs.End.{End, with_closing, closed_by, with_numbers}
 use Rattle.quic_machine.specs.Control.{Control}
-use Rattle.quic_machine.specs.Opens.{own_id_length, in_phase, opens_behind}
-use Rattle.quic_machine.specs.Receive.{Fault, broke, too_many_pieces, closed_by_peer, Progress, Outcome, error_of, reason_of, violation, is_empty, asks_in, is_urged, take_frame, take_items, take_payload, dropped, ends_as, by_state, is_read, drawn_if, with_ids_drawn, unopened_in, opened_as, opening, drop_of, headed, received_in, received}
+use Rattle.quic_machine.specs.Opens.{head, in_phase, opens_behind}
+use Rattle.quic_machine.specs.Receive.{Fault, broke, too_many_pieces, closed_by_peer, Progress, Outcome, error_of, reason_of, violation, is_empty, asks_in, is_urged, take_frame, take_items, take_payload, dropped, ends_as, by_state, is_read, items_taken, drawn_if, with_ids_drawn, has_migrated, unopened_in, opened_to, opened_as, opening, drop_of, headed, received_in, received}
 use Rattle.quic_machine.specs.Poll.{Polled, Draft, polled, draft_as, lazied_as, Leaving, whole}
 use Rattle.quic_machine.specs.DraftLaws.{Writing, by_leave, MayLeave}
 use Rattle.quic_machine.specs.Puts as puts
@@ -47,6 +45,8 @@ use Rattle.quic_headline.specs.Isolated.{drops_whole, is_new}
 use Rattle.quic_machine.specs.Heard.{Heard}
 use Rattle.quic_headline.proofs.Packets.Intakes.{nothing_handed}
 use Rattle.quic_headline.proofs.Packets.Apart.{by_waits, by_next_id}
+use Rattle.quic_headline.proofs.Packets.Moved.{by_migrated_if}
+use Rattle.quic_headline.proofs.Packets.Elsewhere.{by_dropped}
 use Rattle.quic_headline.proofs.Packets.Closes.{by_closes}
 use Rattle.quic_headline.proofs.Packets.Heard.{by_taken}
 use Rattle.quic_headline.proofs.Packets.Probes.{by_going}
@@ -126,7 +126,7 @@ module _ (i : Intake) where
 
   -- whichever window a poll reads
   pub left_still : (p : Policy) (control : Control) (heard : Heard) (e : End) (theirs : List (List ℕ)) (call : Call) (a : Answer) → is_delivery call ≡ false → Still e → Still (end_left p control heard e theirs call a)
-  left_still p control heard e theirs call a other k = by_left p e theirs Still k (λ window blocked k. k) control heard call a (λ x k. call_still p x theirs call a other k)
+  left_still p control heard e theirs call a other k = by_left p e theirs Still k (λ window blocked k. k) control heard call a (λ x pacing k. k) (λ x k. call_still p x theirs call a other k)
 
 -- ---- a packet that is new
 
@@ -201,23 +201,28 @@ state_keeps : (state : State) (o : Opening) (arrival : Arrival) (e : End) (i : I
     → Keeps (by_state state o arrival (with_numbers e (number_opened e.numbers o.number))).end (with_new o (answers.Deliver (by_state state o arrival (with_numbers e (number_opened e.numbers o.number))).answer) i)
 state_keeps states.Open o arrival e i here is_open k =
     let begins : End = begun e arrival.now o.number in
-    let p : Progress = take_payload o.first (items o.payload) begins in
-    ends_keeps p.fault (asks_in (items o.payload)) (is_urged arrival.mark (items o.payload) begins) arrival.mark e p.end o i here k (payload_begun e o.number arrival.now o.first (items o.payload))
+    let asks = asks_in (items o.payload) in
+    let within : List (Result FrameValue InvalidFrame) = items_taken o arrival e in
+    let p : Progress = take_payload o.first within begins in
+    ends_keeps p.fault asks (is_urged arrival.mark asks within begins) arrival.mark e p.end o i here k (payload_begun e o.number arrival.now o.first within)
 state_keeps states.Closing o arrival e i here is_open k = absurd cc
 state_keeps states.Drained o arrival e i here is_open k = absurd cc
 state_keeps states.Failed o arrival e i here is_open k = absurd cc
 
 -- ---- a delivery
 
--- ids that are drawn behind it change nothing of this
+-- ids that are drawn behind it change nothing of this, nor does another path
 drawn_keeps : (b : Bool) (p : Policy) (e : End) (i : Intake) → Keeps e i → Keeps (drawn_if b p e) i
 drawn_keeps true p e i k = k
 drawn_keeps false p e i k = k
 
+moved_keeps : (o : Opening) (p : Policy) (arrival : Arrival) (e : End) (i : Intake) → Keeps (with_ids_drawn p (opened_to o arrival e)).end i → Keeps (opened_as (Some o) p arrival e).end i
+moved_keeps o p arrival e i k = let out = with_ids_drawn p (opened_to o arrival e) in by_migrated_if (λ (x : End). Keeps x i) p o arrival.remote out.end (λ c. k) (λ c most. k) (has_migrated o arrival.remote e out) k
+
 -- a packet that opened, or didn't, at an open end
 opened_keeps : (o : Opening) (p : Policy) (arrival : Arrival) (e : End) (i : Intake) → e.closing.state ≡ states.Open → Keeps e i
     → Keeps (opened_as (Some o) p arrival e).end (and_opened (in_phase (Some o)) (answers.Deliver (opened_as (Some o) p arrival e).answer) i)
-opened_keeps o p arrival e i is_open k = go (key_phase o.first)
+opened_keeps o p arrival e i is_open k = moved_keeps o p arrival e (and_opened (in_phase (Some o)) (answers.Deliver (opened_to o arrival e).answer) i) (go (key_phase o.first))
   where
     noted : End
     noted = with_numbers e (number_opened e.numbers o.number)
@@ -249,14 +254,14 @@ packet_keeps : (o : Option Opening) (p : Policy) (arrival : Arrival) (e : End) (
 packet_keeps None p arrival e i is_open k = unopened_keeps e.closing.state arrival.last arrival e i k
 packet_keeps (Some o) p arrival e i is_open k = opened_keeps o p arrival e i is_open k
 
-headed_keeps : (r : Result (List ℕ) HeaderError) (p : Policy) (e : End) (arrival : Arrival) (d : List ℕ) (i : Intake) → e.closing.state ≡ states.Open → Keeps e i
+headed_keeps : (r : Result (List ℕ) DropReason) (p : Policy) (e : End) (arrival : Arrival) (d : List ℕ) (i : Intake) → e.closing.state ≡ states.Open → Keeps e i
     → Keeps (headed r p e arrival d).end (and_opened (opens_behind r p (expected e.numbers) d) (answers.Deliver (headed r p e arrival d).answer) i)
 headed_keeps (Err error) p e arrival d i is_open k = k
 headed_keeps (Ok id) p e arrival d i is_open k = packet_keeps (opening p e d) p arrival e i is_open k
 
 -- a closing end notes the number of a packet that opens, and no more
 noted_keeps : (o : Opening) (p : Policy) (arrival : Arrival) (e : End) (i : Intake) → e.closing.state ≡ states.Closing → Keeps e i → Keeps (opened_as (Some o) p arrival e).end i
-noted_keeps o p arrival e i here k = go (key_phase o.first) (is_duplicate e.numbers.opened o.number)
+noted_keeps o p arrival e i here k = moved_keeps o p arrival e i (go (key_phase o.first) (is_duplicate e.numbers.opened o.number))
   where
     noted : End
     noted = with_numbers e (number_opened e.numbers o.number)
@@ -269,7 +274,7 @@ noted_keeps o p arrival e i here k = go (key_phase o.first) (is_duplicate e.numb
     go false true = k
     go false false = subst (λ (s : State). Keeps (drawn_if (is_read (by_state s o arrival noted).answer) p (by_state s o arrival noted).end) i) (sym here) new
 
-closing_headed : (r : Result (List ℕ) HeaderError) (p : Policy) (e : End) (arrival : Arrival) (d : List ℕ) (i : Intake) → e.closing.state ≡ states.Closing → Keeps e i → Keeps (headed r p e arrival d).end i
+closing_headed : (r : Result (List ℕ) DropReason) (p : Policy) (e : End) (arrival : Arrival) (d : List ℕ) (i : Intake) → e.closing.state ≡ states.Closing → Keeps e i → Keeps (headed r p e arrival d).end i
 closing_headed (Err error) p e arrival d i here k = k
 closing_headed (Ok id) p e arrival d i here k = go (opening p e d)
   where
@@ -281,16 +286,16 @@ closing_headed (Ok id) p e arrival d i here k = go (opening p e d)
 pub received_keeps : (p : Policy) (e : End) (arrival : Arrival) (d : List ℕ) (i : Intake) → Keeps e i → Keeps (received p e arrival d).end (and_handed e.closing.state (Some d) p (answers.Deliver (received p e arrival d).answer) i)
 received_keeps p e arrival d i k = go e.closing.state refl
   where
-    head : Result (List ℕ) HeaderError
-    head = decoded (fixed_length_id own_id_length) (known e.ids) d
+    header : Result (List ℕ) DropReason
+    header = head e arrival.remote d
 
     go : (state : State) → e.closing.state ≡ state → Keeps (received_in state p e arrival d).end (and_handed state (Some d) p (answers.Deliver (received_in state p e arrival d).answer) i)
     go states.Failed here = k
     go states.Drained here = k
-    go states.Closing here = closing_headed head p e arrival d i here k
+    go states.Closing here = closing_headed header p e arrival d i here k
     go states.Open here =
-        subst (λ (o : Option Opening). Keeps (headed head p e arrival d).end (and_opened o (answers.Deliver (headed head p e arrival d).answer) i)) (sym (came_open_is p e arrival d i.took k.expected))
-        (headed_keeps head p e arrival d i here k)
+        subst (λ (o : Option Opening). Keeps (headed header p e arrival d).end (and_opened o (answers.Deliver (headed header p e arrival d).answer) i)) (sym (came_open_is p e arrival d i.took k.expected))
+        (headed_keeps header p e arrival d i here k)
 
 -- what stands in a list stands in a longer one
 pub first_get : {X : Type 0} (xs rest all : List X) (n : ℕ) (x : X) → xs ++ rest ≡ all → slice_get xs n ≡ Some x → slice_get all n ≡ Some x
@@ -371,20 +376,20 @@ packet_drops : (o : Option Opening) (p : Policy) (arrival : Arrival) (e : End) (
 packet_drops None p arrival e i early k old = unopened_drops e.closing.state arrival.last arrival e early
 packet_drops (Some o) p arrival e i early k old = opened_drops o p arrival e i k old
 
-headed_drops : (r : Result (List ℕ) HeaderError) (p : Policy) (e : End) (arrival : Arrival) (d : List ℕ) (i : Intake) → arrival.last ≡ false → Keeps e i → is_new (opens_behind r p (expected e.numbers) d) i.opened ≡ false → IsDropped (headed r p e arrival d)
-headed_drops (Err error) p e arrival d i early k old = (drop_of error, refl, header_drops error)
-headed_drops (Ok id) p e arrival d i early k old = packet_drops (opening p e d) p arrival e i early k old
+headed_drops : (r : Result (List ℕ) DropReason) (p : Policy) (e : End) (arrival : Arrival) (d : List ℕ) (i : Intake) → arrival.last ≡ false → Keeps e i → head e arrival.remote d ≡ r → is_new (opens_behind r p (expected e.numbers) d) i.opened ≡ false → IsDropped (headed r p e arrival d)
+headed_drops (Err reason) p e arrival d i early k is old = (reason, refl, by_dropped (λ (why : DropReason). drops_whole why ≡ true) e arrival.remote d reason refl header_drops is)
+headed_drops (Ok id) p e arrival d i early k is old = packet_drops (opening p e d) p arrival e i early k old
 
 -- a datagram that by the lists is nothing new is dropped, whatever the state of its end, unless it
 -- is the last that may not open
 pub old_is_dropped : (p : Policy) (e : End) (arrival : Arrival) (d : List ℕ) (i : Intake) → arrival.last ≡ false → Keeps e i → is_new (came_open p i.took (answers.Deliver (received p e arrival d).answer) d) i.opened ≡ false → IsDropped (received p e arrival d)
 old_is_dropped p e arrival d i early k = go e.closing.state
   where
-    head : Result (List ℕ) HeaderError
-    head = decoded (fixed_length_id own_id_length) (known e.ids) d
+    header : Result (List ℕ) DropReason
+    header = head e arrival.remote d
 
-    reads : is_new (came_open p i.took (answers.Deliver (headed head p e arrival d).answer) d) i.opened ≡ false → IsDropped (headed head p e arrival d)
-    reads old = headed_drops head p e arrival d i early k (ap (λ (o : Option Opening). is_new o i.opened) (sym (came_open_is p e arrival d i.took k.expected)) ∙ old)
+    reads : is_new (came_open p i.took (answers.Deliver (headed header p e arrival d).answer) d) i.opened ≡ false → IsDropped (headed header p e arrival d)
+    reads old = headed_drops header p e arrival d i early k refl (ap (λ (o : Option Opening). is_new o i.opened) (sym (came_open_is p e arrival d i.took k.expected)) ∙ old)
 
     go : (state : State) → is_new (came_open p i.took (answers.Deliver (received_in state p e arrival d).answer) d) i.opened ≡ false → IsDropped (received_in state p e arrival d)
     go states.Failed old = (drops.Failed, refl, refl)

@@ -2,7 +2,7 @@
 -- datagrams of the other whose numbers came.
 use Rattle.std.proofs.Common.{◌≡◌, ℕ, ◌+◌, ◌≤◌, Bool, true, false, List, [], ◌∷◌, ◌++◌, drop, Option, Some, None, Ok, option_to_list, refl, sym, ap, ◌∙◌, subst, arith}
 use Rattle.std.proofs.lemmas.List.{append_assoc, append-nil}
-use Rattle.quic_wire.specs.Value.{FrameValue, datagram}
+use Rattle.quic_wire.specs.Value.{FrameValue, datagram, path_challenge, path_response}
 use Rattle.quic_messages.specs.Messages.{Messages, oldest, after_received}
 use Rattle.quic_machine.specs.declared.run.Call.{Call}
 use Rattle.quic_machine.specs.declared.run.Call.TheVariants as calls
@@ -10,6 +10,7 @@ use Rattle.quic_machine.specs.declared.run.Answer.{Answer}
 use Rattle.quic_machine.specs.declared.run.Answer.TheVariants as answers
 use Rattle.quic_machine.specs.Policy.{Policy}
 use Rattle.quic_machine.specs.End.{End, closed_by, with_closing}
+use Rattle.quic_machine.specs.Migration.{as_elsewhere}
 use Rattle.quic_machine.specs.Receive.{Outcome, take_frame}
 use Rattle.quic_machine.specs.Poll.{Polled, Draft, polled, draft_as, Leaving}
 use Rattle.quic_machine.specs.MessageCalls.{limits_of}
@@ -24,7 +25,8 @@ use Rattle.quic_headline.specs.Observer.{Sent}
 use Rattle.quic_headline.specs.Messages.{received_by, received_messages}
 use Rattle.quic_machine.specs.Closing.{ticked}
 use Rattle.quic_headline.proofs.Packets.Closes.{by_closes}
-use Rattle.quic_headline.proofs.Packets.Delivered.{Arrivals, arrived}
+use Rattle.quic_headline.proofs.Packets.Delivered.{frames_at, Arrivals, arrived, with_taken}
+use Rattle.quic_headline.proofs.Packets.Moved.{by_migrated}
 use Rattle.quic_headline.proofs.Places.Parties.{told_of, Party, called, came_to, AreJoined}
 use Rattle.quic_headline.proofs.Places.Coming.{Meets, came_same, by_coming}
 use Rattle.quic_headline.proofs.Messages.Counted.{often, often_none, often_append, often_oldest, received_more, sent_leaves, messages_in, often_first, new_number, came, came_more, came_new}
@@ -99,6 +101,23 @@ module _ (m : List ℕ) (fs : List FrameValue) (e : End) where
       let most : often m (messages_in all.0) + often m (passed fs e).end.messages.queues.incoming ≤ often m (messages_in fs) + often m e.messages.queues.incoming = all.1 in
       omega arith
 
+-- a frame that comes from elsewhere holds the message it would hold
+elsewhere_leaves : (f : FrameValue) (fs : List FrameValue) → messages_in (as_elsewhere f ∷ fs) ≡ messages_in (f ∷ fs)
+elsewhere_leaves (path_challenge token) fs = refl
+elsewhere_leaves (path_response token) fs = refl
+elsewhere_leaves f fs = refl
+
+-- and a frame the message it holds, before any frames of the same messages
+first_message : (f : FrameValue) (fs gs : List FrameValue) → messages_in fs ≡ messages_in gs → messages_in (f ∷ fs) ≡ messages_in (f ∷ gs)
+first_message (datagram m) fs gs same = ap (λ (ms : List (List ℕ)). m ∷ ms) same
+first_message f fs gs same = same
+
+-- those that are taken of a packet have the same messages, wherever it came from
+messages_at : (here : Bool) (fs : List FrameValue) → messages_in (frames_at here fs) ≡ messages_in fs
+messages_at true fs = refl
+messages_at false [] = refl
+messages_at false (f ∷ fs) = elsewhere_leaves f (frames_at false fs) ∙ first_message f (frames_at false fs) fs (messages_at false fs)
+
 -- ---- what came
 
 -- a message was received or is unread at most as often as it stands in these datagrams, of those
@@ -119,19 +138,23 @@ comes_further : (m : List ℕ) (told before after brought was now : List (List �
 comes_further m told before after brought was now first step more = omega arith
 
 -- and in each case of a delivery
-comes_arrivals : (e : End) (now : ℕ) (s : Sent) (i : Intake) (sents : List Sent) (told : List Told) → In s sents → Comes e i sents told → Arrivals e now s.number s.frames i (λ (o : Outcome) (j : Intake). Comes o.end j sents told)
-comes_arrivals e now s i sents told among before = record {
+comes_arrivals : (e : End) (now : ℕ) (s : Sent) (here : Bool) (i : Intake) (sents : List Sent) (told : List Told) → In s sents → Comes e i sents told → Arrivals e now s.number s.frames (frames_at here s.frames) i (λ (o : Outcome) (j : Intake). Comes o.end j sents told)
+comes_arrivals e now s here i sents told among before = record {
   ignored = λ reason. before;
   noted = λ state reason. record { most = before.most };
   takes = λ words state new none urged mark. record { most = brought new };
+  moves = λ p o same remote x opened left. by_migrated (λ (z : End). Comes z (with_taken i s.number s.frames) sents told) p o remote x (λ c. record { most = left.most }) (λ c most. record { most = left.most });
   drains = λ words state new close is. record { most = brought new };
   refuses = λ words state new f is. record { most = brought new };
   exhausts = λ state. record { most = before.most };
 }
   where
-    brought : is_again s.number i.opened ≡ false → (m : List ℕ) → often m (received_messages told) + often m (arrived e now s.number s.frames).end.messages.queues.incoming ≤ often m (came (s.number ∷ i.opened) sents)
-    brought new m = comes_further m (received_messages told) e.messages.queues.incoming (arrived e now s.number s.frames).end.messages.queues.incoming (messages_in s.frames) (came i.opened sents) (came (s.number ∷ i.opened) sents)
-        (before.most m) (frames_bring m s.frames (begun e now s.number)) (came_new m s i.opened sents among (new_number s.number i.opened new))
+    within : List FrameValue
+    within = frames_at here s.frames
+
+    brought : is_again s.number i.opened ≡ false → (m : List ℕ) → often m (received_messages told) + often m (arrived e now s.number within).end.messages.queues.incoming ≤ often m (came (s.number ∷ i.opened) sents)
+    brought new m = comes_further m (received_messages told) e.messages.queues.incoming (arrived e now s.number within).end.messages.queues.incoming (messages_in s.frames) (came i.opened sents) (came (s.number ∷ i.opened) sents)
+        (before.most m) (subst (λ (ms : List (List ℕ)). often m (arrived e now s.number within).end.messages.queues.incoming ≤ often m ms + often m e.messages.queues.incoming) (messages_at here s.frames) (frames_bring m within (begun e now s.number))) (came_new m s i.opened sents among (new_number s.number i.opened new))
 
 -- ---- what was received
 
@@ -188,5 +211,5 @@ comes_step x y call a joined served meets is before =
     (by_coming x y a joined served meets (λ (e : End) (i : Intake). Comes e i y.sents x.told) call is (record {
       apart = λ apart. comes_kept x.end (after_call x.policy x.end y.given call a) (came_to x y) y.sents x.told (call_leaves x.policy x.end y.given call a apart refl) before;
       none = λ delivery at. before;
-      comes = λ delivery at s among. comes_arrivals x.end delivery.now s (came_to x y) y.sents x.told among before;
+      comes = λ delivery at s among here. comes_arrivals x.end delivery.now s here (came_to x y) y.sents x.told among before;
     }))

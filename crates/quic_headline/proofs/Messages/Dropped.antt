@@ -170,9 +170,9 @@ quiet_drops p e theirs call a unpolled apart off known sized = by_call p e their
     same = same_drops s sized
 
 -- and in each case of a delivery
-pub arrivals_drop : (e : End) (now n : ℕ) (frames : List FrameValue) (came : Intake) → AllSayIds IsLong AnyNumber frames → KnownLong e.ids.peer → IsSized 1200 MAX_UDP_PAYLOAD e.path.discovery
-    → Arrivals e now n frames came (λ (o : Outcome) (i : Intake). Drops (sizing e) (sizing o.end))
-arrivals_drop e now n frames came says known sized = arrivals_size (Drops (sizing e)) (searching (sizing e)) e now n frames came says known (same_drops (sizing e) sized)
+pub arrivals_drop : (e : End) (now n : ℕ) (frames taken : List FrameValue) (came : Intake) → AllSayIds IsLong AnyNumber taken → KnownLong e.ids.peer → IsSized 1200 MAX_UDP_PAYLOAD e.path.discovery
+    → Arrivals e now n frames taken came (λ (o : Outcome) (i : Intake). KnownLong o.end.ids.peer × Drops (sizing e) (sizing o.end))
+arrivals_drop e now n frames taken came says known sized = arrivals_size (Drops (sizing e)) (searching (sizing e)) e now n frames taken came says known (same_drops (sizing e) sized)
 
 -- those wait behind it that aren't too long
 pub quiet_leaves : (s t : Sizing) → Drops s t → AreTaken (Some (bound s)) s.outgoing → t.outgoing ≡ short_ones (longest_of t) s.outgoing

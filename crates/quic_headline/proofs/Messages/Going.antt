@@ -26,6 +26,7 @@ use Rattle.quic_headline.specs.Observer.{Sent}
 use Rattle.quic_headline.specs.Messages as messages
 use Rattle.quic_headline.specs.Messages.{sent_messages}
 use Rattle.quic_headline.proofs.Packets.Entries.{IsControl, control_of}
+use Rattle.quic_headline.proofs.Packets.Moved.{by_migrated}
 use Rattle.quic_headline.proofs.Packets.Sends.{GivesClose, by_sends}
 use Rattle.quic_headline.proofs.Packets.Owing.{Owes, error_owes, close_is, close_alone}
 use Rattle.quic_headline.proofs.Places.Steps.{poll_answer}
@@ -93,6 +94,7 @@ delivery_leaves m p e arrival (Some d) = by_received (λ (f : End). FewWait m e 
   asks_close = λ x few. few;
   exhausts = λ now x few. few;
   draws = λ words x few. few;
+  moves = λ q o remote x few. by_migrated (λ (f : End). FewWait m e f.messages.queues) q o remote x (λ c. few) (λ c most. drop_fewer m e most x.messages.queues few);
 }) p e arrival d (omega arith)
 
 -- ---- any call

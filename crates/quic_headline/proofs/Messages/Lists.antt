@@ -36,7 +36,8 @@ use Rattle.quic_headline.proofs.Packets.Watching.{told_own}
 use Rattle.quic_headline.proofs.Places.Steps.{only_polls_give}
 use Rattle.quic_headline.proofs.Places.Moments.{told_none, last_view}
 use Rattle.quic_headline.proofs.Packets.Group.{meets}
-use Rattle.quic_headline.proofs.Packets.Ids.{KnownLong}
+use Rattle.quic_headline.proofs.Packets.Ids.{SaysIds, IsLong, AnyNumber, KnownLong}
+use Rattle.quic_headline.proofs.Packets.Delivered.{frames_at, among_at}
 use Rattle.quic_headline.proofs.Places.Coming.{by_coming}
 use Rattle.quic_headline.proofs.Places.Parties.{Party, told_of, came_to, sents_by}
 use Rattle.quic_headline.proofs.Places.Placed.{party_at, placed, start_is}
@@ -49,7 +50,7 @@ use Rattle.quic_headline.proofs.Held.Messages.{bound}
 use Rattle.quic_headline.proofs.Held.Clause.{Shortly, shortly, polls_send_messages}
 use Rattle.quic_headline.proofs.Rest.Between.{step_leaves, side_is}
 use Rattle.quic_headline.proofs.Sizes.Moves.{did_there}
-use Rattle.quic_headline.proofs.Steps.Made.{served_before, told_next, told_here, made_served, made_end, reads_either, calling, call_holds, observed_poll, poll_holds, sents_more}
+use Rattle.quic_headline.proofs.Steps.Made.{served_before, told_next, told_here, made_served, left_at, made_end, reads_either, calling, call_holds, observed_poll, poll_holds, sents_more}
 use Rattle.quic_headline.proofs.Steps.Resized.{size_there}
 use Rattle.quic_headline.proofs.Messages.Dropped.{Drops, same_drops, arrivals_drop, quiet_drops, longest_of}
 use Rattle.quic_headline.proofs.Messages.Waiting.{Fits, call_leaves}
@@ -168,7 +169,8 @@ module _ (r : Run) (end : World) (honest : IsHonest r) (run : IsRun r end) (side
     abbrev left : End
     left = after_call (policy_at side r.keys) met (given_by (other_side side) w) call a
 
-    left_is : end_at side next ≡ left
+    -- another pacer may be its
+    left_is : end_at side next ≡ left_at r side w call a
     left_is = made_end r i side call a w next m
 
     -- what the end gave
@@ -228,11 +230,11 @@ module _ (r : Run) (end : World) (honest : IsHonest r) (run : IsRun r end) (side
             let h = call_holds Shortly shortly r end honest run i side (calls.Deliver delivery) a w next (λ id is. cc) tt m in
             let x : Party = calling r i w side (calls.Deliver delivery) h.sents in
             let y : Party = party_at r i w (other_side side) h.theirs in
-            by_coming x y a h.joined (made_served r i side (calls.Deliver delivery) a w next m) (meets y x h.takes.0.0.0) (λ (e : End) (j : Intake). Drops (sizing x.end) (sizing e)) (calls.Deliver delivery) m.step.answer (record {
+            (by_coming x y a h.joined (made_served r i side (calls.Deliver delivery) a w next m) (meets y x h.takes.0.0.0) (λ (e : End) (j : Intake). KnownLong e.ids.peer × Drops (sizing x.end) (sizing e)) (calls.Deliver delivery) m.step.answer (record {
               apart = λ apart. cc;
-              none = λ d is. same_drops (sizing x.end) h.gives.0.0.0.sized;
-              comes = λ d is s among. arrivals_drop x.end d.now s.number s.frames (came_to x y) (λ f carried. h.takes.0.0.0.tells s f among carried) h.gives.0.0.0.long.peer h.gives.0.0.0.sized;
-            })
+              none = λ d is. (h.gives.0.0.0.long.peer, same_drops (sizing x.end) h.gives.0.0.0.sized);
+              comes = λ d is s among here. arrivals_drop x.end d.now s.number s.frames (frames_at here s.frames) (came_to x y) (among_at (SaysIds IsLong AnyNumber) tt here s.frames (λ f carried. h.takes.0.0.0.tells s f among carried)) h.gives.0.0.0.long.peer h.gives.0.0.0.sized;
+            })).1
         quiet k m unpolled off = quiet_drops (policy_at side r.keys) (end_at side w) (given_by (other_side side) w) k a refl refl off (known_there i w (served_before r.answers i m.served) m.leads) (short_there i w (served_before r.answers i m.served) m.leads).0
 
         waits : (more : List Sent) → outbox (suc i) (sents_until r side (suc i) ++ more) ≡ record { waiting = (end_at side next).messages.queues.outgoing; left = more }

@@ -147,7 +147,7 @@ module _ (numbers : List ℕ) (p : PeerIds) (k : Knows numbers [] p) where
   known_above n i above = elim (k.all n i above) [ inl has ↦ has | inr none ↦ absurd none ]
 
   -- the first of them is the least
-  next_known : IsLeast p.active numbers (next_after p)
+  pub next_known : IsLeast p.active numbers (next_after p)
   next_known = go p.later k.ascend k.each known_above
     where
       go : (cs : List IssuedCid) → Ascend p.active cs → ((n : ℕ) → Has cs n → In n numbers) → ((n : ℕ) → In n numbers → p.active < n → Has cs n) → IsLeast p.active numbers (next_after (record p { later = cs }))

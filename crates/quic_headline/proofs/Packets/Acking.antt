@@ -23,7 +23,7 @@ use Rattle.quic_machine.specs.DraftLaws.{Writing, by_leave, MayLeave}
 use Rattle.quic_machine.specs.Puts as puts
 use Rattle.quic_headline.proofs.Packets.Invariant.{AreTaken, CountsFit, Acks}
 use Rattle.quic_machine.specs.FrameCases.{begun}
-use Rattle.quic_headline.proofs.Packets.Delivered.{Arrivals, arrived}
+use Rattle.quic_headline.proofs.Packets.Delivered.{Arrivals, arrived, with_taken}
 use Rattle.quic_headline.proofs.Packets.Stays.{Keeps, keeps_frames, settles_losses}
 use Rattle.quic_headline.proofs.Packets.Probes.{may_leave}
 use Rattle.quic_machine.specs.LeaveCases.{by_expired}
@@ -32,6 +32,9 @@ use Rattle.quic_machine.specs.CallCases as cases
 use Rattle.quic_machine.specs.PollCases.{by_poll, at_poll}
 use Rattle.quic_headline.proofs.Packets.Closes.{by_closes}
 use Rattle.quic_headline.proofs.Packets.Apart.{by_waits, by_next_id}
+use Rattle.quic_headline.proofs.Packets.Moved.{by_migrated}
+use Rattle.quic_headline.proofs.Packets.Moving.{moved_acks}
+use Rattle.quic_machine.specs.Migration.{migrated}
 
 -- nothing came yet
 pub acks_first : Acks none_pending none_marked
@@ -71,38 +74,40 @@ acks_taken p came urged mark n now asking seen lt acks =
     })
 
 -- in each case of a delivery what is to acknowledge stays so
-pub acks_arrivals : (e : End) (now n : ℕ) (frames : List FrameValue) (i : Intake) → n < 2 ^ 62 → Acks e.acknowledging e.marks.came → Arrivals e now n frames i (λ o j. Acks o.end.acknowledging o.end.marks.came)
-acks_arrivals e now n frames i small acks = record {
+pub acks_arrivals : (e : End) (now n : ℕ) (frames taken : List FrameValue) (i : Intake) → n < 2 ^ 62 → Acks e.acknowledging e.marks.came → Arrivals e now n frames taken i (λ o j. Acks o.end.acknowledging o.end.marks.came)
+acks_arrivals e now n frames taken i small acks = record {
   ignored = λ reason. acks;
   noted = λ state reason. acks;
   takes = λ words state new none urged mark. acks_taken left.acknowledging left.marks.came urged mark n left.closing.clock (asks_in (map Ok frames)) left.numbers.opened small after;
+  moves = λ p o same remote x opened i. subst (λ (q : Pending). Acks q (migrated p o remote x).marks.came) (sym (moved_acks p o remote x)) (by_migrated (λ (z : End). Acks x.acknowledging z.marks.came) p o remote x (λ c. i) (λ c most. i));
   drains = λ words state new close is. after;
   refuses = λ words state new f is. after;
   exhausts = λ state. acks;
 }
   where
     left : End
-    left = (arrived e now n frames).end
+    left = (arrived e now n taken).end
 
     after : Acks left.acknowledging left.marks.came
-    after = (keeps_frames frames (begun e now n)).acks acks
+    after = (keeps_frames taken (begun e now n)).acks acks
 
 -- in each case of a delivery the numbers to acknowledge are those of packets that were taken
-pub taken_arrivals : (e : End) (now n : ℕ) (frames : List FrameValue) (i : Intake) → Acks e.acknowledging e.marks.came → AreTaken e.acknowledging.runs i.took → Arrivals e now n frames i (λ o j. AreTaken o.end.acknowledging.runs j.took)
-taken_arrivals e now n frames i acks before = record {
+pub taken_arrivals : (e : End) (now n : ℕ) (frames those : List FrameValue) (i : Intake) → Acks e.acknowledging e.marks.came → AreTaken e.acknowledging.runs i.took → Arrivals e now n frames those i (λ o j. AreTaken o.end.acknowledging.runs j.took)
+taken_arrivals e now n frames those i acks before = record {
   ignored = λ reason. before;
   noted = λ state reason. before;
   takes = λ words state new none urged mark. taken urged;
+  moves = λ p o same remote x opened h. subst (λ (q : Pending). AreTaken q.runs (with_taken i n frames).took) (sym (moved_acks p o remote x)) h;
   drains = λ words state new close is k h. (let t = before k (keeps.fewer k h) in record { packet = t.packet; was_taken = inr t.was_taken; is = t.is });
   refuses = λ words state new f is k h. before k (keeps.fewer k h);
   exhausts = λ state. before;
 }
   where
     left : End
-    left = (arrived e now n frames).end
+    left = (arrived e now n those).end
 
     keeps : Keeps (begun e now n) left
-    keeps = keeps_frames frames (begun e now n)
+    keeps = keeps_frames those (begun e now n)
 
     taken : (urged : Bool) → AreTaken (after_packet (with_due urged (after_insert left.acknowledging n left.closing.clock)) left.closing.clock n (asks_in (map Ok frames)) left.numbers.opened).runs (record { number = n; frames = frames } ∷ i.took)
     taken urged k h =

@@ -176,6 +176,15 @@ apart_frequency f e apart = record { in_flight = refl; next = refl; peer_delay =
 
 -- ---- calls
 
+-- messages that wait are fewer where they are too long, or they aren't
+pub by_shortened : (P : End → Type 0) (b : Bool) (e : End) → P e → ((most : ℕ) → P (with_queued e (without_longer most e.messages.queues))) → P (shortened b e)
+by_shortened P false e same shorter = same
+by_shortened P true e same shorter = lasts (most_message e)
+  where
+    lasts : (o : Option ℕ) → P (without_longer_if o e)
+    lasts None = same
+    lasts (Some most) = shorter most
+
 -- the next id of the peer is used, or it isn't: what a frame apart from streams may change changes,
 -- and fewer messages wait where they are too long
 pub by_next_id : (P : End → Type 0) (e : End) (a : Answer) → P e → ((c : Apart) → P (with_apart e c)) → ((c : Apart) (most : ℕ) → P (with_queued (with_apart e c) (without_longer most e.messages.queues)))
@@ -214,6 +223,8 @@ next_frequency e (answers.UseNextId (Ok done)) = taken (retires_for_next e.ids)
     taken None = record { in_flight = refl; next = refl; peer_delay = refl }
     taken (Some r) = shortened_asks _ (retiring r (with_ids e (next_used e.ids)))
 next_frequency e a = record { in_flight = refl; next = refl; peer_delay = refl }
+
+-- ---- a moment
 
 -- an end that is closing is drained once it was so for long enough
 pub by_waits : (P : End → Type 0) (b : Bool) (e : End) → P (record e { closing = drained e.closing; timers = no_timers }) → P e → P (close_expired b e)

@@ -30,6 +30,7 @@ use Rattle.quic_headline.proofs.Packets.Searches.{by_losses}
 use Rattle.quic_headline.proofs.Packets.Named.{sampled_tracking}
 use Rattle.quic_headline.proofs.Packets.Probes.{by_ready, by_going}
 use Rattle.quic_headline.proofs.Packets.TrackedSteps.{asking_packets}
+use Rattle.quic_headline.proofs.Packets.Moved.{by_migrated}
 
 -- ---- tables
 
@@ -154,6 +155,7 @@ ascends_received = by_received Ascends (record {
   asks_close = λ x a. a;
   exhausts = λ now x a. a;
   draws = λ words x a. a;
+  moves = λ p o remote x a. by_migrated Ascends p o remote x (λ c. a) (λ c most. a);
 })
 
 -- an end that is ready to give

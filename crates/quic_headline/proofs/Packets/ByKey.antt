@@ -1,6 +1,6 @@
 -- What a datagram opens to by its key alone, beside what an end that has some ids makes of it.
 use Rattle.std.proofs.Common.{◌≡◌, ℕ, ◌+◌, Bool, true, false, ◌||◌, cond, List, [], ◌∷◌, length, take, Option, Some, None, Result, Ok, Err, refl, sym, ap, ◌∙◌}
-use Rattle.std.specs.Prelude.{nat_le, nat_lt, if◌then◌else◌}
+use Rattle.std.specs.Prelude.{not, nat_le, nat_lt, if◌then◌else◌}
 use Rattle.std.specs.Cmp.Lexicographic.{bytes_decides}
 use Rattle.quic_packet.specs.Header.{key_phase}
 use Rattle.quic_packet.specs.Datagram.{Opening}
@@ -15,13 +15,15 @@ use Rattle.quic_machine.specs.Arrival.{Arrival}
 use Rattle.quic_machine.specs.Closing.{ticked}
 use Rattle.quic_machine.specs.declared.answers.State.{State}
 use Rattle.quic_machine.specs.declared.answers.State.TheVariants as states
+use Rattle.quic_machine.specs.declared.answers.DropReason.{DropReason}
 use Rattle.quic_machine.specs.declared.answers.DropReason.TheVariants as drops
 use Rattle.quic_machine.specs.declared.run.Answer.TheVariants as answers
 use Rattle.quic_machine.specs.Ids.{known}
 use Rattle.quic_machine.specs.Policy.{Policy}
 use Rattle.quic_machine.specs.End.{End, with_closing, with_numbers}
-use Rattle.quic_machine.specs.Opens.{own_id_length, opens_behind, opens}
-use Rattle.quic_machine.specs.Receive.{Fault, asks_in, is_urged, take_payload, dropped, ends_as, by_state, opened_as, opening, headed, broke, too_many_pieces, closed_by_peer, unopened_in}
+use Rattle.quic_machine.specs.Migration.{is_foreign}
+use Rattle.quic_machine.specs.Opens.{own_id_length, drop_of, with_drop, head, opens_behind, opens}
+use Rattle.quic_machine.specs.Receive.{Fault, asks_in, is_urged, take_payload, items_taken, dropped, ends_as, by_state, opened_as, opening, headed, broke, too_many_pieces, closed_by_peer, unopened_in}
 use Rattle.quic_headline.specs.Runs.{Packet, expected_behind, destination, opens_by_key, is_elsewhere, came_open}
 
 -- ---- the header
@@ -91,6 +93,23 @@ opens_by_id p ids x d = ap (λ (r : Result (List ℕ) HeaderError). opens_behind
     go true (Ok id) = refl
     go false (Ok id) = refl
 
+-- what it opens to there, where it came from an address
+abbrev pub opens_from : Policy → End → ℕ → ℕ → List ℕ → Option Opening
+opens_from p e remote x d = opens_behind (head e remote d) p x d
+
+-- a header that doesn't say for which id its datagram is opens nothing, whatever it is dropped for
+opens_dropped : (r : Result (List ℕ) HeaderError) (p : Policy) (x : ℕ) (d : List ℕ) → opens_behind (with_drop r) p x d ≡ opens_behind r p x d
+opens_dropped (Err error) p x d = refl
+opens_dropped (Ok id) p x d = refl
+
+-- nothing, where the end takes nothing from that address
+pub opens_from_is : (p : Policy) (e : End) (remote x : ℕ) (d : List ℕ) → opens_from p e remote x d ≡ counted (not (is_foreign remote e)) (opens p (known e.ids) x d)
+opens_from_is p e remote x d = go (is_foreign remote e)
+  where
+    go : (b : Bool) → opens_behind (if b then Err drops.Address else with_drop (header (known e.ids) d)) p x d ≡ counted (not b) (opens p (known e.ids) x d)
+    go true = refl
+    go false = opens_dropped (header (known e.ids) d) p x d
+
 -- ---- what is answered
 
 -- a packet that opened, or didn't, isn't answered to be sent to another id
@@ -103,8 +122,10 @@ ends_here (Some too_many_pieces) asking urged n mark e = refl
 state_here : (s : State) (o : Opening) (arrival : Arrival) (e : End) → is_elsewhere (answers.Deliver (by_state s o arrival e).answer) ≡ false
 state_here states.Open o arrival e =
     let begins : End = with_closing e (ticked e.closing arrival.now) in
-    let p = take_payload o.first (items o.payload) begins in
-    ends_here p.fault (asks_in (items o.payload)) (is_urged arrival.mark (items o.payload) begins) o.number arrival.mark p.end
+    let taken = items_taken o arrival e in
+    let asking = asks_in (items o.payload) in
+    let p = take_payload o.first taken begins in
+    ends_here p.fault asking (is_urged arrival.mark asking taken begins) o.number arrival.mark p.end
 state_here states.Closing o arrival e = refl
 state_here states.Drained o arrival e = refl
 state_here states.Failed o arrival e = refl
@@ -132,7 +153,7 @@ opened_here (Some o) p arrival e = go (key_phase o.first) (is_duplicate e.number
 abbrev left_if : Bool → Option Opening → Option Opening
 left_if b o = if b then None else o
 
-abbrev left_of : Policy → End → Arrival → List ℕ → Result (List ℕ) HeaderError → Option Opening → Option Opening
+abbrev left_of : Policy → End → Arrival → List ℕ → Result (List ℕ) DropReason → Option Opening → Option Opening
 left_of p e arrival d r o = left_if (is_elsewhere (answers.Deliver (headed r p e arrival d).answer)) o
 
 none_left : (b : Bool) → left_if b None ≡ None
@@ -140,16 +161,22 @@ none_left true = refl
 none_left false = refl
 
 -- what an open end is handed opens to what it does there, where it expects the number that the
--- lists say: it answers of all others that they have another id, or they open to nothing
+-- lists say: it answers of all others that they have another id, or came from where it takes nothing,
+-- or they open to nothing
 pub came_open_is : (p : Policy) (e : End) (arrival : Arrival) (d : List ℕ) (packets : List Packet) → expected e.numbers ≡ expected_behind packets
-    → came_open p packets (answers.Deliver (headed (header (known e.ids) d) p e arrival d).answer) d ≡ opens p (known e.ids) (expected e.numbers) d
+    → came_open p packets (answers.Deliver (headed (head e arrival.remote d) p e arrival d).answer) d ≡ opens_from p e arrival.remote (expected e.numbers) d
 came_open_is p e arrival d packets expects =
-    ap (λ (n : ℕ). left_of p e arrival d (header (known e.ids) d) (opens_by_key p n d)) (sym expects)
-    ∙ ap (λ (r : Result (List ℕ) HeaderError). left_of p e arrival d r (opens_by_key p (expected e.numbers) d)) (header_by_id (known e.ids) d)
-    ∙ go (is_known (destination d) (known e.ids)) (header (destination d ∷ []) d)
-    ∙ ap (λ (r : Result (List ℕ) HeaderError). opens_behind r p (expected e.numbers) d) (sym (header_by_id (known e.ids) d))
+    ap (λ (n : ℕ). left_of p e arrival d (head e arrival.remote d) (opens_by_key p n d)) (sym expects)
+    ∙ foreign (is_foreign arrival.remote e)
   where
-    go : (b : Bool) (r : Result (List ℕ) HeaderError) → left_of p e arrival d (by_id b r) (opens_behind r p (expected e.numbers) d) ≡ opens_behind (by_id b r) p (expected e.numbers) d
-    go b (Err error) = none_left (is_elsewhere (answers.Deliver (headed (Err error) p e arrival d).answer))
-    go true (Ok id) = ap (λ (b : Bool). left_if b (opens_behind (Ok id) p (expected e.numbers) d)) (opened_here (opening p e d) p arrival e)
+    go : (b : Bool) (r : Result (List ℕ) HeaderError) → left_of p e arrival d (with_drop (by_id b r)) (opens_behind r p (expected e.numbers) d) ≡ opens_behind (with_drop (by_id b r)) p (expected e.numbers) d
+    go b (Err error) = none_left (is_elsewhere (answers.Deliver (headed (Err (drop_of error)) p e arrival d).answer))
+    go true (Ok id) = ap (λ (b : Bool). left_if b (opens_behind {X = HeaderError} (Ok id) p (expected e.numbers) d)) (opened_here (opening p e d) p arrival e)
     go false (Ok id) = refl
+
+    foreign : (b : Bool) → (let r : Result (List ℕ) DropReason = if b then Err drops.Address else with_drop (header (known e.ids) d) in left_of p e arrival d r (opens_by_key p (expected e.numbers) d) ≡ opens_behind r p (expected e.numbers) d)
+    foreign true = refl
+    foreign false =
+        ap (λ (r : Result (List ℕ) HeaderError). left_of p e arrival d (with_drop r) (opens_by_key p (expected e.numbers) d)) (header_by_id (known e.ids) d)
+        ∙ go (is_known (destination d) (known e.ids)) (header (destination d ∷ []) d)
+        ∙ ap (λ (r : Result (List ℕ) HeaderError). opens_behind (with_drop r) p (expected e.numbers) d) (sym (header_by_id (known e.ids) d))

@@ -52,6 +52,7 @@ use Rattle.quic_headline.proofs.Packets.Closes.{by_closes}
 use Rattle.quic_headline.proofs.Packets.Delivered.{Arrivals, arrived}
 use Rattle.quic_headline.proofs.Packets.Probes.{may_leave}
 use Rattle.quic_recovery_core.specs.AckFrequency.{is_stale}
+use Rattle.quic_headline.proofs.Packets.Moved.{by_migrated}
 
 -- ---- which closes can go
 
@@ -267,18 +268,19 @@ frame_owes = frame_keeps OwesWell (record {
 })
 
 -- in each case of a delivery
-pub owed_arrivals : (e : End) (now n : ℕ) (frames : List FrameValue) (i : Intake) → OwesWell e → Arrivals e now n frames i (λ (o : Outcome) (j : Intake). OwesWell o.end)
-owed_arrivals e now n frames i owes = record {
+pub owed_arrivals : (e : End) (now n : ℕ) (frames taken : List FrameValue) (i : Intake) → OwesWell e → Arrivals e now n frames taken i (λ (o : Outcome) (j : Intake). OwesWell o.end)
+owed_arrivals e now n frames taken i owes = record {
   ignored = λ reason. owes;
   noted = λ state reason. owes;
   takes = λ words state new none urged mark. after;
+  moves = λ p o same remote x opened i. by_migrated OwesWell p o remote x (λ c. i) (λ c most. i);
   drains = λ words state new close is. after;
-  refuses = λ words state new f is. error_well (reason_of f) (arrived e now n frames).end (subst SmallFault is (frames_small frames (begun e now n)));
+  refuses = λ words state new f is. error_well (reason_of f) (arrived e now n taken).end (subst SmallFault is (frames_small taken (begun e now n)));
   exhausts = λ state. error_well reasons.KeyLimit (with_closing e (ticked e.closing now)) (omega arith);
 }
   where
-    after : OwesWell (arrived e now n frames).end
-    after = frames_keep OwesWell frame_owes frames (begun e now n) owes
+    after : OwesWell (arrived e now n taken).end
+    after = frames_keep OwesWell frame_owes taken (begun e now n) owes
 
 polled_owes : (p : Policy) (e : End) (now : ℕ) → OwesWell e → OwesWell (polled p e now).end
 polled_owes p e now i = by_poll p e now (λ (q : Polled). OwesWell q.end) (record {

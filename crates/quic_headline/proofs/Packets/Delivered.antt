@@ -1,9 +1,11 @@
 -- A datagram that an end gave, delivered to the other end: it opens as it was given, or not at all,
 -- and what is made of it then.
-use Rattle.std.proofs.Common.{◌≡◌, ℕ, zero, suc, ◌+◌, ◌-◌, ◌^◌, ◌<◌, ◌≤◌, Bool, true, false, cond, List, [], ◌∷◌, ◌++◌, length, map, Option, Some, None, Result, Ok, Err, refl, sym, ◌∙◌, ap, subst, arith}
-use Rattle.std.specs.Prelude.{◌==◌, ◌&&◌, ◌||◌, not}
+use Rattle.std.proofs.Common.{◌≡◌, ℕ, zero, suc, ◌+◌, ◌-◌, ◌^◌, ◌<◌, ◌≤◌, Bool, true, false, cond, List, [], ◌∷◌, ◌++◌, length, map, Option, Some, None, Result, Ok, Err, refl, sym, ◌∙◌, ap, subst, inl, inr, arith}
+use Rattle.std.specs.Prelude.{◌==◌, ◌&&◌, ◌||◌, not, nat_le, if◌then◌else◌}
+use Rattle.std.specs.List.{list_any}
+use Rattle.quic_wire_core.specs.TransportError.{ErrorValue}
 use Rattle.quic_wire_core.specs.declared.shared.EcnCodepoint.{EcnCodepoint}
-use Rattle.quic_wire.specs.Value.{FrameValue}
+use Rattle.quic_wire.specs.Value.{FrameValue, padding, path_challenge, path_response}
 use Rattle.quic_packet.specs.Number.{truncated, expanded}
 use Rattle.quic_packet.specs.Header.{first_byte, key_phase, reserved_bits}
 use Rattle.quic_wire.specs.Grammar.{Payload}
@@ -30,10 +32,12 @@ use Rattle.quic_machine.specs.Ids.{known}
 use Rattle.quic_spaces.specs.Numbers.{expected, number_opened}
 use Rattle.quic_recovery_core.specs.Duplicates.{is_duplicate}
 use Rattle.quic_recovery_core.specs.DuplicateRuns.{seen_after}
-use Rattle.quic_machine.specs.End.{End, closed_by, with_numbers, with_closing}
-use Rattle.quic_machine.specs.Opens.{own_id_length, in_phase, opens_behind, opens}
-use Rattle.quic_machine.specs.Receive.{Fault, Progress, Outcome, error_of, reason_of, take_payload, violation, asks_in, is_urged, after_taken, dropped, ends_as, judged, processed, by_state, opened_to, opened_as, headed, received_in, received, broke, too_many_pieces, closed_by_peer, drained_at, exhausted, key_limit, unopened_in, with_ids_drawn}
-use Rattle.quic_headline.specs.Runs.{Intake, is_again, frames_of, is_refused, destination, opens_by_key, came_open, and_opened, and_handed}
+use Rattle.quic_machine.specs.End.{End, side_of, closed_by, with_numbers, with_closing}
+use Rattle.quic_machine.specs.Calls.{is_open}
+use Rattle.quic_machine.specs.Migration.{is_client, is_there, is_foreign, is_probing, is_telling, as_elsewhere, item_elsewhere, items_at, migrates, migrated}
+use Rattle.quic_machine.specs.Opens.{own_id_length, with_drop, head, in_phase, opens_behind, opens}
+use Rattle.quic_machine.specs.Receive.{Fault, Progress, Outcome, error_of, reason_of, take_payload, violation, asks_in, is_urged, after_taken, dropped, ends_as, judged, processed, by_state, opened_to, opened_as, headed, received_in, received, broke, too_many_pieces, closed_by_peer, drained_at, exhausted, key_limit, unopened_in, is_read, drawn_if, with_ids_drawn, is_taken, migrated_if, with_migration}
+use Rattle.quic_headline.specs.Runs.{Intake, In, is_again, frames_of, is_refused, destination, opens_by_key, came_open, and_opened, and_handed}
 use Rattle.quic_machine.specs.Start.{IsLawful}
 use Rattle.quic_machine.specs.FrameCases.{passed, begun}
 use Rattle.quic_machine.specs.Closing.{close_asked}
@@ -41,7 +45,7 @@ use Rattle.quic_machine.specs.IdFrames.{drawn}
 use Rattle.quic_wire.specs.Close.{CloseValue}
 use Rattle.quic_headline.proofs.Packets.Invariant.{IsGiven, Knows, KnowsIn}
 use Rattle.quic_headline.proofs.Packets.Window.{is_duplicate-is}
-use Rattle.quic_headline.proofs.Packets.ByKey.{known_alone, header_for, came_open_is}
+use Rattle.quic_headline.proofs.Packets.ByKey.{known_alone, header_for, counted, opens_from, opens_from_is, came_open_is}
 
 -- ---- the header
 
@@ -131,16 +135,51 @@ frames_of_oks (f ∷ fs) = ap (λ (xs : List FrameValue). f ∷ xs) (frames_of_o
 pub frames_of_payload : (fs : List FrameValue) (payload : List ℕ) → Payload fs payload → frames_of (items payload) ≡ fs
 frames_of_payload fs payload spells = ap frames_of (payload_items fs payload spells) ∙ frames_of_oks fs
 
--- a payload with a frame comes to what its frames do
-pub payload_taken : (first : ℕ) (fs : List FrameValue) (payload : List ℕ) (e : End) → (reserved_bits first == 0) ≡ true → 0 < length fs → Payload fs payload → take_payload first (items payload) e ≡ passed fs e
-payload_taken first [] payload e zeros some spells = absurd (omega arith)
-payload_taken first (f ∷ fs) payload e zeros some spells =
-    ap (λ (is : List (Result FrameValue InvalidFrame)). take_payload first is e) (payload_items (f ∷ fs) payload spells)
-    ∙ ap (λ (b : Bool). cond {A = Progress} (not b || false) (record { end = e; fault = Some violation }) (passed (f ∷ fs) e)) zeros
+-- the frames of a packet that are taken, where it came from where its taker takes its peer to be, or
+-- came from elsewhere: of path validation none then, but PADDING in their place
+abbrev pub frames_at : Bool → List FrameValue → List FrameValue
+frames_at true fs = fs
+frames_at false fs = map as_elsewhere fs
+
+-- so it is of their items
+items_elsewhere : (fs : List FrameValue) → map item_elsewhere (map {B = Result FrameValue InvalidFrame} Ok fs) ≡ map Ok (map as_elsewhere fs)
+items_elsewhere [] = refl
+items_elsewhere (f ∷ fs) = ap (λ (is : List (Result FrameValue InvalidFrame)). Ok (as_elsewhere f) ∷ is) (items_elsewhere fs)
+
+items_at_frames : (here : Bool) (fs : List FrameValue) → items_at here (map Ok fs) ≡ map Ok (frames_at here fs)
+items_at_frames true fs = refl
+items_at_frames false fs = items_elsewhere fs
+
+-- what holds of PADDING, and of each frame of a packet, holds of each that is taken
+pub among_at : (K : FrameValue → Type 0) → K padding → (here : Bool) (fs : List FrameValue) → ((f : FrameValue) → In f fs → K f) → (f : FrameValue) → In f (frames_at here fs) → K f
+among_at K pads true fs each f i = each f i
+among_at K pads false fs each f i = go fs each i
+  where
+    one : (g : FrameValue) → K g → K (as_elsewhere g)
+    one (path_challenge token) k = pads
+    one (path_response token) k = pads
+    one g k = k
+
+    go : (gs : List FrameValue) → ((g : FrameValue) → In g gs → K g) → In f (map as_elsewhere gs) → K f
+    go [] all i = absurd i
+    go (g ∷ gs) all (inl is) = subst K (sym is) (one g (all g (inl refl)))
+    go (g ∷ gs) all (inr i) = go gs (λ h j. all h (inr j)) i
+
+-- a payload with a frame comes to what its frames do that are taken
+pub payload_taken : (first : ℕ) (here : Bool) (fs : List FrameValue) (payload : List ℕ) (e : End) → (reserved_bits first == 0) ≡ true → 0 < length fs → Payload fs payload → take_payload first (items_at here (items payload)) e ≡ passed (frames_at here fs) e
+payload_taken first here [] payload e zeros some spells = absurd (omega arith)
+payload_taken first here (f ∷ fs) payload e zeros some spells =
+    ap (λ (is : List (Result FrameValue InvalidFrame)). take_payload first (items_at here is) e) (payload_items (f ∷ fs) payload spells)
+    ∙ ap (λ (is : List (Result FrameValue InvalidFrame)). take_payload first is e) (items_at_frames here (f ∷ fs))
+    ∙ go here
+  where
+    go : (b : Bool) → take_payload first (map Ok (frames_at b (f ∷ fs))) e ≡ passed (frames_at b (f ∷ fs)) e
+    go true = ap (λ (c : Bool). cond {A = Progress} (not c || false) (record { end = e; fault = Some violation }) (passed (f ∷ fs) e)) zeros
+    go false = ap (λ (c : Bool). cond {A = Progress} (not c || false) (record { end = e; fault = Some violation }) (passed (map as_elsewhere (f ∷ fs)) e)) zeros
 
 -- ---- what it makes of an end and of what came to it
 
--- what it makes of the frames
+-- what it makes of the frames that are taken
 abbrev pub arrived : End → ℕ → ℕ → List FrameValue → Progress
 arrived e now n frames = passed frames (begun e now n)
 
@@ -152,47 +191,118 @@ with_taken i n frames = record i { opened = n ∷ i.opened; took = record { numb
 abbrev pub with_refused : Intake → ℕ → List FrameValue → Intake
 with_refused i n frames = record i { opened = n ∷ i.opened; part = Some (record { number = n; frames = frames }) }
 
--- the cases of such a delivery, with what is known in each: P of what the end makes of it, and of
--- what came then
-pub record Arrivals (e : End) (now n : ℕ) (frames : List FrameValue) (i : Intake) (P : Outcome → Intake → Type 0) : Type 0 where
+-- the cases of such a delivery of which these frames are taken, with what is known in each: P of what
+-- the end makes of it, and of what came then
+pub record Arrivals (e : End) (now n : ℕ) (frames taken : List FrameValue) (i : Intake) (P : Outcome → Intake → Type 0) : Type 0 where
   -- it is dropped, and nothing changes
   pub ignored : (reason : DropReason) → P (dropped reason e) i
   -- a closing end notes the number, and owes its close once more
   pub noted : e.closing.state ≡ states.Closing → (reason : DropReason) → P (dropped reason (with_closing (with_numbers e (number_opened e.numbers n)) (close_asked e.closing))) i
   -- it is taken, and the ids are drawn that were issued for it
-  pub takes : (words : ℕ → ℕ) → e.closing.state ≡ states.Open → is_again n i.opened ≡ false → (arrived e now n frames).fault ≡ None
-      → (urged : Bool) (mark : Option EcnCodepoint) → P (record { answer = Taken; end = drawn words (after_taken n (asks_in (map Ok frames)) urged mark (arrived e now n frames).end) }) (with_taken i n frames)
+  pub takes : (words : ℕ → ℕ) → e.closing.state ≡ states.Open → is_again n i.opened ≡ false → (arrived e now n taken).fault ≡ None
+      → (urged : Bool) (mark : Option EcnCodepoint) → P (record { answer = Taken; end = drawn words (after_taken n (asks_in (map Ok frames)) urged mark (arrived e now n taken).end) }) (with_taken i n frames)
+  -- and the peer has moved, as it says
+  pub moves : (p : Policy) (o : Opening) → items o.payload ≡ map Ok frames → (remote : ℕ) (x : End) → x.closing.state ≡ states.Open
+      → P (record { answer = Taken; end = x }) (with_taken i n frames) → P (record { answer = Taken; end = migrated p o remote x }) (with_taken i n frames)
   -- it is taken so far as the peer closes, and the end is drained
-  pub drains : (words : ℕ → ℕ) → e.closing.state ≡ states.Open → is_again n i.opened ≡ false → (close : CloseValue) → (arrived e now n frames).fault ≡ Some (closed_by_peer close)
-      → P (record { answer = Taken; end = drawn words (drained_at n close (arrived e now n frames).end) }) (with_taken i n frames)
+  pub drains : (words : ℕ → ℕ) → e.closing.state ≡ states.Open → is_again n i.opened ≡ false → (close : CloseValue) → (arrived e now n taken).fault ≡ Some (closed_by_peer close)
+      → P (record { answer = Taken; end = drawn words (drained_at n close (arrived e now n taken).end) }) (with_taken i n frames)
   -- it is refused, and the end closes
-  pub refuses : (words : ℕ → ℕ) → e.closing.state ≡ states.Open → is_again n i.opened ≡ false → (f : Fault) → (arrived e now n frames).fault ≡ Some f
-      → P (record { answer = Closed (error_of f); end = drawn words (closed_by (reason_of f) (arrived e now n frames).end) }) (with_refused i n frames)
+  pub refuses : (words : ℕ → ℕ) → e.closing.state ≡ states.Open → is_again n i.opened ≡ false → (f : Fault) → (arrived e now n taken).fault ≡ Some f
+      → P (record { answer = Closed (error_of f); end = drawn words (closed_by (reason_of f) (arrived e now n taken).end) }) (with_refused i n frames)
   -- it doesn't open, its number being too far off, and is the last that may not
   pub exhausts : e.closing.state ≡ states.Open → P (record { answer = Closed key_limit; end = exhausted now e }) i
 
 -- the same cases, of a delivery that bears this mark, or none
-pub record ArrivalsWith (mark : Option EcnCodepoint) (e : End) (now n : ℕ) (frames : List FrameValue) (i : Intake) (P : Outcome → Intake → Type 0) : Type 0 where
+pub record ArrivalsWith (mark : Option EcnCodepoint) (e : End) (now n : ℕ) (frames taken : List FrameValue) (i : Intake) (P : Outcome → Intake → Type 0) : Type 0 where
   pub ignored : (reason : DropReason) → P (dropped reason e) i
   pub noted : e.closing.state ≡ states.Closing → (reason : DropReason) → P (dropped reason (with_closing (with_numbers e (number_opened e.numbers n)) (close_asked e.closing))) i
-  pub takes : (words : ℕ → ℕ) → e.closing.state ≡ states.Open → is_again n i.opened ≡ false → (arrived e now n frames).fault ≡ None
-      → P (record { answer = Taken; end = drawn words (after_taken n (asks_in (map Ok frames)) (is_urged mark (map Ok frames) (begun e now n)) mark (arrived e now n frames).end) }) (with_taken i n frames)
-  pub drains : (words : ℕ → ℕ) → e.closing.state ≡ states.Open → is_again n i.opened ≡ false → (close : CloseValue) → (arrived e now n frames).fault ≡ Some (closed_by_peer close)
-      → P (record { answer = Taken; end = drawn words (drained_at n close (arrived e now n frames).end) }) (with_taken i n frames)
-  pub refuses : (words : ℕ → ℕ) → e.closing.state ≡ states.Open → is_again n i.opened ≡ false → (f : Fault) → (arrived e now n frames).fault ≡ Some f
-      → P (record { answer = Closed (error_of f); end = drawn words (closed_by (reason_of f) (arrived e now n frames).end) }) (with_refused i n frames)
+  pub takes : (words : ℕ → ℕ) → e.closing.state ≡ states.Open → is_again n i.opened ≡ false → (arrived e now n taken).fault ≡ None
+      → P (record { answer = Taken; end = drawn words (after_taken n (asks_in (map Ok frames)) (is_urged mark (asks_in (map Ok frames)) (map Ok taken) (begun e now n)) mark (arrived e now n taken).end) }) (with_taken i n frames)
+  pub moves : (p : Policy) (o : Opening) → items o.payload ≡ map Ok frames → (remote : ℕ) (x : End) → x.closing.state ≡ states.Open
+      → P (record { answer = Taken; end = x }) (with_taken i n frames) → P (record { answer = Taken; end = migrated p o remote x }) (with_taken i n frames)
+  pub drains : (words : ℕ → ℕ) → e.closing.state ≡ states.Open → is_again n i.opened ≡ false → (close : CloseValue) → (arrived e now n taken).fault ≡ Some (closed_by_peer close)
+      → P (record { answer = Taken; end = drawn words (drained_at n close (arrived e now n taken).end) }) (with_taken i n frames)
+  pub refuses : (words : ℕ → ℕ) → e.closing.state ≡ states.Open → is_again n i.opened ≡ false → (f : Fault) → (arrived e now n taken).fault ≡ Some f
+      → P (record { answer = Closed (error_of f); end = drawn words (closed_by (reason_of f) (arrived e now n taken).end) }) (with_refused i n frames)
   pub exhausts : e.closing.state ≡ states.Open → P (record { answer = Closed key_limit; end = exhausted now e }) i
 
 -- what holds whatever the mark does
-pub of_any : (mark : Option EcnCodepoint) (e : End) (now n : ℕ) (frames : List FrameValue) (i : Intake) (P : Outcome → Intake → Type 0) → Arrivals e now n frames i P → ArrivalsWith mark e now n frames i P
-of_any mark e now n frames i P c = record {
+pub of_any : (mark : Option EcnCodepoint) (e : End) (now n : ℕ) (frames taken : List FrameValue) (i : Intake) (P : Outcome → Intake → Type 0) → Arrivals e now n frames taken i P → ArrivalsWith mark e now n frames taken i P
+of_any mark e now n frames taken i P c = record {
   ignored = c.ignored;
   noted = c.noted;
-  takes = λ words state new none. c.takes words state new none (is_urged mark (map Ok frames) (begun e now n)) mark;
+  takes = λ words state new none. c.takes words state new none (is_urged mark (asks_in (map Ok frames)) (map Ok taken) (begun e now n)) mark;
+  moves = c.moves;
   drains = c.drains;
   refuses = c.refuses;
   exhausts = c.exhausts;
 }
+
+-- whether a packet of this number with these frames, from this address, says at an end that its peer
+-- is there, if it is taken
+abbrev pub moves_by : ℕ → ℕ → List FrameValue → End → Bool
+moves_by remote n frames e = not (is_client (side_of e)) && (not (is_there remote e) && (nat_le (expected e.numbers) n && list_any (λ f. not (is_probing f)) frames))
+
+-- the same cases, of a delivery from this address, with exactly what it makes of the path
+pub record ArrivalsFrom (remote : ℕ) (mark : Option EcnCodepoint) (e : End) (now n : ℕ) (frames : List FrameValue) (i : Intake) (P : Outcome → Intake → Type 0) : Type 0 where
+  pub ignored : (reason : DropReason) → P (dropped reason e) i
+  pub noted : e.closing.state ≡ states.Closing → (reason : DropReason) → P (dropped reason (with_closing (with_numbers e (number_opened e.numbers n)) (close_asked e.closing))) i
+  pub takes : (p : Policy) (o : Opening) → items o.payload ≡ map Ok frames → e.closing.state ≡ states.Open → is_again n i.opened ≡ false → (let taken = frames_at (is_there remote e) frames in
+      (arrived e now n taken).fault ≡ None
+      → (let x : End = drawn p.words (after_taken n (asks_in (map Ok frames)) (is_urged mark (asks_in (map Ok frames)) (map Ok taken) (begun e now n)) mark (arrived e now n taken).end) in
+      P (record { answer = Taken; end = migrated_if (moves_by remote n frames e && is_open x.closing.state) p o remote x }) (with_taken i n frames)))
+  pub drains : (words : ℕ → ℕ) → e.closing.state ≡ states.Open → is_again n i.opened ≡ false → (close : CloseValue) → (let taken = frames_at (is_there remote e) frames in (arrived e now n taken).fault ≡ Some (closed_by_peer close)
+      → P (record { answer = Taken; end = drawn words (drained_at n close (arrived e now n taken).end) }) (with_taken i n frames))
+  pub refuses : (words : ℕ → ℕ) → e.closing.state ≡ states.Open → is_again n i.opened ≡ false → (f : Fault) → (let taken = frames_at (is_there remote e) frames in (arrived e now n taken).fault ≡ Some f
+      → P (record { answer = Closed (error_of f); end = drawn words (closed_by (reason_of f) (arrived e now n taken).end) }) (with_refused i n frames))
+  pub exhausts : e.closing.state ≡ states.Open → P (record { answer = Closed key_limit; end = exhausted now e }) i
+
+-- the same cases, at an end with this policy
+pub record ArrivalsBy (q : Policy) (remote : ℕ) (mark : Option EcnCodepoint) (e : End) (now n : ℕ) (frames : List FrameValue) (i : Intake) (P : Outcome → Intake → Type 0) : Type 0 where
+  pub ignored : (reason : DropReason) → P (dropped reason e) i
+  pub noted : e.closing.state ≡ states.Closing → (reason : DropReason) → P (dropped reason (with_closing (with_numbers e (number_opened e.numbers n)) (close_asked e.closing))) i
+  pub takes : (o : Opening) → items o.payload ≡ map Ok frames → e.closing.state ≡ states.Open → is_again n i.opened ≡ false → (let taken = frames_at (is_there remote e) frames in
+      (arrived e now n taken).fault ≡ None
+      → (let x : End = drawn q.words (after_taken n (asks_in (map Ok frames)) (is_urged mark (asks_in (map Ok frames)) (map Ok taken) (begun e now n)) mark (arrived e now n taken).end) in
+      P (record { answer = Taken; end = migrated_if (moves_by remote n frames e && is_open x.closing.state) q o remote x }) (with_taken i n frames)))
+  pub drains : e.closing.state ≡ states.Open → is_again n i.opened ≡ false → (close : CloseValue) → (let taken = frames_at (is_there remote e) frames in (arrived e now n taken).fault ≡ Some (closed_by_peer close)
+      → P (record { answer = Taken; end = drawn q.words (drained_at n close (arrived e now n taken).end) }) (with_taken i n frames))
+  pub refuses : e.closing.state ≡ states.Open → is_again n i.opened ≡ false → (f : Fault) → (let taken = frames_at (is_there remote e) frames in (arrived e now n taken).fault ≡ Some f
+      → P (record { answer = Closed (error_of f); end = drawn q.words (closed_by (reason_of f) (arrived e now n taken).end) }) (with_refused i n frames))
+  pub exhausts : e.closing.state ≡ states.Open → P (record { answer = Closed key_limit; end = exhausted now e }) i
+
+-- what holds at any end holds at that one
+pub of_every : (q : Policy) (remote : ℕ) (mark : Option EcnCodepoint) (e : End) (now n : ℕ) (frames : List FrameValue) (i : Intake) (P : Outcome → Intake → Type 0) → ArrivalsFrom remote mark e now n frames i P → ArrivalsBy q remote mark e now n frames i P
+of_every q remote mark e now n frames i P c = record {
+  ignored = c.ignored;
+  noted = c.noted;
+  takes = c.takes q;
+  drains = c.drains q.words;
+  refuses = c.refuses q.words;
+  exhausts = c.exhausts;
+}
+
+-- what stays where the peer moves holds from wherever it came
+pub of_anywhere : (remote : ℕ) (mark : Option EcnCodepoint) (e : End) (now n : ℕ) (frames : List FrameValue) (i : Intake) (P : Outcome → Intake → Type 0) → ArrivalsWith mark e now n frames (frames_at (is_there remote e) frames) i P → ArrivalsFrom remote mark e now n frames i P
+of_anywhere remote mark e now n frames i P c = record {
+  ignored = c.ignored;
+  noted = c.noted;
+  takes = λ p o same state new none. (
+      let taken = frames_at (is_there remote e) frames in
+      let x : End = drawn p.words (after_taken n (asks_in (map Ok frames)) (is_urged mark (asks_in (map Ok frames)) (map Ok taken) (begun e now n)) mark (arrived e now n taken).end) in
+      go p o same x (moves_by remote n frames e) x.closing.state refl (c.takes p.words state new none));
+  drains = c.drains;
+  refuses = c.refuses;
+  exhausts = c.exhausts;
+}
+  where
+    go : (p : Policy) (o : Opening) → items o.payload ≡ map Ok frames → (x : End) (b : Bool) (s : State) → x.closing.state ≡ s → P (record { answer = Taken; end = x }) (with_taken i n frames) → P (record { answer = Taken; end = migrated_if (b && is_open s) p o remote x }) (with_taken i n frames)
+    go p o same x false s state h = h
+    go p o same x true states.Open state h = c.moves p o same remote x state h
+    go p o same x true states.Closing state h = h
+    go p o same x true states.Drained state h = h
+    go p o same x true states.Failed state h = h
 
 -- what a packet comes to that opened, whose key phase is 0
 abbrev by_test : Bool → State → Opening → Arrival → End → Outcome
@@ -218,11 +328,14 @@ came_tested n reference fs payload a i again is spells =
     ∙ ap (λ (xs : List FrameValue). came_by again n xs a i) (frames_of_payload fs payload spells)
 
 -- what an open end makes of a packet that opened and is new
-processed_given : (n reference : ℕ) (frames : List FrameValue) (payload : List ℕ) (arrival : Arrival) (e : End) → n - reference < 2 ^ 31 → 0 < length frames → Payload frames payload
-    → processed (shown n reference payload) arrival (with_numbers e (number_opened e.numbers n)) ≡ judged (arrived e arrival.now n frames) (asks_in (map Ok frames)) (is_urged arrival.mark (map Ok frames) (begun e arrival.now n)) n arrival.mark
+processed_given : (n reference : ℕ) (frames : List FrameValue) (payload : List ℕ) (arrival : Arrival) (e : End) → n - reference < 2 ^ 31 → 0 < length frames → Payload frames payload → (let taken = frames_at (is_there arrival.remote e) frames in
+    processed (shown n reference payload) arrival (with_numbers e (number_opened e.numbers n)) ≡ judged (arrived e arrival.now n taken) (asks_in (map Ok frames)) (is_urged arrival.mark (asks_in (map Ok frames)) (map Ok taken) (begun e arrival.now n)) n arrival.mark)
 processed_given n reference frames payload arrival e near some spells =
-    ap (λ (x : Progress). judged x (asks_in (items payload)) (is_urged arrival.mark (items payload) (begun e arrival.now n)) n arrival.mark) (payload_taken (first_byte (truncated n reference).width) frames payload (begun e arrival.now n) (plain_number n reference near).1 some spells)
-    ∙ ap (λ (is : List (Result FrameValue InvalidFrame)). judged (arrived e arrival.now n frames) (asks_in is) (is_urged arrival.mark is (begun e arrival.now n)) n arrival.mark) (payload_items frames payload spells)
+    let here : Bool = is_there arrival.remote e in
+    let begins = begun e arrival.now n in
+    ap (λ (x : Progress). judged x (asks_in (items payload)) (is_urged arrival.mark (asks_in (items payload)) (items_at here (items payload)) begins) n arrival.mark) (payload_taken (first_byte (truncated n reference).width) here frames payload begins (plain_number n reference near).1 some spells)
+    ∙ ap (λ (is : List (Result FrameValue InvalidFrame)). judged (arrived e arrival.now n (frames_at here frames)) (asks_in is) (is_urged arrival.mark (asks_in is) (items_at here is) begins) n arrival.mark) (payload_items frames payload spells)
+    ∙ ap (λ (is : List (Result FrameValue InvalidFrame)). judged (arrived e arrival.now n (frames_at here frames)) (asks_in (map Ok frames)) (is_urged arrival.mark (asks_in (map Ok frames)) is begins) n arrival.mark) (items_at_frames here frames)
 
 -- P of an outcome and of what came with it, where both are known
 moved : (P : Outcome → Intake → Type 0) (came : Outcome → Intake) (o o' : Outcome) (i : Intake) → o ≡ o' → came o' ≡ i → P o' i → P o (came o)
@@ -232,49 +345,113 @@ moved P came o o' i e h p = subst (λ (x : Outcome). P x (came x)) (sym e) (subs
 abbrev handed_open : Policy → End → Intake → List ℕ → Outcome → Intake
 handed_open q e i d o = and_opened (came_open q i.took (answers.Deliver o.answer) d) (answers.Deliver o.answer) i
 
+-- what the header of a datagram says that was sent to this id, which is known or isn't, and came from
+-- where its taker takes nothing, or didn't
+abbrev head_as : Bool → Bool → List ℕ → Result (List ℕ) DropReason
+head_as foreign known id = if foreign then Err drops.Address else with_drop (known_as known id)
+
+-- whether such a packet says that the peer has moved, by its items
+moves_items : (frames : List FrameValue) → list_any is_telling (map Ok frames) ≡ list_any (λ f. not (is_probing f)) frames
+moves_items [] = refl
+moves_items (f ∷ frames) = ap (λ (b : Bool). not (is_probing f) || b) (moves_items frames)
+
+migrates_is : (n reference : ℕ) (frames : List FrameValue) (payload : List ℕ) (remote : ℕ) (e : End) → Payload frames payload → migrates (shown n reference payload) remote e ≡ moves_by remote n frames e
+migrates_is n reference frames payload remote e spells =
+    ap (λ (b : Bool). not (is_client (side_of e)) && (not (is_there remote e) && (nat_le (expected e.numbers) n && b)))
+    (ap (λ (is : List (Result FrameValue InvalidFrame)). list_any is_telling is) (payload_items frames payload spells) ∙ moves_items frames)
+
+-- a packet that isn't taken says nothing of where the peer is, whether or not it would
+stays_there : (b : Bool) (p : Policy) (o : Opening) (remote : ℕ) (e : End) → migrated_if (b && false) p o remote e ≡ e
+stays_there true p o remote e = refl
+stays_there false p o remote e = refl
+
 module _ (p q : Policy) (id : List ℕ) (n reference : ℕ) (frames : List FrameValue) (d : List ℕ) (g : IsGiven p id n reference frames d) (mates : CanOpen p q) (lawful : IsLawful p)
-    (e : End) (arrival : Arrival) (i : Intake) (P : Outcome → Intake → Type 0) (cases : ArrivalsWith arrival.mark e arrival.now n frames i P) where
-  -- the outcome, where its id is known or isn't
-  abbrev headed_if : Bool → Outcome
-  headed_if b = cond b (opened_as (shown_if (expands n reference (expected e.numbers)) n reference g.payload) q arrival e) (dropped drops.UnknownId e)
+    (e : End) (arrival : Arrival) (i : Intake) (P : Outcome → Intake → Type 0) (cases : ArrivalsBy q arrival.remote arrival.mark e arrival.now n frames i P) where
+  abbrev opening_shown : Opening
+  opening_shown = shown n reference g.payload
+
+  abbrev foreign : Bool
+  foreign = is_foreign arrival.remote e
+
+  abbrev knows_it : Bool
+  knows_it = is_known id (known e.ids)
+
+  -- the outcome, where it comes from where nothing is taken, and where its id is known, or not
+  abbrev headed_if : Bool → Bool → Outcome
+  headed_if away b = cond away (dropped drops.Address e) (cond b (opened_as (shown_if (expands n reference (expected e.numbers)) n reference g.payload) q arrival e) (dropped drops.UnknownId e))
+
+  head_given : head e arrival.remote d ≡ head_as foreign knows_it id
+  head_given = ap (λ (r : Result (List ℕ) HeaderError). if foreign then Err drops.Address else with_drop r) (decoded_given p id n reference frames d g lawful (known e.ids))
 
   -- it is that of the opening
-  headed_given : headed (decoded (fixed_length_id own_id_length) (known e.ids) d) q e arrival d ≡ headed_if (is_known id (known e.ids))
+  headed_given : headed (head e arrival.remote d) q e arrival d ≡ headed_if foreign knows_it
   headed_given =
-      ap (λ (r : Result (List ℕ) HeaderError). headed r q e arrival d) (decoded_given p id n reference frames d g lawful (known e.ids))
-      ∙ go (is_known id (known e.ids))
+      ap (λ (r : Result (List ℕ) DropReason). headed r q e arrival d) head_given
+      ∙ go foreign knows_it
     where
-      go : (b : Bool) → headed (known_as b id) q e arrival d ≡ headed_if b
-      go true = ap (λ (o : Option Opening). opened_as o q arrival e) (opened_given p q id n reference frames d g mates (expected e.numbers))
+      go : (away b : Bool) → headed (head_as away b id) q e arrival d ≡ headed_if away b
+      go true b = refl
+      go false true = ap (λ (o : Option Opening). opened_as o q arrival e) (opened_given p q id n reference frames d g mates (expected e.numbers))
+      go false false = refl
+
+  -- it opens where its id is known, and it didn't come from where nothing is taken
+  opens_shown : opens_from q e arrival.remote (expected e.numbers) d ≡ shown_if (not foreign && (knows_it && expands n reference (expected e.numbers))) n reference g.payload
+  opens_shown = opens_from_is q e arrival.remote (expected e.numbers) d ∙ ap (λ (o : Option Opening). counted (not foreign) o) (opens_given p q id n reference frames d g mates lawful (known e.ids) (expected e.numbers)) ∙ go foreign
+    where
+      go : (away : Bool) → counted (not away) (shown_if (knows_it && expands n reference (expected e.numbers)) n reference g.payload) ≡ shown_if (not away && (knows_it && expands n reference (expected e.numbers))) n reference g.payload
+      go true = refl
       go false = refl
 
   -- what came is by the same opening
-  handed_given : Knows e.numbers i → (let o : Outcome = headed_if (is_known id (known e.ids)) in
-      handed_open q e i d o ≡ and_opened (shown_if (is_known id (known e.ids) && expands n reference (expected e.numbers)) n reference g.payload) (answers.Deliver o.answer) i)
+  handed_given : Knows e.numbers i → (let o : Outcome = headed_if foreign knows_it in
+      handed_open q e i d o ≡ and_opened (shown_if (not foreign && (knows_it && expands n reference (expected e.numbers))) n reference g.payload) (answers.Deliver o.answer) i)
   handed_given k =
-      ap (λ (y : Option Opening). and_opened y (answers.Deliver (headed_if (is_known id (known e.ids))).answer) i)
+      ap (λ (y : Option Opening). and_opened y (answers.Deliver (headed_if foreign knows_it).answer) i)
       (ap (λ (o : Outcome). came_open q i.took (answers.Deliver o.answer) d) (sym headed_given)
       ∙ came_open_is q e arrival d i.took k.expected
-      ∙ opens_given p q id n reference frames d g mates lawful (known e.ids) (expected e.numbers))
+      ∙ opens_shown)
+
+  -- one that isn't taken leaves the path
+  not_taken : (o : Outcome) (j : Intake) → is_taken o.answer ≡ false → is_read o.answer ≡ false → P o j → P (with_migration q opening_shown arrival.remote e (with_ids_drawn q o)) j
+  not_taken o j untaken unread h =
+      subst (λ (b : Bool). P (record { answer = o.answer; end = migrated_if (migrates opening_shown arrival.remote e && (is_taken o.answer && is_open (drawn_if b q o.end).closing.state)) q opening_shown arrival.remote (drawn_if b q o.end) }) j) (sym unread)
+      (subst (λ (b : Bool). P (record { answer = o.answer; end = migrated_if (migrates opening_shown arrival.remote e && (b && is_open o.end.closing.state)) q opening_shown arrival.remote o.end }) j) (sym untaken)
+      (subst (λ (x : End). P (record { answer = o.answer; end = x }) j) (sym (stays_there (migrates opening_shown arrival.remote e) q opening_shown arrival.remote o.end)) h))
 
   closing_tested : (b again : Bool) → e.closing.state ≡ states.Closing → is_duplicate e.numbers.opened n ≡ again → P (opened_as (shown_if b n reference g.payload) q arrival e) i
   closing_tested false again state is = subst (λ (s : State). P (unopened_in s arrival.last arrival e) i) (sym state) (cases.ignored drops.NotOpened)
-  closing_tested true true state is = subst (λ (o : Outcome). P (with_ids_drawn q o) i) (sym (opened_tested (shown n reference g.payload) arrival e true states.Closing (plain_number n reference g.near).0 is state)) (cases.ignored drops.Duplicate)
-  closing_tested true false state is = subst (λ (o : Outcome). P (with_ids_drawn q o) i) (sym (opened_tested (shown n reference g.payload) arrival e false states.Closing (plain_number n reference g.near).0 is state)) (cases.noted state drops.Closing)
+  closing_tested true true state is = subst (λ (o : Outcome). P (with_migration q opening_shown arrival.remote e (with_ids_drawn q o)) i) (sym (opened_tested opening_shown arrival e true states.Closing (plain_number n reference g.near).0 is state)) (not_taken (dropped drops.Duplicate e) i refl refl (cases.ignored drops.Duplicate))
+  closing_tested true false state is = subst (λ (o : Outcome). P (with_migration q opening_shown arrival.remote e (with_ids_drawn q o)) i) (sym (opened_tested opening_shown arrival e false states.Closing (plain_number n reference g.near).0 is state)) (not_taken (by_state states.Closing opening_shown arrival (with_numbers e (number_opened e.numbers n))) i refl refl (cases.noted state drops.Closing))
 
-  known_closing : (b : Bool) → e.closing.state ≡ states.Closing → P (headed_if b) i
-  known_closing true state = closing_tested (expands n reference (expected e.numbers)) (is_duplicate e.numbers.opened n) state refl
-  known_closing false state = cases.ignored drops.UnknownId
+  known_closing : (away b : Bool) → e.closing.state ≡ states.Closing → P (headed_if away b) i
+  known_closing true b state = cases.ignored drops.Address
+  known_closing false true state = closing_tested (expands n reference (expected e.numbers)) (is_duplicate e.numbers.opened n) state refl
+  known_closing false false state = cases.ignored drops.UnknownId
 
-  at_closing : e.closing.state ≡ states.Closing → P (headed (decoded (fixed_length_id own_id_length) (known e.ids) d) q e arrival d) i
-  at_closing state = subst (λ (o : Outcome). P o i) (sym headed_given) (known_closing (is_known id (known e.ids)) state)
+  at_closing : e.closing.state ≡ states.Closing → P (headed (head e arrival.remote d) q e arrival d) i
+  at_closing state = subst (λ (o : Outcome). P o i) (sym headed_given) (known_closing foreign knows_it state)
 
-  taken_or_refused : e.closing.state ≡ states.Open → is_again n i.opened ≡ false → (f : Option Fault) → (arrived e arrival.now n frames).fault ≡ f
-      → P (with_ids_drawn q (ends_as f (asks_in (map Ok frames)) (is_urged arrival.mark (map Ok frames) (begun e arrival.now n)) n arrival.mark (arrived e arrival.now n frames).end)) (came_by false n frames (answers.Deliver (ends_as f (asks_in (map Ok frames)) (is_urged arrival.mark (map Ok frames) (begun e arrival.now n)) n arrival.mark (arrived e arrival.now n frames).end).answer) i)
-  taken_or_refused state new None is = cases.takes q.words state new is
-  taken_or_refused state new (Some (closed_by_peer close)) is = cases.drains q.words state new close is
-  taken_or_refused state new (Some (broke error)) is = cases.refuses q.words state new (broke error) is
-  taken_or_refused state new (Some too_many_pieces) is = cases.refuses q.words state new too_many_pieces is
+  abbrev taken_here : List FrameValue
+  taken_here = frames_at (is_there arrival.remote e) frames
+
+  abbrev left_here : Option Fault → Outcome
+  left_here f = ends_as f (asks_in (map Ok frames)) (is_urged arrival.mark (asks_in (map Ok frames)) (map Ok taken_here) (begun e arrival.now n)) n arrival.mark (arrived e arrival.now n taken_here).end
+
+  -- an end that is drained, or refuses the packet, keeps its path
+  drained_stays : (b : Bool) (x : End) → P (record { answer = Taken; end = x }) (with_taken i n frames) → P (record { answer = Taken; end = migrated_if (b && false) q opening_shown arrival.remote x }) (with_taken i n frames)
+  drained_stays b x h = subst (λ (y : End). P (record { answer = Taken; end = y }) (with_taken i n frames)) (sym (stays_there b q opening_shown arrival.remote x)) h
+
+  refused_stays : (b : Bool) (error : ErrorValue) (x : End) → P (record { answer = Closed error; end = x }) (with_refused i n frames) → P (record { answer = Closed error; end = migrated_if (b && false) q opening_shown arrival.remote x }) (with_refused i n frames)
+  refused_stays b error x h = subst (λ (y : End). P (record { answer = Closed error; end = y }) (with_refused i n frames)) (sym (stays_there b q opening_shown arrival.remote x)) h
+
+  taken_or_refused : e.closing.state ≡ states.Open → is_again n i.opened ≡ false → (f : Option Fault) → (arrived e arrival.now n taken_here).fault ≡ f
+      → P (with_migration q opening_shown arrival.remote e (with_ids_drawn q (left_here f))) (came_by false n frames (answers.Deliver (left_here f).answer) i)
+  taken_or_refused state new None is =
+      subst (λ (b : Bool). let x : End = drawn q.words (left_here None).end in P (record { answer = Taken; end = migrated_if (b && is_open x.closing.state) q opening_shown arrival.remote x }) (with_taken i n frames)) (sym (migrates_is n reference frames g.payload arrival.remote e g.spells))
+      (cases.takes opening_shown (payload_items frames g.payload g.spells) state new is)
+  taken_or_refused state new (Some (closed_by_peer close)) is = drained_stays (migrates opening_shown arrival.remote e) (drawn q.words (left_here (Some (closed_by_peer close))).end) (cases.drains state new close is)
+  taken_or_refused state new (Some (broke error)) is = refused_stays (migrates opening_shown arrival.remote e) (error_of (broke error)) (drawn q.words (left_here (Some (broke error))).end) (cases.refuses state new (broke error) is)
+  taken_or_refused state new (Some too_many_pieces) is = refused_stays (migrates opening_shown arrival.remote e) (error_of too_many_pieces) (drawn q.words (left_here (Some too_many_pieces)).end) (cases.refuses state new too_many_pieces is)
 
   -- it doesn't open
   unopened : (b : Bool) → e.closing.state ≡ states.Open → P (unopened_in states.Open b arrival e) i
@@ -285,29 +462,29 @@ module _ (p q : Policy) (id : List ℕ) (n reference : ℕ) (frames : List Frame
       → P (opened_as (shown_if b n reference g.payload) q arrival e) (and_opened (shown_if b n reference g.payload) (answers.Deliver (opened_as (shown_if b n reference g.payload) q arrival e).answer) i)
   open_tested false again state w is = subst (λ (s : State). P (unopened_in s arrival.last arrival e) i) (sym state) (unopened arrival.last state)
   open_tested true true state w is =
-      moved (λ (x : Outcome) (j : Intake). P (with_ids_drawn q x) j) (λ (o : Outcome). and_opened (Some (shown n reference g.payload)) (answers.Deliver o.answer) i) (opened_to (shown n reference g.payload) arrival e) (dropped drops.Duplicate e) i
-      (opened_tested (shown n reference g.payload) arrival e true states.Open (plain_number n reference g.near).0 (is_duplicate-is i.opened e.numbers.opened n w ∙ is) state)
+      moved (λ (x : Outcome) (j : Intake). P (with_migration q opening_shown arrival.remote e (with_ids_drawn q x)) j) (λ (o : Outcome). and_opened (Some opening_shown) (answers.Deliver o.answer) i) (opened_to opening_shown arrival e) (dropped drops.Duplicate e) i
+      (opened_tested opening_shown arrival e true states.Open (plain_number n reference g.near).0 (is_duplicate-is i.opened e.numbers.opened n w ∙ is) state)
       (came_tested n reference frames g.payload (answers.Deliver (dropped drops.Duplicate e).answer) i true is g.spells)
-      (cases.ignored drops.Duplicate)
+      (not_taken (dropped drops.Duplicate e) i refl refl (cases.ignored drops.Duplicate))
   open_tested true false state w is =
-      let outcome = judged (arrived e arrival.now n frames) (asks_in (map Ok frames)) (is_urged arrival.mark (map Ok frames) (begun e arrival.now n)) n arrival.mark in
-      moved (λ (x : Outcome) (j : Intake). P (with_ids_drawn q x) j) (λ (o : Outcome). and_opened (Some (shown n reference g.payload)) (answers.Deliver o.answer) i) (opened_to (shown n reference g.payload) arrival e) outcome (came_by false n frames (answers.Deliver outcome.answer) i)
-      (opened_tested (shown n reference g.payload) arrival e false states.Open (plain_number n reference g.near).0 (is_duplicate-is i.opened e.numbers.opened n w ∙ is) state ∙ processed_given n reference frames g.payload arrival e g.near g.some g.spells)
+      let outcome = left_here (arrived e arrival.now n taken_here).fault in
+      moved (λ (x : Outcome) (j : Intake). P (with_migration q opening_shown arrival.remote e (with_ids_drawn q x)) j) (λ (o : Outcome). and_opened (Some opening_shown) (answers.Deliver o.answer) i) (opened_to opening_shown arrival e) outcome (came_by false n frames (answers.Deliver outcome.answer) i)
+      (opened_tested opening_shown arrival e false states.Open (plain_number n reference g.near).0 (is_duplicate-is i.opened e.numbers.opened n w ∙ is) state ∙ processed_given n reference frames g.payload arrival e g.near g.some g.spells)
       (came_tested n reference frames g.payload (answers.Deliver outcome.answer) i false is g.spells)
-      (taken_or_refused state is (arrived e arrival.now n frames).fault refl)
+      (taken_or_refused state is (arrived e arrival.now n taken_here).fault refl)
 
-  known_open : (b : Bool) → e.closing.state ≡ states.Open → Knows e.numbers i
-      → P (headed_if b) (and_opened (shown_if (b && expands n reference (expected e.numbers)) n reference g.payload) (answers.Deliver (headed_if b).answer) i)
-  known_open true state k = open_tested (expands n reference (expected e.numbers)) (is_again n i.opened) state k.seen refl
-  known_open false state k = cases.ignored drops.UnknownId
+  known_open : (away b : Bool) → e.closing.state ≡ states.Open → Knows e.numbers i
+      → P (headed_if away b) (and_opened (shown_if (not away && (b && expands n reference (expected e.numbers))) n reference g.payload) (answers.Deliver (headed_if away b).answer) i)
+  known_open true b state k = cases.ignored drops.Address
+  known_open false true state k = open_tested (expands n reference (expected e.numbers)) (is_again n i.opened) state k.seen refl
+  known_open false false state k = cases.ignored drops.UnknownId
 
   at_open : e.closing.state ≡ states.Open → Knows e.numbers i
-      → P (headed (decoded (fixed_length_id own_id_length) (known e.ids) d) q e arrival d) (handed_open q e i d (headed (decoded (fixed_length_id own_id_length) (known e.ids) d) q e arrival d))
+      → P (headed (head e arrival.remote d) q e arrival d) (handed_open q e i d (headed (head e arrival.remote d) q e arrival d))
   at_open state k =
-      let b : Bool = is_known id (known e.ids) in
-      moved P (handed_open q e i d) (headed (decoded (fixed_length_id own_id_length) (known e.ids) d) q e arrival d) (headed_if b)
-      (and_opened (shown_if (b && expands n reference (expected e.numbers)) n reference g.payload) (answers.Deliver (headed_if b).answer) i)
-      headed_given (handed_given k) (known_open b state k)
+      moved P (handed_open q e i d) (headed (head e arrival.remote d) q e arrival d) (headed_if foreign knows_it)
+      (and_opened (shown_if (not foreign && (knows_it && expands n reference (expected e.numbers))) n reference g.payload) (answers.Deliver (headed_if foreign knows_it).answer) i)
+      headed_given (handed_given k) (known_open foreign knows_it state k)
 
   at_state : (s : State) → e.closing.state ≡ s → KnowsIn s e.numbers i → P (received_in s q e arrival d) (and_handed s (Some d) q (answers.Deliver (received_in s q e arrival d).answer) i)
   at_state states.Open state k = at_open state k
@@ -315,16 +492,31 @@ module _ (p q : Policy) (id : List ℕ) (n reference : ℕ) (frames : List Frame
   at_state states.Drained state k = cases.ignored drops.Drained
   at_state states.Failed state k = cases.ignored drops.Failed
 
--- every delivery of a datagram that an honest end gave is one of the cases, with its mark
+-- every delivery of a datagram that an honest end gave is one of the cases, at an end with this policy,
+-- from its address and with its mark
+pub by_arrival_by : (p q : Policy) (id : List ℕ) (n reference : ℕ) (frames : List FrameValue) (d : List ℕ) (g : IsGiven p id n reference frames d) (e : End) (arrival : Arrival) (i : Intake) (P : Outcome → Intake → Type 0)
+    → CanOpen p q → IsLawful p → KnowsIn e.closing.state e.numbers i
+    → ArrivalsBy q arrival.remote arrival.mark e arrival.now n frames i P
+    → P (received q e arrival d) (and_handed e.closing.state (Some d) q (answers.Deliver (received q e arrival d).answer) i)
+by_arrival_by p q id n reference frames d g e arrival i P mates lawful k cases = at_state p q id n reference frames d g mates lawful e arrival i P cases e.closing.state refl k
+
+-- so it is at any end
+pub by_arrival_from : (p q : Policy) (id : List ℕ) (n reference : ℕ) (frames : List FrameValue) (d : List ℕ) (g : IsGiven p id n reference frames d) (e : End) (arrival : Arrival) (i : Intake) (P : Outcome → Intake → Type 0)
+    → CanOpen p q → IsLawful p → KnowsIn e.closing.state e.numbers i
+    → ArrivalsFrom arrival.remote arrival.mark e arrival.now n frames i P
+    → P (received q e arrival d) (and_handed e.closing.state (Some d) q (answers.Deliver (received q e arrival d).answer) i)
+by_arrival_from p q id n reference frames d g e arrival i P mates lawful k cases = by_arrival_by p q id n reference frames d g e arrival i P mates lawful k (of_every q arrival.remote arrival.mark e arrival.now n frames i P cases)
+
+-- so it is wherever it came from, of the frames that are taken then
 pub by_arrival_with : (p q : Policy) (id : List ℕ) (n reference : ℕ) (frames : List FrameValue) (d : List ℕ) (g : IsGiven p id n reference frames d) (e : End) (arrival : Arrival) (i : Intake) (P : Outcome → Intake → Type 0)
     → CanOpen p q → IsLawful p → KnowsIn e.closing.state e.numbers i
-    → ArrivalsWith arrival.mark e arrival.now n frames i P
+    → ArrivalsWith arrival.mark e arrival.now n frames (frames_at (is_there arrival.remote e) frames) i P
     → P (received q e arrival d) (and_handed e.closing.state (Some d) q (answers.Deliver (received q e arrival d).answer) i)
-by_arrival_with p q id n reference frames d g e arrival i P mates lawful k cases = at_state p q id n reference frames d g mates lawful e arrival i P cases e.closing.state refl k
+by_arrival_with p q id n reference frames d g e arrival i P mates lawful k cases = by_arrival_from p q id n reference frames d g e arrival i P mates lawful k (of_anywhere arrival.remote arrival.mark e arrival.now n frames i P cases)
 
--- so it is whatever its mark
+-- and whatever its mark
 pub by_arrival : (p q : Policy) (id : List ℕ) (n reference : ℕ) (frames : List FrameValue) (d : List ℕ) (g : IsGiven p id n reference frames d) (e : End) (arrival : Arrival) (i : Intake) (P : Outcome → Intake → Type 0)
     → CanOpen p q → IsLawful p → KnowsIn e.closing.state e.numbers i
-    → Arrivals e arrival.now n frames i P
+    → Arrivals e arrival.now n frames (frames_at (is_there arrival.remote e) frames) i P
     → P (received q e arrival d) (and_handed e.closing.state (Some d) q (answers.Deliver (received q e arrival d).answer) i)
-by_arrival p q id n reference frames d g e arrival i P mates lawful k cases = by_arrival_with p q id n reference frames d g e arrival i P mates lawful k (of_any arrival.mark e arrival.now n frames i P cases)
+by_arrival p q id n reference frames d g e arrival i P mates lawful k cases = by_arrival_with p q id n reference frames d g e arrival i P mates lawful k (of_any arrival.mark e arrival.now n frames (frames_at (is_there arrival.remote e) frames) i P cases)

@@ -604,15 +604,15 @@ expands_next : (n reference next : ℕ) → n - reference < 2 ^ 31 → reference
 expands_next n reference next near above behind = eq-eqb (expanded (truncated n reference) next) n (newest_opens n reference next near above (omega arith))
 
 -- the datagram of a number opens to what it was sent as, by the keys of its taker alone
-pub sent_read : (p q : Policy) (id : List ℕ) (n reference : ℕ) (frames : List FrameValue) (d : List ℕ) → IsGiven p id n reference frames d → CanOpen p q → IsLawful p → (next : ℕ) → reference ≤ next → next ≤ n → (acked moment : ℕ)
-    → sent_as (opened_packet q.header q.packet (own_id_length + 1) next d) acked moment d
-    ≡ record { id = id; number = n; reference = reference_for (list_any is_close frames) n (truncated n reference).width acked; frames = frames; moment = moment_for (list_any is_close frames) moment; size = length d } ∷ []
-sent_read p q id n reference frames d g mates lawful next above behind acked moment =
-    ap (λ (o : Option Opening). sent_as o acked moment d) (opened_given p q id n reference frames d g mates next)
-    ∙ ap (λ (b : Bool). sent_as (shown_if b n reference g.payload) acked moment d) (expands_next n reference next g.near above behind)
-    ∙ ap (λ (fs : List FrameValue). record { id = destination d; number = n; reference = reference_for (list_any is_close fs) n (width_in (first_byte (truncated n reference).width)) acked; frames = fs; moment = moment_for (list_any is_close fs) moment; size = length d } ∷ []) (frames_of_payload frames g.payload g.spells)
-    ∙ ap (λ (w : ℕ). record { id = destination d; number = n; reference = reference_for (list_any is_close frames) n w acked; frames = frames; moment = moment_for (list_any is_close frames) moment; size = length d } ∷ []) (width_shown n reference g.near)
-    ∙ ap (λ (to : List ℕ). record { id = to; number = n; reference = reference_for (list_any is_close frames) n (truncated n reference).width acked; frames = frames; moment = moment_for (list_any is_close frames) moment; size = length d } ∷ []) (destination_given p id n reference frames d g lawful)
+pub sent_read : (p q : Policy) (id : List ℕ) (n reference : ℕ) (frames : List FrameValue) (d : List ℕ) → IsGiven p id n reference frames d → CanOpen p q → IsLawful p → (next : ℕ) → reference ≤ next → next ≤ n → (acked moment generation : ℕ)
+    → sent_as (opened_packet q.header q.packet (own_id_length + 1) next d) acked moment generation d
+    ≡ record { id = id; number = n; reference = reference_for (list_any is_close frames) n (truncated n reference).width acked; frames = frames; moment = moment_for (list_any is_close frames) moment; size = length d; generation = generation } ∷ []
+sent_read p q id n reference frames d g mates lawful next above behind acked moment generation =
+    ap (λ (o : Option Opening). sent_as o acked moment generation d) (opened_given p q id n reference frames d g mates next)
+    ∙ ap (λ (b : Bool). sent_as (shown_if b n reference g.payload) acked moment generation d) (expands_next n reference next g.near above behind)
+    ∙ ap (λ (fs : List FrameValue). record { id = destination d; number = n; reference = reference_for (list_any is_close fs) n (width_in (first_byte (truncated n reference).width)) acked; frames = fs; moment = moment_for (list_any is_close fs) moment; size = length d; generation = generation } ∷ []) (frames_of_payload frames g.payload g.spells)
+    ∙ ap (λ (w : ℕ). record { id = destination d; number = n; reference = reference_for (list_any is_close frames) n w acked; frames = frames; moment = moment_for (list_any is_close frames) moment; size = length d; generation = generation } ∷ []) (width_shown n reference g.near)
+    ∙ ap (λ (to : List ℕ). record { id = to; number = n; reference = reference_for (list_any is_close frames) n (truncated n reference).width acked; frames = frames; moment = moment_for (list_any is_close frames) moment; size = length d; generation = generation } ∷ []) (destination_given p id n reference frames d g lawful)
 
 -- PADDING doesn't ask for an acknowledgement
 pub asking_padded : (fs : List FrameValue) (count : ℕ) → asking (fs ++ replicate count padding) ≡ asking fs
@@ -752,7 +752,7 @@ draft_requests leaving e may = by_leave (λ (d : Draft). Requests e d) keep leav
     none other = record { number = refl; delay = refl; request = refl; waits = λ some. refl }
 
 -- what an end gives is in flight, and waited for
-pub draft_waits : (p : Policy) (t : Terms) (now : ℕ) (b : Leaving) (e : End) (s : Sent) (f : Flight) → MayLeave b e → e.path.generation ≡ 0 → s.number ≡ number_of e → s.moment ≡ e.closing.clock → s.frames ≡ frames_padded (draft_as b e) → s.size ≡ datagram_size (draft_as b e)
+pub draft_waits : (p : Policy) (t : Terms) (now : ℕ) (b : Leaving) (e : End) (s : Sent) (f : Flight) → MayLeave b e → e.path.generation ≡ s.generation → s.number ≡ number_of e → s.moment ≡ e.closing.clock → s.frames ≡ frames_padded (draft_as b e) → s.size ≡ datagram_size (draft_as b e)
     → Lies 0 e.numbers.next e.tracking.packets → e.numbers.next ≤ number_of e → Waits t now f (held e) → Waits t now (and_flying s f) (held (after_given p (draft_as b e)))
 draft_waits p t now b e s f may path number moment frames size lies above w = by_going (λ (x : End). Waits t now (and_flying s f) (held x)) p d (λ pacing.
     let x : End = after_going p d pacing in

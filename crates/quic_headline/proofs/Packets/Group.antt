@@ -31,7 +31,7 @@ use Rattle.quic_headline.proofs.Packets.Apart.{by_waits, by_next_id}
 use Rattle.quic_headline.proofs.Packets.Invariant.{IsSent, Gives, KnowsIn, Acks, WereSent, NameTaken, AreTaken, AreTracked}
 use Rattle.quic_headline.proofs.Packets.Growth.{step_of}
 use Rattle.quic_headline.proofs.Packets.Intakes.{count_more, took_more}
-use Rattle.quic_headline.proofs.Packets.Delivered.{Arrivals, arrived}
+use Rattle.quic_headline.proofs.Packets.Delivered.{Arrivals, arrived, frames_at, among_at}
 use Rattle.quic_congestion.proofs.SizedSearch.{sized_first}
 use Rattle.quic_headline.proofs.Packets.Sizes.{HasSize, sized_call}
 use Rattle.quic_headline.proofs.Packets.Stays.{settles_losses, placed_call}
@@ -43,7 +43,7 @@ use Rattle.quic_headline.proofs.Packets.Given.{gives_step}
 use Rattle.quic_headline.proofs.Packets.TrackedSteps.{tracked_step}
 use Rattle.quic_headline.proofs.Packets.Ascending.{Ascends, ascends_call}
 use Rattle.quic_headline.proofs.Packets.Naming.{were_sent_more, sent_arrivals, name_taken_on, name_taken_step}
-use Rattle.quic_headline.proofs.Packets.Ids.{IsLong, AnyNumber, TellLong, LongIds, call_says, call_long, frames_long, long_arrivals, first_long_ids}
+use Rattle.quic_headline.proofs.Packets.Ids.{IsLong, AnyNumber, TellLong, LongIds, call_says, call_long, frames_long, long_arrivals, first_long_ids, SaysIds}
 use Rattle.quic_headline.proofs.Packets.Owing.{Owes, IsAlone, owes_call, alone_call, first_owes}
 use Rattle.quic_headline.proofs.Places.Told.{in_append}
 use Rattle.quic_headline.proofs.Places.Steps.{gives_count}
@@ -52,6 +52,8 @@ use Rattle.quic_headline.proofs.Places.Parties.{sents_by, told_of, Party, called
 use Rattle.quic_headline.proofs.Places.Groups.{Way, Before, Early}
 use Rattle.quic_headline.proofs.Places.Coming.{Meets, by_coming}
 use Rattle.quic_headline.proofs.Packets.Probes.{may_leave}
+use Rattle.quic_headline.proofs.Packets.Named.{NamesTaken}
+use Rattle.quic_headline.proofs.Packets.Strays.{acks_at}
 
 -- x gives, and y takes.
 pub record PacketsHold (x y : Party) : Type 0 where
@@ -149,16 +151,18 @@ knows_step q e theirs call a i other k = by_plain_call q e theirs (λ (f : End).
     keep c may = k
 
 -- in each case of a delivery
-takes_arrivals : (e : End) (now : ℕ) (s : Sent) (i : Intake) (sents : List Sent) → In s sents → s.number < 2 ^ 62 → Takes sents e i → Arrivals e now s.number s.frames i (λ (o : Outcome) (j : Intake). Takes sents o.end j)
-takes_arrivals e now s i sents among small t =
-    let knows = knows_arrivals e now s.number s.frames i t.knows in
-    let acks = acks_arrivals e now s.number s.frames i small t.acks in
-    let taken = sent_arrivals e now s.number s.frames i sents s (among, refl) refl t.taken in
-    let acking = taken_arrivals e now s.number s.frames i t.acks t.acking in
+takes_arrivals : (e : End) (now : ℕ) (s : Sent) (here : Bool) (i : Intake) (sents : List Sent) → In s sents → s.number < 2 ^ 62 → Takes sents e i → Arrivals e now s.number s.frames (frames_at here s.frames) i (λ (o : Outcome) (j : Intake). Takes sents o.end j)
+takes_arrivals e now s here i sents among small t =
+    let those = frames_at here s.frames in
+    let knows = knows_arrivals e now s.number s.frames here i t.knows in
+    let acks = acks_arrivals e now s.number s.frames those i small t.acks in
+    let taken = sent_arrivals e now s.number s.frames those i sents s (among, refl) refl t.taken in
+    let acking = taken_arrivals e now s.number s.frames those i t.acks t.acking in
     record {
       ignored = λ reason. t;
       noted = λ state reason. record { knows = knows.noted state reason; acks = acks.noted state reason; taken = taken.noted state reason; acking = acking.noted state reason };
       takes = λ words state new none urged mark. record { knows = knows.takes words state new none urged mark; acks = acks.takes words state new none urged mark; taken = taken.takes words state new none urged mark; acking = acking.takes words state new none urged mark };
+      moves = λ p o same remote x opened m. record { knows = knows.moves p o same remote x opened m.knows; acks = acks.moves p o same remote x opened m.acks; taken = taken.moves p o same remote x opened m.taken; acking = acking.moves p o same remote x opened m.acking };
       drains = λ words state new close is. record { knows = knows.drains words state new close is; acks = acks.drains words state new close is; taken = taken.drains words state new close is; acking = acking.drains words state new close is };
       refuses = λ words state new f is. record { knows = knows.refuses words state new f is; acks = acks.refuses words state new f is; taken = taken.refuses words state new f is; acking = acking.refuses words state new f is };
       exhausts = λ state. record { knows = knows.exhausts state; acks = acks.exhausts state; taken = taken.exhausts state; acking = acking.exhausts state };
@@ -174,7 +178,7 @@ takes_step B x y call a c p = by_coming x y a c.joined c.served (meets y x p) (T
     acking = taken_step x.policy x.end y.given call a (came_to x y).took apart p.acking;
   };
   none = λ delivery is. before;
-  comes = λ delivery is s among. takes_arrivals x.end delivery.now s (came_to x y) y.sents among (step_of (IsSent y.policy) y.sents y.given s p.gives.each among).1.small before;
+  comes = λ delivery is s among here. takes_arrivals x.end delivery.now s here (came_to x y) y.sents among (step_of (IsSent y.policy) y.sents y.given s p.gives.each among).1.small before;
 })
   where
     before : Takes y.sents x.end (came_to x y)
@@ -191,19 +195,19 @@ long_step : (B : Way) (x y : Party) (call : Call) (a : Answer) → Before B x y 
 long_step B x y call a c p back = by_coming x y a c.joined c.served (meets y x back) (λ (e : End) (i : Intake). LongIds e) call c.answer (record {
   apart = λ apart. call_long x.policy x.end y.given call a x.sents apart p.tells p.tracked p.long;
   none = λ delivery is. p.long;
-  comes = λ delivery is s among. long_arrivals x.end delivery.now s.number s.frames (came_to x y) (taken delivery.now s among) p.long;
+  comes = λ delivery is s among here. long_arrivals x.end delivery.now s.number s.frames (frames_at here s.frames) (came_to x y) (taken delivery.now s among here) p.long;
 })
   where
-    taken : (now : ℕ) (s : Sent) → In s y.sents → LongIds (arrived x.end now s.number s.frames).end
-    taken now s among = frames_long (came_to y x).took x.sents (record { taken = p.taken; rising = p.gives.rising }) p.tells s.frames (λ f i. back.tells s f among i) (begun x.end now s.number)
-        (λ a i k named. back.named s a k among i named) p.tracked (record { waits = p.long.waits; peer = p.long.peer })
+    taken : (now : ℕ) (s : Sent) → In s y.sents → (here : Bool) → LongIds (arrived x.end now s.number (frames_at here s.frames)).end
+    taken now s among here = frames_long (came_to y x).took x.sents (record { taken = p.taken; rising = p.gives.rising }) p.tells (frames_at here s.frames) (among_at (SaysIds IsLong AnyNumber) tt here s.frames (λ f i. back.tells s f among i)) (begun x.end now s.number)
+        (acks_at (NamesTaken (came_to y x).took) here s.frames (λ a i k named. back.named s a k among i named)) p.tracked (record { waits = p.long.waits; peer = p.long.peer })
 
 -- x makes a call: which close it owes
 due_step : (B : Way) (x y : Party) (call : Call) (a : Answer) → Before B x y call a → PacketsHold x y → PacketsHold y x → OwesWell (called x y.given call a).end
 due_step B x y call a c p back = by_coming x y a c.joined c.served (meets y x back) (λ (e : End) (i : Intake). OwesWell e) call c.answer (record {
   apart = λ apart. owed_call x.policy x.end y.given call a c.codes apart p.due;
   none = λ delivery is. p.due;
-  comes = λ delivery is s among. owed_arrivals x.end delivery.now s.number s.frames (came_to x y) p.due;
+  comes = λ delivery is s among here. owed_arrivals x.end delivery.now s.number s.frames (frames_at here s.frames) (came_to x y) p.due;
 })
 
 -- x makes a call: how many datagrams it gave

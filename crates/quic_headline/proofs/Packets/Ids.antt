@@ -73,6 +73,7 @@ use Rattle.quic_headline.proofs.Places.Parties.{sent_by, sent_if, sents_by}
 use Rattle.quic_headline.proofs.Halves.Pile.{SamePile}
 use Rattle.quic_headline.proofs.Halves.PileSteps.{acked_same, reset_acked_same, stream_same, reset_same}
 use Rattle.quic_headline.proofs.Halves.PileCalls.{write_same, chunks_same, finalize_same, received_reset_same}
+use Rattle.quic_headline.proofs.Packets.Moving.{moving_keeps}
 
 -- ---- what is so of ids and of numbers
 
@@ -485,13 +486,14 @@ frames_long took sents stands say frames all e names tracked i = frames_settle t
 }) e names tracked i
 
 -- in each case of a delivery
-pub long_arrivals : (e : End) (now n : ℕ) (frames : List FrameValue) (i : Intake) → LongIds (arrived e now n frames).end → LongIds e → Arrivals e now n frames i (λ (o : Outcome) (j : Intake). LongIds o.end)
-long_arrivals e now n frames i passed before = record {
+pub long_arrivals : (e : End) (now n : ℕ) (frames taken : List FrameValue) (i : Intake) → LongIds (arrived e now n taken).end → LongIds e → Arrivals e now n frames taken i (λ (o : Outcome) (j : Intake). LongIds o.end)
+long_arrivals e now n frames taken i passed before = record {
   ignored = λ reason. before;
   noted = λ state reason. record { waits = before.waits; peer = before.peer };
-  takes = λ words state new none urged mark. drawn_long words (after_taken n (asks_in (map Ok frames)) urged mark (arrived e now n frames).end) (record { waits = passed.waits; peer = passed.peer });
-  drains = λ words state new close is. drawn_long words (drained_at n close (arrived e now n frames).end) (record { waits = passed.waits; peer = passed.peer });
-  refuses = λ words state new f is. drawn_long words (closed_by (reason_of f) (arrived e now n frames).end) (record { waits = passed.waits; peer = passed.peer });
+  takes = λ words state new none urged mark. drawn_long words (after_taken n (asks_in (map Ok frames)) urged mark (arrived e now n taken).end) (record { waits = passed.waits; peer = passed.peer });
+  moves = λ p o same remote x opened j. moving_keeps LongIds (λ m y k. record { waits = k.waits; peer = k.peer }) (λ y a k. next_id_long y a k) p o remote x j;
+  drains = λ words state new close is. drawn_long words (drained_at n close (arrived e now n taken).end) (record { waits = passed.waits; peer = passed.peer });
+  refuses = λ words state new f is. drawn_long words (closed_by (reason_of f) (arrived e now n taken).end) (record { waits = passed.waits; peer = passed.peer });
   exhausts = λ state. record { waits = before.waits; peer = before.peer };
 }
 

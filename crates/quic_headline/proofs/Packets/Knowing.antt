@@ -1,7 +1,7 @@
 -- What an end knows of what came goes on with each datagram.
-use Rattle.std.proofs.Common.{◌≡◌, ℕ, ◌+◌, List, Option, Some, None, refl, sym, ap, ◌∙◌, subst, arith}
+use Rattle.std.proofs.Common.{◌≡◌, ℕ, ◌+◌, List, Option, Some, None, refl, sym, ap, ◌∙◌, subst, arith, Bool, true, false, [], ◌∷◌}
 use Rattle.std.specs.Prelude.{max}
-use Rattle.quic_wire.specs.Value.{FrameValue}
+use Rattle.quic_wire.specs.Value.{FrameValue, ack}
 use Rattle.quic_machine.specs.declared.answers.State.{State}
 use Rattle.quic_machine.specs.declared.answers.State.TheVariants as states
 use Rattle.quic_machine.specs.Closing.{Closing}
@@ -11,8 +11,9 @@ use Rattle.quic_headline.specs.Runs.{Intake, nothing_came, expected_behind, ackn
 use Rattle.quic_headline.proofs.Packets.Invariant.{Knows, Expects, KnowsIn}
 use Rattle.quic_recovery_core.specs.Duplicates.{Seen, after_insert}
 use Rattle.quic_machine.specs.FrameCases.{begun}
-use Rattle.quic_headline.proofs.Packets.Delivered.{Arrivals, arrived, with_taken, with_refused}
+use Rattle.quic_headline.proofs.Packets.Delivered.{Arrivals, arrived, with_taken, with_refused, frames_at}
 use Rattle.quic_headline.proofs.Packets.Stays.{keeps_frames, named_frames}
+use Rattle.quic_headline.proofs.Packets.Moved.{by_migrated}
 
 -- nothing came yet
 pub knows_first : Knows no_numbers nothing_came
@@ -65,28 +66,39 @@ knows_noted states.Closing numbers n i is k = k
 knows_noted states.Drained numbers n i is k = k
 knows_noted states.Failed numbers n i is k = k
 
+-- the frames that are taken acknowledge what those of the packet do
+pub acknowledged_at : (here : Bool) (fs : List FrameValue) → acknowledged_in (frames_at here fs) ≡ acknowledged_in fs
+acknowledged_at true fs = refl
+acknowledged_at false [] = refl
+acknowledged_at false (ack a ∷ fs) = ap (λ (m : ℕ). max a.largest m) (acknowledged_at false fs)
+acknowledged_at false (f ∷ fs) = acknowledged_at false fs
+
 -- in each case of a delivery the end knows what came then
-pub knows_arrivals : (e : End) (now n : ℕ) (frames : List FrameValue) (i : Intake) → KnowsIn e.closing.state e.numbers i → Arrivals e now n frames i (λ o j. KnowsIn o.end.closing.state o.end.numbers j)
-knows_arrivals e now n frames i k = record {
+pub knows_arrivals : (e : End) (now n : ℕ) (frames : List FrameValue) (here : Bool) (i : Intake) → KnowsIn e.closing.state e.numbers i → Arrivals e now n frames (frames_at here frames) i (λ o j. KnowsIn o.end.closing.state o.end.numbers j)
+knows_arrivals e now n frames here i k = record {
   ignored = λ reason. k;
   noted = λ state reason. knows_noted e.closing.state e.numbers n i state k;
   takes = λ words state new none urged mark. taken none;
+  moves = λ p o same remote x opened j. by_migrated (λ (y : End). KnowsIn y.closing.state y.numbers (with_taken i n frames)) p o remote x (λ c. j) (λ c most. j);
   drains = λ words state new close is. drained;
   refuses = λ words state new f is. refused;
   exhausts = λ state. expects_in e.closing.state e.numbers i k;
 }
   where
+    those : List FrameValue
+    those = frames_at here frames
+
     -- what frames change of the numbers, the number that is expected isn't
-    refused : Expects (arrived e now n frames).end.numbers (with_refused i n frames)
-    refused = ap (λ (x : Numbers). expected x) (keeps_frames frames (begun e now n)).numbers ∙ expects_in e.closing.state e.numbers i k
+    refused : Expects (arrived e now n those).end.numbers (with_refused i n frames)
+    refused = ap (λ (x : Numbers). expected x) (keeps_frames those (begun e now n)).numbers ∙ expects_in e.closing.state e.numbers i k
 
     -- the number of one in which the peer closes counts
-    drained : Expects (number_taken (arrived e now n frames).end.numbers n) (with_taken i n frames)
-    drained = expects_taken e.numbers (arrived e now n frames).end.numbers i n frames (expects_in e.closing.state e.numbers i k) (keeps_frames frames (begun e now n)).numbers
+    drained : Expects (number_taken (arrived e now n those).end.numbers n) (with_taken i n frames)
+    drained = expects_taken e.numbers (arrived e now n those).end.numbers i n frames (expects_in e.closing.state e.numbers i k) (keeps_frames those (begun e now n)).numbers
 
-    taken : (arrived e now n frames).fault ≡ None → KnowsIn (arrived e now n frames).end.closing.state (number_taken (arrived e now n frames).end.numbers n) (with_taken i n frames)
+    taken : (arrived e now n those).fault ≡ None → KnowsIn (arrived e now n those).end.closing.state (number_taken (arrived e now n those).end.numbers n) (with_taken i n frames)
     taken none =
-        let left = (arrived e now n frames).end in
-        let keeps = keeps_frames frames (begun e now n) in
+        let left = (arrived e now n those).end in
+        let keeps = keeps_frames those (begun e now n) in
         subst (λ (s : State). KnowsIn s (number_taken left.numbers n) (with_taken i n frames)) (sym (ap (λ (c : Closing). c.state) keeps.closing))
-        (knows_in_taken e.closing.state e.numbers left.numbers i n frames k keeps.numbers (named_frames frames (begun e now n) none))
+        (knows_in_taken e.closing.state e.numbers left.numbers i n frames k keeps.numbers (named_frames those (begun e now n) none ∙ ap (λ (m : ℕ). max m (cut_against e.numbers)) (acknowledged_at here frames)))

@@ -25,6 +25,7 @@ use Rattle.quic_headline.proofs.Packets.Invariant.{IsCarriedFrom, AreTracked, Ri
 use Rattle.quic_headline.proofs.Packets.Rising.{one_number}
 use Rattle.quic_machine.specs.Sizes.{search_acked}
 use Rattle.quic_machine.specs.Validation.{Asked, with_asked}
+use Rattle.quic_headline.proofs.Packets.Moved.{by_migrated}
 
 -- ---- fewer packets
 
@@ -93,6 +94,7 @@ received_fewer p e arrival d = by_received (WaitsForFewer e) (record {
   asks_close = λ x w. w;
   exhausts = λ now x w. w;
   draws = λ words x w. w;
+  moves = λ q o remote x w. by_migrated (WaitsForFewer e) q o remote x (λ c. w) (λ c most. w);
 }) p e arrival d (λ n t i. i)
 
 -- so each tracked packet was given still

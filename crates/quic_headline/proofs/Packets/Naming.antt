@@ -154,12 +154,13 @@ were_sent_more sents more packets before packet i =
     record { sent = w.sent; is = (in_left w.sent sents more w.is.0, w.is.1); frames = w.frames }
 
 -- in each case of a delivery the packets that were taken were sent so
-pub sent_arrivals : (e : End) (now n : ℕ) (frames : List FrameValue) (i : Intake) (sents : List Sent) (s : Sent) → SentAs sents n s → s.frames ≡ frames → WereSent sents i.took
-    → Arrivals e now n frames i (λ o j. WereSent sents j.took)
-sent_arrivals e now n frames i sents s is same before = record {
+pub sent_arrivals : (e : End) (now n : ℕ) (frames those : List FrameValue) (i : Intake) (sents : List Sent) (s : Sent) → SentAs sents n s → s.frames ≡ frames → WereSent sents i.took
+    → Arrivals e now n frames those i (λ o j. WereSent sents j.took)
+sent_arrivals e now n frames those i sents s is same before = record {
   ignored = λ reason. before;
   noted = λ state reason. before;
   takes = λ words state new none urged mark. taken;
+  moves = λ p o unread remote x opened w. w;
   drains = λ words state new close at. taken;
   refuses = λ words state new f at. before;
   exhausts = λ state. before;

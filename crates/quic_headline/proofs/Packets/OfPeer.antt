@@ -116,3 +116,7 @@ module _ (P : PeerIds → Type 0) where
     hears = λ arrival d set. (let clash : false ≡ true = sym other ∙ set in cc);
     tells = λ asks. by_event e Of i (λ told. i);
   })
+
+-- a call that is neither a delivery nor one for the next id leaves the ids of the peer
+pub peer_same : (p : Policy) (e : End) (theirs : List (List ℕ)) (call : Call) (a : Answer) → is_delivery call ≡ false → uses_next_id call ≡ false → (after_call p e theirs call a).ids.peer ≡ e.ids.peer
+peer_same p e theirs call a apart other = peer_call (λ (q : PeerIds). q ≡ e.ids.peer) p e theirs call a apart (λ uses. (let clash : false ≡ true = sym other ∙ uses in cc)) refl

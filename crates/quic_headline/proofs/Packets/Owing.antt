@@ -57,6 +57,7 @@ use Rattle.quic_headline.proofs.Packets.Sends.{GivesClose, by_sends}
 use Rattle.quic_headline.proofs.Places.Steps.{poll_answer}
 use Rattle.quic_headline.proofs.Places.Parties.{sent_as, sent_by, sent_if, sents_by}
 use Rattle.quic_recovery_core.specs.AckFrequency.{is_stale}
+use Rattle.quic_headline.proofs.Packets.Moved.{by_migrated}
 
 -- ---- what an end owes
 
@@ -114,6 +115,7 @@ received_owes = by_received Owes (record {
   asks_close = λ e i. i;
   exhausts = λ now e i. error_owes reasons.KeyLimit (with_closing e (ticked e.closing now));
   draws = λ words e i. i;
+  moves = λ p o remote e i. by_migrated Owes p o remote e (λ c. i) (λ c most. i);
 })
 
 polled_owes : (p : Policy) (e : End) (now : ℕ) → Owes e → Owes (polled p e now).end

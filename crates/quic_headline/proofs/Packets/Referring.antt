@@ -33,7 +33,7 @@ use Rattle.quic_headline.proofs.Packets.Closeless.{sent_closeless}
 use Rattle.quic_headline.proofs.Packets.CloseForms.{close_small}
 use Rattle.quic_headline.proofs.Packets.References.{cut_low}
 use Rattle.quic_headline.proofs.Packets.Sends.{GivesClose, by_sends}
-use Rattle.quic_headline.proofs.Packets.Delivered.{Arrivals, arrived}
+use Rattle.quic_headline.proofs.Packets.Delivered.{Arrivals, arrived, frames_at}
 use Rattle.quic_headline.proofs.Packets.Probes.{may_leave}
 use Rattle.quic_headline.proofs.Packets.Naming.{greatest_named}
 use Rattle.quic_headline.proofs.Packets.Group.{PacketsHold, meets}
@@ -42,6 +42,8 @@ use Rattle.quic_headline.proofs.Places.Steps.{poll_answer}
 use Rattle.quic_headline.proofs.Places.Parties.{cut_for, sent_as, sent_by, sent_if, sents_by, told_of, Party, called, came_to}
 use Rattle.quic_headline.proofs.Places.Coming.{by_coming}
 use Rattle.quic_headline.proofs.Places.Groups.{Group}
+use Rattle.quic_headline.proofs.Packets.Moved.{by_migrated}
+use Rattle.quic_headline.proofs.Packets.Strays.{acks_at}
 
 -- ---- the number that is expected
 
@@ -95,18 +97,19 @@ module _ (most : ℕ) where
       (λ f left x j. ((λ a k. j.0 a (inr k)), frame_cuts f x (λ a is. j.0 a (inl is)) j.1)) fs e (small, i)).1.1
 
   -- in each case of a delivery
-  cut_arrivals : (e : End) (now n : ℕ) (frames : List FrameValue) (i : Intake) → ((a : AckValue) → In (ack a) frames → a.largest ≤ most) → CutBelow e → Arrivals e now n frames i (λ (o : Outcome) (j : Intake). CutBelow o.end)
-  cut_arrivals e now n frames i small before = record {
+  cut_arrivals : (e : End) (now n : ℕ) (frames taken : List FrameValue) (i : Intake) → ((a : AckValue) → In (ack a) taken → a.largest ≤ most) → CutBelow e → Arrivals e now n frames taken i (λ (o : Outcome) (j : Intake). CutBelow o.end)
+  cut_arrivals e now n frames taken i small before = record {
     ignored = λ reason. before;
     noted = λ state reason. before;
     takes = λ words state new none urged mark. after;
+    moves = λ p o same remote x opened j. by_migrated CutBelow p o remote x (λ c. j) (λ c least. j);
     drains = λ words state new close is. after;
     refuses = λ words state new f is. after;
     exhausts = λ state. before;
   }
     where
-      after : CutBelow (arrived e now n frames).end
-      after = frames_cut frames (begun e now n) small before
+      after : CutBelow (arrived e now n taken).end
+      after = frames_cut taken (begun e now n) small before
 
   -- a poll
   polled_cuts : (p : Policy) (e : End) (now : ℕ) → CutBelow e → CutBelow (polled p e now).end
@@ -203,7 +206,7 @@ refers_group = record {
     cut = by_coming x y a c.joined c.served (meets y x c.takes) (λ (e : End) (i : Intake). cut_against e.numbers ≤ expected_behind (came_to y x).took) call c.answer (record {
       apart = λ apart. call_cuts (expected_behind (came_to y x).took) x.policy x.end y.given call a apart before.cut;
       none = λ delivery is. before.cut;
-      comes = λ delivery is s among. cut_arrivals (expected_behind (came_to y x).took) x.end delivery.now s.number s.frames (came_to x y) (λ a i. named_expected x y c.takes s among a i) before.cut;
+      comes = λ delivery is s among here. cut_arrivals (expected_behind (came_to y x).took) x.end delivery.now s.number s.frames (frames_at here s.frames) (came_to x y) (λ a i. acks_at (λ b. b.largest ≤ expected_behind (came_to y x).took) here s.frames (λ b j. named_expected x y c.takes s among b j) a i) before.cut;
     });
   };
   reader = λ x y call a c before back. record {

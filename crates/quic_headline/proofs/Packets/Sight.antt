@@ -10,30 +10,38 @@ use Rattle.quic_machine.specs.declared.run.Answer.{Answer}
 use Rattle.quic_machine.specs.declared.run.Answer.TheVariants as answers
 use Rattle.quic_machine.specs.declared.run.Delivery.{Delivery}
 use Rattle.quic_machine.specs.Policy.{Policy}
-use Rattle.quic_spaces.specs.Numbers.{cut_against}
+use Rattle.quic_spaces.specs.Numbers.{cut_against, expected}
 use Rattle.quic_machine.specs.Closing.{ticked}
-use Rattle.quic_machine.specs.End.{End, with_closing, closed_by}
+use Rattle.quic_machine.specs.End.{End, side_of, with_closing, closed_by, with_window}
+use Rattle.quic_machine.specs.Migration.{is_client}
 use Rattle.quic_machine.specs.Receive.{Outcome}
 use Rattle.quic_machine.specs.Poll.{Polled, datagram_of, polled, closes, draft_as}
 use Rattle.quic_machine.specs.Poll as poll
 use Rattle.quic_machine.specs.Machine.{IsAnswer, after_call, gives, fails, gave}
 use Rattle.quic_machine.specs.CallCases.{is_delivery, is_poll, is_timeout}
 use Rattle.quic_machine.specs.PollCases.{given_as, gives_as, by_poll, at_poll}
-use Rattle.quic_headline.specs.Runs.{Told, Intake, acknowledged, and_told}
-use Rattle.quic_headline.specs.Observer.{Sent, terms_of, no_flight, Watch, first_watch, clock_behind, watch_told, watch_given, watch_moment, next_number}
+use Rattle.std.specs.Prelude.{not}
+use Rattle.quic_wire_core.specs.declared.stream_id.Side.{Side}
+use Rattle.quic_wire_core.specs.declared.stream_id.Side.TheVariants.{Client, Server}
+use Rattle.quic_headline.specs.Runs.{Told, Intake, acknowledged, expected_behind, and_told}
+use Rattle.quic_headline.specs.Observer.{Sent, terms_of, no_flight, Watch, first_watch, clock_behind, watch_told, watch_given, watch_moment, next_number, serves}
 use Rattle.quic_headline.proofs.Packets.Invariant.{InStep, IsSent, Gives}
 use Rattle.quic_headline.proofs.Packets.Closes.{by_closes}
 use Rattle.quic_headline.proofs.Packets.Owing.{Owes}
 use Rattle.quic_headline.proofs.Packets.Intakes.{folded_more}
-use Rattle.quic_headline.proofs.Packets.Delivered.{Arrivals}
-use Rattle.quic_headline.proofs.Packets.Watching.{IsWatched, watched_intake, came_with, timed_with, untimely, none_comes, told_timed, told_quiet, told_left, told_own, with_delivery, nothing_delivered, arrivals_watched, poll_watched, timeout_watched, no_moment, quiet_watched, open_named}
+use Rattle.quic_headline.proofs.Packets.Delivered.{ArrivalsFrom}
+use Rattle.quic_headline.proofs.Packets.Watching.{IsWatched, watched_intake, came_with, timed_with, untimely, none_comes, told_timed, told_quiet, told_left, told_own, poll_watched, timeout_watched, no_moment, quiet_watched, open_named}
+use Rattle.quic_headline.proofs.Packets.Routed.{delivered_to, nothing_to, arrivals_watched}
+use Rattle.quic_headline.proofs.Packets.Knowing.{expects_in}
 use Rattle.quic_headline.proofs.Packets.Flying.{Waits, held}
-use Rattle.quic_headline.proofs.Timers.LossTimers.{LossStands, call_stands, stands_shown}
+use Rattle.quic_headline.proofs.Alone.Sides.{side_call}
+use Rattle.quic_headline.proofs.Timers.LossTimers.{LossStands, call_stands, stands_shown, stands_paced}
 use Rattle.quic_headline.proofs.Places.Steps.{gives_count, only_polls_give, poll_answer}
 use Rattle.quic_headline.proofs.Places.Parties.{sent_by, sent_if, sents_by, told_of, Party, called, came_to, lens, watch_of, AreJoined, Beginning, new_as, begun_as}
 use Rattle.quic_headline.proofs.Places.Groups.{Group}
-use Rattle.quic_headline.proofs.Places.Coming.{Meets, came_more, by_coming}
+use Rattle.quic_headline.proofs.Places.Coming.{Meets, came_more, by_coming_from}
 use Rattle.quic_headline.proofs.Packets.Group.{PacketsHold, meets}
+use Rattle.quic_machine.specs.Validation.{with_blocked}
 
 -- ---- an end and its observer
 
@@ -47,10 +55,17 @@ pub record Sight (x y : Party) : Type 0 where
   pub watched : IsWatched x.terms (watch_of x y) x.end
   -- what it tracks, and its timer of losses
   pub stands : LossStands x.end
+  -- it is the client or the server still
+  pub side : side_of x.end ≡ x.side
+
+-- a server is no client
+as_server : (side : Side) → not (is_client side) ≡ serves side
+as_server Client = refl
+as_server Server = refl
 
 -- before the first call
 pub sight_first : (x y : Beginning) → Sight (begun_as x y) (begun_as y x)
-sight_first x y = record { left = λ rest whole. sym whole; own = refl; watched = record { path = refl; flight = λ opened. first }; stands = λ opened. record { stands = record { lies = omega arith; asked = λ p i asks. absurd i; late = λ there. cc }; set = refl } }
+sight_first x y = record { left = λ rest whole. sym whole; own = refl; watched = record { path = refl; address = refl; flight = λ opened. first }; side = refl; stands = λ opened. record { stands = record { lies = omega arith; asked = λ p i asks. absurd i; late = λ there. cc }; set = refl } }
   where
     e : End
     e = new_as x y
@@ -95,7 +110,7 @@ module _ (x y : Party) (joined : AreJoined x y) (meets : Meets y x) (gives_befor
 
   -- what came to the end, as the observer has it
   seen_intake : seen.intake ≡ came_to x y
-  seen_intake = watched_intake (lens x y) x.told (first_watch x.final x.began x.initial_rtt x.initial_delay)
+  seen_intake = watched_intake (lens x y) x.told (first_watch x.final x.began x.made.path.remote x.initial_rtt x.initial_delay)
 
   -- what it knows behind the call
   abbrev pub after_told : Call → Answer → Watch
@@ -115,34 +130,41 @@ module _ (x y : Party) (joined : AreJoined x y) (meets : Meets y x) (gives_befor
       none_sent (calls.Poll now) silent = cc
       none_sent call silent = refl
 
+  -- x serves where its observer says so
+  serves_as : not (is_client (side_of x.end)) ≡ serves x.side
+  serves_as = ap (λ (side : Side). not (is_client side)) sight.side ∙ as_server x.side
+
   -- a delivery
   delivery_seen : (delivery : Delivery) (a : Answer) → IsAnswer x.policy x.end y.given (calls.Deliver delivery) a → fails a ≡ false → IsWatched x.terms (after_told (calls.Deliver delivery) a) (after_call x.policy x.end y.given (calls.Deliver delivery) a)
   delivery_seen delivery a is served =
-      let state : State = x.end.closing.state in
       let call : Call = calls.Deliver delivery in
       let after : End = after_call x.policy x.end y.given call a in
-      let came : IsWatched x.terms (with_delivery x.terms seen state delivery (came_to (called x y.given call a) y)) after = by_coming x y a joined served meets (λ (e : End) (i : Intake). IsWatched x.terms (with_delivery x.terms seen state delivery i) e) call is (record {
+      let came : Watches after (came_to (called x y.given call a) y) = by_coming_from x y a joined served meets (λ (b : Answer) (e : End) (i : Intake). Watches e i) call is (record {
         apart = λ apart. cc;
-        none = λ other same. there other same;
+        none = λ other same. subst (λ (i : Intake). Watches x.end i) seen_intake (subst (λ (w : Watch). IsWatched x.terms w x.end) (sym (nothing_to x.terms (serves x.side) seen state delivery)) sight.watched);
         comes = λ other same s among. comes other same s;
       }) in
       let intake : came_to (called x y.given call a) y ≡ and_told x.policy y.final (told_of call a state) seen.intake =
       came_more x y call a ∙ ap (λ (i : Intake). and_told x.policy y.final (told_of call a state) i) (sym seen_intake) in
       subst (λ (w : Watch). IsWatched x.terms w after) (sym (ap (λ (b : Bool). watch_given b (lens x y) (timed_with (lens x y) (told_of call a state) seen)) (only_polls_give x.policy x.end y.given call a refl is)
       ∙ ap (λ (b : Bool). watch_moment b x.terms (came_with (lens x y) (told_of call a state) seen)) (untimely state call refl)))
-      (subst (λ (i : Intake). IsWatched x.terms (with_delivery x.terms seen state delivery i) after) intake came)
+      (subst (λ (i : Intake). Watches after i) intake came)
     where
-      there : (other : Delivery) → calls.Deliver delivery ≡ calls.Deliver other → IsWatched x.terms (with_delivery x.terms seen x.end.closing.state delivery (came_to x y)) x.end
-      there other same =
-          subst (λ (i : Intake). IsWatched x.terms (with_delivery x.terms seen x.end.closing.state delivery i) x.end) seen_intake
-          (subst (λ (w : Watch). IsWatched x.terms w x.end) (sym (nothing_delivered x.terms seen x.end.closing.state delivery)) sight.watched)
+      state : State
+      state = x.end.closing.state
 
-      comes : (other : Delivery) → calls.Deliver delivery ≡ calls.Deliver other → (s : Sent) → Arrivals x.end other.now s.number s.frames (came_to x y) (λ (o : Outcome) (i : Intake). IsWatched x.terms (with_delivery x.terms seen x.end.closing.state delivery i) o.end)
+      Watches : End → Intake → Type 0
+      Watches e i = IsWatched x.terms (delivered_to x.terms (serves x.side) seen state delivery i) e
+
+      expects : expected x.end.numbers ≡ expected_behind seen.intake.took
+      expects = expects_in state x.end.numbers (came_to x y) meets.knows ∙ ap (λ (i : Intake). expected_behind i.took) (sym seen_intake)
+
+      comes : (other : Delivery) → calls.Deliver delivery ≡ calls.Deliver other → (s : Sent) → ArrivalsFrom other.remote other.ecn x.end other.now s.number s.frames (came_to x y) (λ (o : Outcome) (i : Intake). Watches o.end i)
       comes other same s =
           let is : delivery ≡ other = cc in
-          subst (λ (d : Delivery). Arrivals x.end d.now s.number s.frames (came_to x y) (λ (o : Outcome) (i : Intake). IsWatched x.terms (with_delivery x.terms seen x.end.closing.state delivery i) o.end)) is
-          (subst (λ (j : Intake). Arrivals x.end delivery.now s.number s.frames j (λ (o : Outcome) (i : Intake). IsWatched x.terms (with_delivery x.terms seen x.end.closing.state delivery i) o.end)) seen_intake
-          (arrivals_watched x.terms seen x.end delivery s.number s.frames sight.watched))
+          subst (λ (d : Delivery). ArrivalsFrom d.remote d.ecn x.end d.now s.number s.frames (came_to x y) (λ (o : Outcome) (i : Intake). Watches o.end i)) is
+          (subst (λ (j : Intake). ArrivalsFrom delivery.remote delivery.ecn x.end delivery.now s.number s.frames j (λ (o : Outcome) (i : Intake). Watches o.end i)) seen_intake
+          (arrivals_watched x.terms (serves x.side) seen x.end delivery s.number s.frames serves_as expects sight.watched))
 
   -- one that is neither a delivery nor a poll nor a timeout leaves what is watched
   quiet_seen : (call : Call) (a : Answer) → is_delivery call ≡ false → is_poll call ≡ false → is_timeout call ≡ false → IsAnswer x.policy x.end y.given call a → KnowsOn call a
@@ -205,7 +227,7 @@ module _ (x y : Party) (joined : AreJoined x y) (meets : Meets y x) (gives_befor
       → (rest : List (List ℕ)) × ((x.given ++ gives x.policy x.end call a) ++ rest ≡ x.final) → Sight (called x y.given call a) y
   sight_step call a is served behind more =
       let t : Told = told_of call a x.end.closing.state in
-      let first : Watch = first_watch x.final x.began x.initial_rtt x.initial_delay in
+      let first : Watch = first_watch x.final x.began x.made.path.remote x.initial_rtt x.initial_delay in
       let after : watch_of (called x y.given call a) y ≡ after_told call a = folded_more (watch_told (lens x y)) x.told t first in
       let before : (rest : List (List ℕ)) → (x.given ++ gives x.policy x.end call a) ++ rest ≡ x.final → seen.left ≡ gives x.policy x.end call a ++ rest =
       λ rest whole. sight.left (gives x.policy x.end call a ++ rest) (sym (append_assoc x.given (gives x.policy x.end call a) rest) ∙ whole) in
@@ -215,6 +237,7 @@ module _ (x y : Party) (joined : AreJoined x y) (meets : Meets y x) (gives_befor
         own = ap (λ (w : Watch). w.own) after ∙ knows.own ∙ ap (λ (ss : List Sent). ss ++ sents_by x.policy x.end call a) sight.own;
         watched = subst (λ (w : Watch). IsWatched x.terms w (after_call x.policy x.end y.given call a)) (sym after) knows.watched;
         stands = call_stands x.policy x.end y.given call a sight.stands;
+        side = side_call x.policy x.end y.given call a is ∙ sight.side;
       }
 
 -- ---- the group
@@ -224,6 +247,6 @@ pub sight_group : Group PacketsHold Sight
 sight_group = record {
   first = λ x y m there here. sight_first x y;
   writer = λ x y call a c sight back. sight_step x y c.joined (meets y x c.takes) c.gives.gives c.gives.owes sight call a c.answer c.served c.gives_behind.gives.each c.joined_behind.x_more;
-  reader = λ x y call a c sight back. record { left = back.left; own = back.own; watched = back.watched; stands = back.stands };
-  shows = λ x y here there b back s t. record { left = s.left; own = s.own; watched = record { path = s.watched.path; flight = s.watched.flight }; stands = stands_shown here.window here.blocked x.end s.stands };
+  reader = λ x y call a c sight back. record { left = back.left; own = back.own; watched = back.watched; stands = back.stands; side = back.side };
+  shows = λ x y here there b back s t. record { left = s.left; own = s.own; watched = record { path = s.watched.path; address = s.watched.address; flight = s.watched.flight }; stands = stands_paced here.pacing (with_blocked (with_window x.end here.window) here.blocked) (stands_shown here.window here.blocked x.end s.stands); side = s.side };
 }

@@ -35,6 +35,9 @@ use Rattle.quic_headline.proofs.Packets.Searches.{ready_searched}
 use Rattle.quic_machine.specs.Sizes.{is_resized, others_of, with_one_lost, with_all_lost, with_lost, asked_behind, after_lost, search_acked, search_lost}
 use Rattle.quic_headline.proofs.Packets.Apart.{by_waits, by_next_id}
 use Rattle.quic_headline.proofs.Packets.Closes.{by_closes}
+use Rattle.quic_headline.proofs.Packets.Moved.{by_migrated}
+use Rattle.quic_machine.specs.Migration.{migrated}
+use Rattle.quic_packet.specs.Datagram.{Opening}
 
 -- ---- packets that are lost
 
@@ -132,9 +135,9 @@ module _ (Q : Sizing → Type 0) (c : Searching Q) where
   taken_size (max_streams f) e apart i = i
   taken_size f e apart i = apart tt
 
-  -- a datagram comes, where frames apart from streams leave it so
-  pub received_size : ((f : FrameValue) (x : End) → IsApart f → Q (sizing x) → Q (sizing (take_frame f x).end)) → (p : Policy) (e : End) (arrival : Arrival) (d : List ℕ) → Q (sizing e) → Q (sizing (received p e arrival d).end)
-  received_size apart p e arrival d i = by_received (λ (x : End). Q (sizing x)) (record {
+  -- a datagram comes, where frames apart from streams leave it so, and another path does
+  pub received_size : ((f : FrameValue) (x : End) → IsApart f → Q (sizing x) → Q (sizing (take_frame f x).end)) → ((p : Policy) (o : Opening) (remote : ℕ) (x : End) → Q (sizing x) → Q (sizing (migrated p o remote x))) → (p : Policy) (e : End) (arrival : Arrival) (d : List ℕ) → Q (sizing e) → Q (sizing (received p e arrival d).end)
+  received_size apart moves p e arrival d i = by_received (λ (x : End). Q (sizing x)) (record {
     notes = λ n x j. j;
     begins = λ time n x j. j;
     frame = λ f x j. taken_size f x (λ is. apart f x is j) j;
@@ -144,6 +147,7 @@ module _ (Q : Sizing → Type 0) (c : Searching Q) where
     asks_close = λ x j. j;
     exhausts = λ now x j. j;
     draws = λ words x j. j;
+    moves = moves;
   }) p e arrival d i
 
   -- timers expire
@@ -185,7 +189,7 @@ module _ (least most : ℕ) where
       keep : Plain p e call HasSize
       keep (cases.times now expiry) may = expired_size (λ s. IsSized least most s.discovery) searching p.words e now expiry h
       keep (cases.polls now) may = polled_search (IsSized least most) (sized_polled least most) p e now h
-      keep (cases.hears arrival d) may = received_size (λ s. IsSized least most s.discovery) searching (λ f x is i. apart_leaves HasSize f x is (λ c. i) (λ c longest. i)) p e arrival d h
+      keep (cases.hears arrival d) may = received_size (λ s. IsSized least most s.discovery) searching (λ f x is i. apart_leaves HasSize f x is (λ c. i) (λ c longest. i)) (λ q o remote x i. by_migrated HasSize q o remote x (λ c. i) (λ c longest. i)) p e arrival d h
       keep (cases.waits now b) may = by_waits HasSize b (with_closing e (ticked e.closing now)) h h
       keep (cases.changes_id b) may = by_next_id HasSize e b h (λ c. h) (λ c longest. h)
       keep c may = h

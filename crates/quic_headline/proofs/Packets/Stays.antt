@@ -13,7 +13,6 @@ use Rattle.quic_machine.specs.declared.run.Call.{Call}
 use Rattle.quic_machine.specs.declared.run.Call.TheVariants as calls
 use Rattle.quic_machine.specs.declared.run.Answer.{Answer}
 use Rattle.quic_spaces.specs.Numbers.{Numbers, cut_against, greatest_of}
-use Rattle.quic_machine.specs.Parts.{Path}
 use Rattle.quic_machine.specs.Policy.{Policy}
 use Rattle.quic_parameters.specs.Parameters.{ParameterValues}
 use Rattle.quic_config.specs.Transport.{TransportSettings}
@@ -37,6 +36,7 @@ use Rattle.quic_headline.proofs.Packets.Invariant.{IsBehind, Acks}
 use Rattle.quic_headline.proofs.Packets.Probes.{may_leave}
 use Rattle.quic_headline.proofs.Packets.Closes.{by_closes}
 use Rattle.quic_headline.proofs.Packets.Apart.{apart_acks, by_next_id, by_waits}
+use Rattle.quic_headline.proofs.Packets.Moved.{by_migrated}
 
 -- ---- an ACK frame
 
@@ -221,10 +221,9 @@ named_frames fs e none =
 
 -- ---- any call but a poll
 
--- The place of the path, how an end sends, what its peer told and which numbers are left out are as
--- they were; and so is the next number to give, which is cut against no greater one.
+-- How an end sends, what its peer told and which numbers are left out are as they were; and so is the
+-- next number to give, which is cut against no greater one.
 pub record AreStaying (e f : Kept) : Type 0 where
-  pub generation : f.generation ≡ e.generation
   pub transport : f.transport ≡ e.transport
   pub peer : f.peer ≡ e.peer
   pub filter : f.filter ≡ e.filter
@@ -236,12 +235,11 @@ Stays e f = AreStaying (kept e) (kept f)
 
 -- nothing changed
 pub stays_same : (e : End) → Stays e e
-stays_same e = record { generation = refl; transport = refl; peer = refl; filter = refl; next = refl; behind = λ b. b }
+stays_same e = record { transport = refl; peer = refl; filter = refl; next = refl; behind = λ b. b }
 
 -- the same, whatever clock, tracked packets, streams and timers there are
-stays_like : (e x f : End) → f.path.generation ≡ x.path.generation → f.transport ≡ x.transport → f.peer_params ≡ x.peer_params → f.filter ≡ x.filter → f.numbers ≡ x.numbers → Stays e x → Stays e f
-stays_like e x f generation transport peer filter numbers s = record {
-  generation = generation ∙ s.generation;
+stays_like : (e x f : End) → f.transport ≡ x.transport → f.peer_params ≡ x.peer_params → f.filter ≡ x.filter → f.numbers ≡ x.numbers → Stays e x → Stays e f
+stays_like e x f transport peer filter numbers s = record {
   transport = transport ∙ s.transport;
   peer = peer ∙ s.peer;
   filter = filter ∙ s.filter;
@@ -260,9 +258,8 @@ stays_ack : (b : Bool) (a : AckValue) (e x : End) → names_ungiven a x ≡ b �
 stays_ack true a e x is s = s
 stays_ack false a e x is s =
     let t = settles_ack (is_above x.numbers.largest_acked a.largest) a (named a x) in
-    stays_like e (named a x) (after_acked (is_above x.numbers.largest_acked a.largest) a (named a x)) t.generation t.transport t.peer t.filter t.numbers
+    stays_like e (named a x) (after_acked (is_above x.numbers.largest_acked a.largest) a (named a x)) t.transport t.peer t.filter t.numbers
     (record {
-      generation = s.generation;
       transport = s.transport;
       peer = s.peer;
       filter = s.filter;
@@ -272,7 +269,7 @@ stays_ack false a e x is s =
 
 -- a frame apart from streams leaves them
 stays_apart : (e : End) (f : FrameValue) (x : End) → IsApart f → Stays e x → Stays e (take_frame f x).end
-stays_apart e f x apart s = apart_leaves (Stays e) f x apart (λ c. record { generation = s.generation; transport = s.transport; peer = s.peer; filter = s.filter; next = s.next; behind = s.behind }) (λ c most. record { generation = s.generation; transport = s.transport; peer = s.peer; filter = s.filter; next = s.next; behind = s.behind })
+stays_apart e f x apart s = apart_leaves (Stays e) f x apart (λ c. record { transport = s.transport; peer = s.peer; filter = s.filter; next = s.next; behind = s.behind }) (λ c most. record { transport = s.transport; peer = s.peer; filter = s.filter; next = s.next; behind = s.behind })
 
 -- any frame, behind what stayed
 stays_frame : (e : End) (f : FrameValue) (x : End) → Stays e x → Stays e (take_frame f x).end
@@ -288,15 +285,16 @@ stays_frame e f x s = s
 -- whatever comes leaves them
 pub stays_received : (p : Policy) (e : End) (arrival : Arrival) (d : List ℕ) → Stays e (received p e arrival d).end
 stays_received p e arrival d = by_received (Stays e) (record {
-  notes = λ n x s. record { generation = s.generation; transport = s.transport; peer = s.peer; filter = s.filter; next = s.next; behind = s.behind };
-  begins = λ now n x s. record { generation = s.generation; transport = s.transport; peer = s.peer; filter = s.filter; next = s.next; behind = s.behind };
+  notes = λ n x s. record { transport = s.transport; peer = s.peer; filter = s.filter; next = s.next; behind = s.behind };
+  begins = λ now n x s. record { transport = s.transport; peer = s.peer; filter = s.filter; next = s.next; behind = s.behind };
   frame = stays_frame e;
-  takes = λ n asks urged mark x s. record { generation = s.generation; transport = s.transport; peer = s.peer; filter = s.filter; next = s.next; behind = s.behind };
-  closes = λ reason x s. record { generation = s.generation; transport = s.transport; peer = s.peer; filter = s.filter; next = s.next; behind = s.behind };
-  drains = λ close x s. record { generation = s.generation; transport = s.transport; peer = s.peer; filter = s.filter; next = s.next; behind = s.behind };
-  asks_close = λ x s. record { generation = s.generation; transport = s.transport; peer = s.peer; filter = s.filter; next = s.next; behind = s.behind };
-  exhausts = λ now x s. record { generation = s.generation; transport = s.transport; peer = s.peer; filter = s.filter; next = s.next; behind = s.behind };
-  draws = λ words x s. record { generation = s.generation; transport = s.transport; peer = s.peer; filter = s.filter; next = s.next; behind = s.behind };
+  takes = λ n asks urged mark x s. record { transport = s.transport; peer = s.peer; filter = s.filter; next = s.next; behind = s.behind };
+  closes = λ reason x s. record { transport = s.transport; peer = s.peer; filter = s.filter; next = s.next; behind = s.behind };
+  drains = λ close x s. record { transport = s.transport; peer = s.peer; filter = s.filter; next = s.next; behind = s.behind };
+  asks_close = λ x s. record { transport = s.transport; peer = s.peer; filter = s.filter; next = s.next; behind = s.behind };
+  exhausts = λ now x s. record { transport = s.transport; peer = s.peer; filter = s.filter; next = s.next; behind = s.behind };
+  draws = λ words x s. record { transport = s.transport; peer = s.peer; filter = s.filter; next = s.next; behind = s.behind };
+  moves = λ q o remote x s. by_migrated (Stays e) q o remote x (λ c. record { transport = s.transport; peer = s.peer; filter = s.filter; next = s.next; behind = s.behind }) (λ c most. record { transport = s.transport; peer = s.peer; filter = s.filter; next = s.next; behind = s.behind });
 }) p e arrival d (stays_same e)
 
 -- losses that are detected at a moment leave them
@@ -304,28 +302,26 @@ stays_losses : (e : End) (now : ℕ) (acks : Pending) (timers : Timers) (waits :
 stays_losses e now acks timers waits asked =
     let begins : End = with_closing e (ticked e.closing now) in
     let t = settles_losses begins in
-    stays_like e begins (at_losses e now acks timers waits asked) t.generation t.transport t.peer t.filter t.numbers (record { generation = refl; transport = refl; peer = refl; filter = refl; next = refl; behind = λ b. b })
+    stays_like e begins (at_losses e now acks timers waits asked) t.transport t.peer t.filter t.numbers (record { transport = refl; peer = refl; filter = refl; next = refl; behind = λ b. b })
 
 -- only a poll gives numbers
 pub stays_call : (p : Policy) (e : End) (theirs : List (List ℕ)) (call : Call) (a : Answer) → is_poll call ≡ false → Stays e (after_call p e theirs call a)
 stays_call p e theirs call a other = by_plain_call p e theirs (Stays e) call a keep
   where
     keep : Plain p e call (Stays e)
-    keep (cases.times now expiry) may = by_expired p.words e now (Stays e) (λ pending tracking timers waits asked runs packets. stays_like e e (at_timeout e now pending tracking timers waits asked) refl refl refl refl refl (stays_same e)) (λ pending timers waits asked runs. stays_losses e now pending timers waits asked) (λ x s. record { generation = s.generation; transport = s.transport; peer = s.peer; filter = s.filter; next = s.next; behind = s.behind }) expiry
+    keep (cases.times now expiry) may = by_expired p.words e now (Stays e) (λ pending tracking timers waits asked runs packets. stays_like e e (at_timeout e now pending tracking timers waits asked) refl refl refl refl (stays_same e)) (λ pending timers waits asked runs. stays_losses e now pending timers waits asked) (λ x s. record { transport = s.transport; peer = s.peer; filter = s.filter; next = s.next; behind = s.behind }) expiry
     keep (cases.polls now) is = cc
     keep (cases.hears arrival d) may = stays_received p e arrival d
-    keep (cases.tells told) may = stays_like e e (at_event e told) refl refl refl refl refl (stays_same e)
-    keep (cases.closes reason f now) may = record { generation = refl; transport = refl; peer = refl; filter = refl; next = refl; behind = λ b. b }
-    keep (cases.waits now b) may = by_waits (Stays e) b (with_closing e (ticked e.closing now)) (record { generation = refl; transport = refl; peer = refl; filter = refl; next = refl; behind = λ b. b }) (record { generation = refl; transport = refl; peer = refl; filter = refl; next = refl; behind = λ b. b })
-    keep (cases.changes_id b) may = by_next_id (Stays e) e b (stays_same e) (λ c. record { generation = refl; transport = refl; peer = refl; filter = refl; next = refl; behind = λ b. b }) (λ c most. record { generation = refl; transport = refl; peer = refl; filter = refl; next = refl; behind = λ b. b })
+    keep (cases.tells told) may = stays_like e e (at_event e told) refl refl refl refl (stays_same e)
+    keep (cases.closes reason f now) may = record { transport = refl; peer = refl; filter = refl; next = refl; behind = λ b. b }
+    keep (cases.waits now b) may = by_waits (Stays e) b (with_closing e (ticked e.closing now)) (record { transport = refl; peer = refl; filter = refl; next = refl; behind = λ b. b }) (record { transport = refl; peer = refl; filter = refl; next = refl; behind = λ b. b })
+    keep (cases.changes_id b) may = by_next_id (Stays e) e b (stays_same e) (λ c. record { transport = refl; peer = refl; filter = refl; next = refl; behind = λ b. b }) (λ c most. record { transport = refl; peer = refl; filter = refl; next = refl; behind = λ b. b })
     keep c may = stays_same e
 
 -- ---- any call
 
--- An end whose place of the path is that of another, which sends as it did and to a peer that told
--- the same.
+-- An end that sends as another did, and to a peer that told the same.
 pub record ArePlaced (e f : Kept) : Type 0 where
-  pub generation : f.generation ≡ e.generation
   pub transport : f.transport ≡ e.transport
   pub peer : f.peer ≡ e.peer
 
@@ -335,14 +331,14 @@ IsPlaced e f = ArePlaced (kept e) (kept f)
 -- no call changes them
 pub placed_call : (p : Policy) (e : End) (theirs : List (List ℕ)) (call : Call) (a : Answer) → IsPlaced e (after_call p e theirs call a)
 placed_call p e theirs (calls.Poll now) a = by_poll p e now (λ (q : Polled). IsPlaced e q.end) (record {
-  silent = record { generation = refl; transport = refl; peer = refl };
-  failed = record { generation = refl; transport = refl; peer = refl };
-  nothing = λ c. record { generation = refl; transport = refl; peer = refl };
-  repeats = λ is. by_closes p (with_closing e (ticked e.closing now)) (λ (q : Polled). IsPlaced e q.end) (record { generation = refl; transport = refl; peer = refl }) (λ f goes. record { generation = refl; transport = refl; peer = refl });
-  closes = λ reason c bound. by_closes p (closed_by reason (at_poll e now c)) (λ (q : Polled). IsPlaced e q.end) (record { generation = refl; transport = refl; peer = refl }) (λ f goes. record { generation = refl; transport = refl; peer = refl });
+  silent = record { transport = refl; peer = refl };
+  failed = record { transport = refl; peer = refl };
+  nothing = λ c. record { transport = refl; peer = refl };
+  repeats = λ is. by_closes p (with_closing e (ticked e.closing now)) (λ (q : Polled). IsPlaced e q.end) (record { transport = refl; peer = refl }) (λ f goes. record { transport = refl; peer = refl });
+  closes = λ reason c bound. by_closes p (closed_by reason (at_poll e now c)) (λ (q : Polled). IsPlaced e q.end) (record { transport = refl; peer = refl }) (λ f goes. record { transport = refl; peer = refl });
   gives = λ leaving c left is may ready some.
       let x : End = at_poll e now c in
       let c = composes leaving x (may_leave e now leaving x ready) in
-      record { generation = ap (λ (p : Path). p.generation) c.path; transport = c.transport; peer = c.peer };
+      record { transport = c.transport; peer = c.peer };
 })
-placed_call p e theirs call a = let s = stays_call p e theirs call a refl in record { generation = s.generation; transport = s.transport; peer = s.peer }
+placed_call p e theirs call a = let s = stays_call p e theirs call a refl in record { transport = s.transport; peer = s.peer }

@@ -24,7 +24,7 @@ use Rattle.quic_headline.proofs.Packets.Numbered.{Lies, one_key}
 -- be sent again, which a probe took.
 pub record IsWaited (s : Sent) (p : ℕ × TrackedPacket) : Type 0 where
   pub number : p.0 ≡ s.number
-  pub generation : p.1.generation ≡ 0
+  pub generation : p.1.generation ≡ s.generation
   pub time : p.1.time_sent ≡ s.moment
   pub size : p.1.size ≡ (if asks_of s then s.size else 0)
   pub asks : p.1.asks ≡ asks_of s
@@ -197,10 +197,10 @@ waited_same : (s : Sent) (p : ℕ × TrackedPacket) → IsWaited s p → but_for
 waited_same s p w =
     ap (λ (n : ℕ). (n, record (without_record p.1) { generation = p.1.generation })) w.number
     ∙ ap (λ (g : ℕ). (s.number, record (without_record p.1) { generation = g })) w.generation
-    ∙ ap (λ (n : ℕ). (s.number, record (without_record p.1) { generation = 0; time_sent = n })) w.time
-    ∙ ap (λ (n : ℕ). (s.number, record (without_record p.1) { generation = 0; time_sent = s.moment; size = n })) w.size
-    ∙ ap (λ (b : Bool). (s.number, record (without_record p.1) { generation = 0; time_sent = s.moment; size = if asks_of s then s.size else 0; asks = b })) w.asks
-    ∙ ap (λ (c : Carried). (s.number, record { generation = 0; time_sent = s.moment; size = if asks_of s then s.size else 0; asks = asks_of s; carried = c })) (same w.carried ∙ ap (λ (c : Carried). record c { retransmits = nothing_waits }) (sym (carried_same s.frames)))
+    ∙ ap (λ (n : ℕ). (s.number, record (without_record p.1) { generation = s.generation; time_sent = n })) w.time
+    ∙ ap (λ (n : ℕ). (s.number, record (without_record p.1) { generation = s.generation; time_sent = s.moment; size = n })) w.size
+    ∙ ap (λ (b : Bool). (s.number, record (without_record p.1) { generation = s.generation; time_sent = s.moment; size = if asks_of s then s.size else 0; asks = b })) w.asks
+    ∙ ap (λ (c : Carried). (s.number, record { generation = s.generation; time_sent = s.moment; size = if asks_of s then s.size else 0; asks = asks_of s; carried = c })) (same w.carried ∙ ap (λ (c : Carried). record c { retransmits = nothing_waits }) (sym (carried_same s.frames)))
   where
     same : IsCarriedFrom p.1.carried s.frames → record p.1.carried { retransmits = nothing_waits } ≡ record (carried_in s.frames) { retransmits = nothing_waits }
     same (inl is) = ap (λ (c : Carried). record c { retransmits = nothing_waits }) is

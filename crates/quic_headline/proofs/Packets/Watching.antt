@@ -1,11 +1,10 @@
 -- What an observer of a run's lists counts as in flight is what an open end waits for: each call
 -- keeps that.
-use Rattle.std.proofs.Common.{◌≡◌, ℕ, ◌+◌, ◌-◌, ◌<◌, ◌≤◌, ◌^◌, max, min, Bool, true, false, ◌||◌, List, [], ◌∷◌, ◌++◌, length, take, map, replicate, Option, Some, None, Ok, refl, sym, ap, ◌∙◌, subst, arith}
+use Rattle.std.proofs.Common.{◌≡◌, ℕ, ◌+◌, ◌-◌, ◌<◌, ◌≤◌, ◌^◌, max, min, Bool, true, false, ◌||◌, List, [], ◌∷◌, ◌++◌, length, take, replicate, Option, Some, None, Ok, refl, sym, ap, ◌∙◌, subst, arith}
 use Rattle.std.specs.Prelude.{if◌then◌else◌}
 use Rattle.std.specs.List.{list_any}
 use Rattle.std.proofs.lemmas.Bool.{lt-ltb, le-ltb}
 use Rattle.std.proofs.lemmas.List.{append-nil}
-use Rattle.quic_wire_core.specs.declared.shared.EcnCodepoint.{EcnCodepoint}
 use Rattle.quic_wire.specs.Value.{FrameValue, connection_close, application_close, padding}
 use Rattle.quic_packet.specs.Datagram.{opened_packet}
 use Rattle.quic_packet.proofs.Opening.{sent_length}
@@ -21,29 +20,27 @@ use Rattle.quic_machine.specs.declared.run.Delivery.{Delivery}
 use Rattle.quic_machine.specs.declared.run.Answer.{Answer}
 use Rattle.quic_machine.specs.declared.run.Answer.TheVariants as answers
 use Rattle.quic_machine.specs.Policy.{Policy, CanOpen}
-use Rattle.quic_machine.specs.Closing.{Closing, ticked, close_asked}
+use Rattle.quic_machine.specs.Closing.{Closing, ticked}
 use Rattle.quic_machine.specs.Opens.{own_id_length}
 use Rattle.quic_machine.specs.Start.{IsLawful}
-use Rattle.quic_spaces.specs.Numbers.{Numbers, cut_against, number_opened, number_taken}
+use Rattle.quic_spaces.specs.Numbers.{Numbers, cut_against}
 use Rattle.quic_machine.specs.Parts.{Path, Validation, Signals}
 use Rattle.quic_machine.specs.Tracking.{Tracking}
-use Rattle.quic_machine.specs.End.{End, number_of, with_closing, closed_by, drained_by, with_numbers, with_loss_timer, with_path_timer, challenged}
+use Rattle.quic_machine.specs.End.{End, number_of, with_closing, closed_by, drained_by, with_loss_timer, with_path_timer, challenged}
 use Rattle.quic_machine.specs.Idle.{keep_alive_expired}
 use Rattle.quic_machine.specs.Timeouts.{acks_expired, loss_judged, loss_expired, pacing_expired, timed_out_in, timed_out, Expiry, expiry_at, after_others, unless_idle}
-use Rattle.quic_machine.specs.Receive.{asks_in, after_taken, exhausted}
 use Rattle.quic_machine.specs.Poll.{Polled, Draft, zeros_behind, payload_of, datagram_of, datagram_size, gives_datagram, draft_as, close_to_go, closes_if, closes, after_close, after_given, bounds, goes, rests, sends, polled_if, polled_in, polled, Ready}
 use Rattle.quic_machine.specs.Poll as poll
 use Rattle.quic_machine.specs.Machine.{after_call, fails, gave}
 use Rattle.quic_machine.specs.CallCases.{Plain, is_delivery, is_poll, is_timeout, by_plain_call}
 use Rattle.quic_machine.specs.CallCases as cases
 use Rattle.quic_machine.specs.PollCases.{ready_at, ready_leaves, draft_at, frames_padded, given_as, Composes, composes, bounds_none, poll_left, may_leave_at}
-use Rattle.quic_machine.specs.FrameCases.{begun}
+use Rattle.quic_machine.specs.FrameCases.{Settling, losses_keep}
 use Rattle.quic_headline.specs.Runs.{Told, Packet, Intake, acknowledged, and_handed, and_told, folded}
-use Rattle.quic_headline.specs.Observer.{Sent, Terms, loss_due, is_past, expired_for, after_packets, and_flying, and_sent, and_all_sent, Watch, news, has_opened, moment_of, clock_behind, is_close, moment_for, sent_as, next_number, after_frames, watch_sent, Lens, watch_given, is_timely, watch_moment, watch_came, watch_told}
+use Rattle.quic_headline.specs.Observer.{Sent, Terms, loss_due, is_past, expired_for, after_packets, and_flying, and_sent, and_all_sent, Watch, news, has_opened, moment_of, clock_behind, is_close, moment_for, sent_as, next_number, after_frames, watch_sent, Lens, watch_given, is_timely, watch_moment, watch_came, watch_told, Flight, Route, route_behind, watch_moved}
 use Rattle.quic_headline.proofs.Packets.Invariant.{IsSent, KnowsIn, IsBehind}
 use Rattle.quic_headline.proofs.Packets.Intakes.{nothing_handed, none_handed}
-use Rattle.quic_headline.proofs.Packets.Stays.{keeps_frames}
-use Rattle.quic_headline.proofs.Packets.Delivered.{Arrivals, arrived, with_taken}
+use Rattle.quic_headline.proofs.Packets.Delivered.{with_taken}
 use Rattle.quic_headline.proofs.Packets.Probes.{by_going}
 use Rattle.quic_headline.proofs.Packets.Given.{allocated_near, draft_number, number_small}
 use Rattle.quic_headline.proofs.Packets.CloseForms.{close_small}
@@ -51,13 +48,13 @@ use Rattle.quic_headline.proofs.Packets.Owing.{Owes, close_is, error_owes}
 use Rattle.quic_headline.proofs.Packets.References.{cut_before, reference_read, moment_read}
 use Rattle.quic_headline.proofs.Packets.Waited.{AreWaited}
 use Rattle.quic_headline.proofs.Packets.Closeless.{sent_closeless}
-use Rattle.quic_headline.proofs.Packets.Flying.{Held, held, request_in, IsAsked, Waits, Loses, detected_held, timer_is, frames_wait, sent_read, draft_waits, ticked_waits, numbers_wait, ready_waits, expired_waits, expired_flies}
+use Rattle.quic_headline.proofs.Packets.Flying.{Held, held, request_in, IsAsked, Waits, Loses, timer_is, sent_read, draft_waits, ticked_waits, ready_waits, expired_waits, expired_flies}
 use Rattle.quic_headline.proofs.Timers.LossTimers.{OpenStands, LossStands, ready_stands}
 use Rattle.quic_headline.proofs.Places.Parties.{close_if, close_draft, given_in, draft_given, sent_as as draft_sent, sent_by, sent_if, told_of}
 use Rattle.quic_machine.specs.DraftLaws.{IsClose, MayLeave}
 use Rattle.quic_machine.specs.LeaveCases.{Expired, by_expiring, by_busy}
 use Rattle.quic_machine.specs.LeaveCases as expiring
-use Rattle.quic_machine.specs.IdFrames.{drawn}
+use Rattle.quic_machine.specs.Steps as steps
 use Rattle.quic_headline.proofs.Packets.Apart.{AsksOn, next_frequency, by_waits, by_next_id}
 
 -- ---- the observer
@@ -66,7 +63,7 @@ use Rattle.quic_headline.proofs.Packets.Apart.{AsksOn, next_frequency, by_waits,
 abbrev pub came_with : Lens → Told → Watch → Watch
 came_with l t w =
     let after = and_told l.own l.peer_gave t w.intake in
-    watch_came l.terms after (clock_behind w.clock (moment_of t.state (has_opened w.intake after) t.call)) w
+    watch_came l.terms after (clock_behind w.clock (moment_of t.state (has_opened w.intake after) t.call)) (watch_moved l.serves after t.call w)
 
 -- and the moment that the call tells
 abbrev pub timed_with : Lens → Told → Watch → Watch
@@ -117,6 +114,14 @@ one_opened i n frames = lt-ltb (length i.opened) (length (n ∷ i.opened)) (omeg
 pub one_new : (i : Intake) (n : ℕ) (frames : List FrameValue) → news i (with_taken i n frames) ≡ record { number = n; frames = frames } ∷ []
 one_new i n frames = let one : length (record { number = n; frames = frames } ∷ i.took) - length i.took ≡ 1 = omega arith in ap (λ (k : ℕ). take k (record { number = n; frames = frames } ∷ i.took)) one
 
+-- where none was, the peer is where it was
+route_same : (serves : Bool) (before : List Packet) (call : Call) (r : Route) → route_behind serves before [] call r ≡ r
+route_same true before call r = refl
+route_same false before call r = refl
+
+pub moved_none : (serves : Bool) (call : Call) (w : Watch) → watch_moved serves w.intake call w ≡ w
+moved_none serves call w = ap (λ (ps : List Packet). record w { route = route_behind serves w.intake.took ps call w.route }) (none_new w.intake) ∙ ap (λ (r : Route). record w { route = r }) (route_same serves w.intake.took call w.route)
+
 -- where nothing came, only the clock may change
 came_none : (t : Terms) (w : Watch) (state : State) (call : Call) → watch_came t w.intake (clock_behind w.clock (moment_of state (has_opened w.intake w.intake) call)) w ≡ record w { clock = clock_behind w.clock (moment_of state false call) }
 came_none t w state call =
@@ -125,7 +130,10 @@ came_none t w state call =
 
 -- so it is by a call at which nothing came
 pub came_quiet : (l : Lens) (t : Told) (w : Watch) → and_told l.own l.peer_gave t w.intake ≡ w.intake → came_with l t w ≡ record w { clock = clock_behind w.clock (moment_of t.state false t.call) }
-came_quiet l t w same = ap (λ (i : Intake). watch_came l.terms i (clock_behind w.clock (moment_of t.state (has_opened w.intake i) t.call)) w) same ∙ came_none l.terms w t.state t.call
+came_quiet l t w same =
+    ap (λ (i : Intake). watch_came l.terms i (clock_behind w.clock (moment_of t.state (has_opened w.intake i) t.call)) (watch_moved l.serves i t.call w)) same
+    ∙ ap (λ (v : Watch). watch_came l.terms w.intake (clock_behind w.clock (moment_of t.state (has_opened w.intake w.intake) t.call)) v) (moved_none l.serves t.call w)
+    ∙ came_none l.terms w t.state t.call
 
 -- only at a delivery something comes
 pub none_comes : (l : Lens) (t : Told) (i : Intake) → is_delivery t.call ≡ false → and_told l.own l.peer_gave t i ≡ i
@@ -161,15 +169,55 @@ told_own l t w none = ap (λ (b : Bool). (watch_given b l (timed_with l t w)).ow
 
 -- ---- an end that is watched
 
+-- a path leads to this address, and is this one
+abbrev pub IsRoute : Route → Path → Type 0
+IsRoute r p = (p.remote ≡ r.address) × (p.generation ≡ r.generation)
+
 -- an observer knows the clock of an open end, by what it judges losses, and what it waits for; and
--- there is one path, the first
+-- where the end takes its peer to be, and how often that changed
 pub record IsWatched (t : Terms) (w : Watch) (e : End) : Type 0 where
-  pub path : e.path.generation ≡ 0
+  pub path : e.path.generation ≡ w.route.generation
+  pub address : e.path.remote ≡ w.route.address
   pub flight : e.closing.state ≡ states.Open → Waits t w.clock w.flight (held e)
 
 -- of an end that closed, nothing is said but the path
-closed_watched : (t : Terms) (w : Watch) (e : End) → e.path.generation ≡ 0 → (e.closing.state ≡ states.Open → ⊥) → IsWatched t w e
-closed_watched t w e path closed = record { path = path; flight = λ opened. absurd (closed opened) }
+pub closed_watched : (t : Terms) (w : Watch) (e : End) → IsRoute w.route e.path → (e.closing.state ≡ states.Open → ⊥) → IsWatched t w e
+closed_watched t w e route closed = record { path = route.1; address = route.0; flight = λ opened. absurd (closed opened) }
+
+-- of an end whose observer knows it
+pub route_of : (t : Terms) (w : Watch) (e : End) → IsWatched t w e → IsRoute w.route e.path
+route_of t w e i = (i.address, i.path)
+
+-- an end that has what another has of all that its observer knows, but for the path
+pub record Alike (e f : End) : Type 0 where
+  pub clock : f.closing.clock ≡ e.closing.clock
+  pub numbers : f.numbers ≡ e.numbers
+  pub tracking : f.tracking ≡ e.tracking
+  pub transport : f.transport ≡ e.transport
+  pub peer : f.peer_params ≡ e.peer_params
+  pub rtt : f.path.rtt ≡ e.path.rtt
+  pub delay : f.frequency.peer_delay ≡ e.frequency.peer_delay
+  pub request : f.frequency.in_flight ≡ e.frequency.in_flight
+
+-- it waits for what the other waits for
+pub alike_waits : (t : Terms) (clock : ℕ) (flight : Flight) (e f : End) → Alike e f → Waits t clock flight (held e) → Waits t clock flight (held f)
+alike_waits t clock flight e f l before =
+    let told = before.tells in
+    record {
+      tells = record {
+        terms = told.terms ∙ rw (l.transport, l.peer) refl;
+        clock = told.clock ∙ sym l.clock;
+        named = told.named ∙ ap (λ (x : Numbers). x.largest_acked) (sym l.numbers);
+        waits = subst (λ (x : Tracking). AreWaited flight.flying x.packets) (sym l.tracking) told.waits;
+        asked = subst (λ (x : Tracking). IsAsked flight.asked x) (sym l.tracking) told.asked;
+        rtt = told.rtt ∙ sym l.rtt;
+        delay = told.delay ∙ sym l.delay;
+        request = told.request ∙ ap request_in (sym l.request);
+      };
+      loss_time = before.loss_time ∙ ap (λ (x : Tracking). x.loss_time) (sym l.tracking);
+      expiries = before.expiries ∙ ap (λ (x : Tracking). min x.timeouts 16) (sym l.tracking);
+      probes = before.probes ∙ ap (λ (x : Tracking). x.probes) (sym l.tracking);
+    }
 
 -- ---- a delivery
 
@@ -197,32 +245,6 @@ packet_delivered t w state delivery n frames opened =
     ∙ ap (λ (b : Bool). watch_came t after (clock_behind w.clock (moment_of states.Open b (calls.Deliver delivery))) w) (one_opened w.intake n frames)
     ∙ ap (λ (ps : List Packet). record w { intake = after; clock = max w.clock delivery.now; flight = after_packets t (max w.clock delivery.now) ps w.flight }) (one_new w.intake n frames)
 
--- each case of a delivery is watched
-pub arrivals_watched : (t : Terms) (w : Watch) (e : End) (delivery : Delivery) (n : ℕ) (frames : List FrameValue) → IsWatched t w e → Arrivals e delivery.now n frames w.intake (λ o j. IsWatched t (with_delivery t w e.closing.state delivery j) o.end)
-arrivals_watched t w e delivery n frames i = record {
-  ignored = λ reason. subst (λ (v : Watch). IsWatched t v e) (sym (nothing_delivered t w e.closing.state delivery)) i;
-  noted = λ state reason. closed_watched t (with_delivery t w e.closing.state delivery w.intake) (with_closing (with_numbers e (number_opened e.numbers n)) (close_asked e.closing)) i.path (λ opened. (let clash : states.Closing ≡ states.Open = sym state ∙ opened in cc));
-  takes = λ words state new none urged mark. taken words urged mark state none;
-  drains = λ words state new close is. closed_watched t _ _ path (λ opened. cc);
-  refuses = λ words state new f is. closed_watched t _ _ path (λ opened. cc);
-  exhausts = λ state. closed_watched t (with_delivery t w e.closing.state delivery w.intake) (exhausted delivery.now e) i.path (λ opened. cc);
-}
-  where
-    after : End
-    after = (arrived e delivery.now n frames).end
-
-    path : after.path.generation ≡ 0
-    path = (keeps_frames frames (begun e delivery.now n)).generation ∙ i.path
-
-    taken : (words : ℕ → ℕ) (urged : Bool) (mark : Option EcnCodepoint) → e.closing.state ≡ states.Open → (arrived e delivery.now n frames).fault ≡ None → IsWatched t (with_delivery t w e.closing.state delivery (with_taken w.intake n frames)) (drawn words (after_taken n (asks_in (map Ok frames)) urged mark after))
-    taken words urged mark opened none =
-        subst (λ (v : Watch). IsWatched t v (drawn words (after_taken n (asks_in (map Ok frames)) urged mark after))) (sym (packet_delivered t w e.closing.state delivery n frames opened)) (record {
-          path = path;
-          flight = λ still.
-              let begins : Waits t (max w.clock delivery.now) w.flight (held (begun e delivery.now n)) = ticked_waits t w.clock delivery.now w.flight (record (held e) { numbers = number_opened e.numbers n }) (numbers_wait t w.clock w.flight (held e) (number_opened e.numbers n) refl (i.flight opened)) in
-              numbers_wait t (max w.clock delivery.now) (after_frames t (max w.clock delivery.now) frames w.flight) (held after) (number_taken after.numbers n) refl (frames_wait t (max w.clock delivery.now) frames w.flight (begun e delivery.now n) none begins);
-        })
-
 -- ---- a poll
 
 -- a close is one
@@ -247,12 +269,12 @@ module _ (l : Lens) (rest : List (List ℕ)) (lawful : IsLawful l.own) (mates : 
   GoesOn now state r = GivesAt now r → w.left ≡ given_as r.answer r.datagram ++ rest → ((behind_poll now state r).own ≡ w.own ++ sent_if (gave (answers.Poll r.answer)) (sent_by l.own e now)) × IsWatched l.terms (behind_poll now state r) r.end
 
   -- the path of an end that is ready
-  ready_path : (now : ℕ) → (ready_at e now).end.path.generation ≡ 0
-  ready_path now = ap (λ (x : End). x.path.generation) (ready_leaves e now) ∙ watched_before.path
+  ready_path : (now : ℕ) → IsRoute w.route (ready_at e now).end.path
+  ready_path now = subst (λ (x : End). IsRoute w.route x.path) (sym (ready_leaves e now)) (route_of l.terms w e watched_before)
 
   -- the moment is taken over
   moment_watched : (now : ℕ) → e.closing.state ≡ states.Open → IsWatched l.terms (record w { clock = max w.clock now }) (ready_at e now).end
-  moment_watched now opened = record { path = ready_path now; flight = λ still. ready_waits l.terms w.clock now w.flight e (stands opened).stands.lies (watched_before.flight opened) }
+  moment_watched now opened = record { path = (ready_path now).1; address = (ready_path now).0; flight = λ still. ready_waits l.terms w.clock now w.flight e (stands opened).stands.lies (watched_before.flight opened) }
 
   -- a poll that gives nothing
   none_goes_on : (now : ℕ) (state : State) (f : End) → IsWatched l.terms (record w { clock = clock_behind w.clock (moment_of state false (calls.Poll now)) }) f → GoesOn now state (record { answer = Ok None; datagram = None; end = f })
@@ -304,14 +326,15 @@ module _ (l : Lens) (rest : List (List ℕ)) (lawful : IsLawful l.own) (mates : 
     before = subst (λ (n : ℕ). s.reference ≤ n) next (cut_before closing (number_of e) (cut_against e.numbers) e.numbers.next (allocated_near e.filter e.numbers.next).1 behind)
 
     -- the observer reads it as it was sent
-    read : sent_as (opened_packet l.taker.header l.taker.packet (own_id_length + 1) (next_number w.own) d) (acknowledged w.intake.took) clock d ≡ s ∷ []
+    read : sent_as (opened_packet l.taker.header l.taker.packet (own_id_length + 1) (next_number w.own) d) (acknowledged w.intake.took) clock w.route.generation d ≡ s ∷ []
     read =
-        sent_read l.own l.taker e.ids.peer.id (number_of e) s.reference (frames_padded x) d was mates lawful (next_number w.own) before after (acknowledged w.intake.took) clock
-        ∙ ap (λ (r : ℕ). record { id = e.ids.peer.id; number = number_of e; reference = r; frames = frames_padded x; moment = moment_for closing clock; size = length d } ∷ [])
+        sent_read l.own l.taker e.ids.peer.id (number_of e) s.reference (frames_padded x) d was mates lawful (next_number w.own) before after (acknowledged w.intake.took) clock w.route.generation
+        ∙ ap (λ (r : ℕ). record { id = e.ids.peer.id; number = number_of e; reference = r; frames = frames_padded x; moment = moment_for closing clock; size = length d; generation = w.route.generation } ∷ [])
         (reference_read closing (number_of e) (cut_against e.numbers) (acknowledged w.intake.took) (λ ordinary. (known ordinary).0))
-        ∙ ap (λ (m : ℕ). record { id = e.ids.peer.id; number = number_of e; reference = s.reference; frames = frames_padded x; moment = m; size = length d } ∷ [])
+        ∙ ap (λ (m : ℕ). record { id = e.ids.peer.id; number = number_of e; reference = s.reference; frames = frames_padded x; moment = m; size = length d; generation = w.route.generation } ∷ [])
         (moment_read closing clock (max e.closing.clock now) (λ ordinary. (known ordinary).1))
-        ∙ ap (λ (n : ℕ). record { id = e.ids.peer.id; number = number_of e; reference = s.reference; frames = frames_padded x; moment = s.moment; size = n } ∷ []) size
+        ∙ ap (λ (n : ℕ). record { id = e.ids.peer.id; number = number_of e; reference = s.reference; frames = frames_padded x; moment = s.moment; size = n; generation = w.route.generation } ∷ []) size
+        ∙ ap (λ (g : ℕ). record { id = e.ids.peer.id; number = number_of e; reference = s.reference; frames = frames_padded x; moment = s.moment; size = s.size; generation = g } ∷ []) (sym watched_before.path)
 
     behind_given : behind_poll now state (gives_datagram (datagram_of l.own x) f) ≡ record ticks { left = rest; own = w.own ++ s ∷ []; flight = and_sent s w.flight }
     behind_given =
@@ -368,21 +391,22 @@ module _ (l : Lens) (rest : List (List ℕ)) (lawful : IsLawful l.own) (mates : 
 
       after : IsWatched l.terms (record ticks { left = rest; own = w.own ++ s ∷ []; flight = and_flying s w.flight }) (after_given l.own draft)
       after = record {
-        path = by_going (λ (x : End). x.path.generation ≡ 0) l.own draft (λ going. ap (λ (x : Path). x.generation) c.path ∙ ready_path now);
+        path = by_going (λ (x : End). x.path.generation ≡ w.route.generation) l.own draft (λ going. ap (λ (x : Path). x.generation) c.path ∙ (ready_path now).1);
+        address = by_going (λ (x : End). x.path.remote ≡ w.route.address) l.own draft (λ going. ap (λ (x : Path). x.remote) c.path ∙ (ready_path now).0);
         flight = λ still.
             let open_still : g.end.closing.state ≡ states.Open = ap (λ (x : End). x.closing.state) ready ∙ opened in
-            draft_waits l.own l.terms (max w.clock now) g.leaving before s w.flight may (ready_path now) (ap (λ (x : End). number_of x) (sym ready))
+            draft_waits l.own l.terms (max w.clock now) g.leaving before s w.flight may (ap (λ (x : End). x.path.generation) ready) (ap (λ (x : End). number_of x) (sym ready))
             (ap (λ (b : Bool). moment_for b (max e.closing.clock now)) (sent_closeless e now) ∙ ap (λ (x : End). x.closing.clock) (sym ready)) refl refl
             (ready_stands e now stands open_still).stands.lies (allocated_near before.filter before.numbers.next).0 ((moment_watched now opened).flight open_still);
       }
 
   -- an end that closes or is closing gives its close, or nothing
   module _ (now : ℕ) (state : State) (y : End) (number : number_of y ≡ number_of e) (cut : cut_against y.numbers ≡ cut_against e.numbers) (due : Owes y) (closed : y.closing.state ≡ states.Open → ⊥)
-      (path : y.path.generation ≡ 0) (same : draft_given l.own e now ≡ close_draft l.own y) where
+      (path : IsRoute w.route y.path) (same : draft_given l.own e now ≡ close_draft l.own y) where
     one_close : (f : FrameValue) → close_to_go l.own y ≡ Some f → GoesOn now state (closes_if (Some f) l.own y)
     one_close f goes sent left =
         subst (λ (x : Draft). ((behind_poll now state (closes_if (Some f) l.own y)).own ≡ w.own ++ draft_sent e now x ∷ []) × IsWatched l.terms (behind_poll now state (closes_if (Some f) l.own y)) (after_close l.own draft)) (sym alike)
-        (ap (λ (v : Watch). v.own) is, closed_watched l.terms _ _ path closed)
+        (ap (λ (v : Watch). v.own) is, subst (λ (v : Watch). IsWatched l.terms v (after_close l.own draft)) (sym is) (closed_watched l.terms sent_behind (after_close l.own draft) path closed))
       where
         draft : Draft
         draft = draft_as (poll.closing f) y
@@ -397,12 +421,15 @@ module _ (l : Lens) (rest : List (List ℕ)) (lawful : IsLawful l.own) (mates : 
         closing_so : list_any is_close (frames_padded draft) ≡ true
         closing_so = ap (λ (b : Bool). b || list_any is_close (replicate (zeros_behind draft) padding)) (closes_is f (close_is l.own y due f goes))
 
-        is : behind_poll now state (closes_if (Some f) l.own y) ≡ record (record w { clock = clock_behind w.clock (moment_of state false (calls.Poll now)) }) { left = rest; own = w.own ++ draft_sent e now draft ∷ []; flight = and_sent (draft_sent e now draft) w.flight }
+        sent_behind : Watch
+        sent_behind = record (record w { clock = clock_behind w.clock (moment_of state false (calls.Poll now)) }) { left = rest; own = w.own ++ draft_sent e now draft ∷ []; flight = and_sent (draft_sent e now draft) w.flight }
+
+        is : behind_poll now state (closes_if (Some f) l.own y) ≡ sent_behind
         is = behind_given now state draft (after_close l.own draft) number cut near (λ ordinary. (let clash : true ≡ false = sym closing_so ∙ ordinary in cc))
             (subst (λ (x : Draft). IsSent l.own (draft_sent e now x) (datagram_of l.own draft)) alike (sent (datagram_of l.own draft) refl)) left
 
     closes_on : (o : Option FrameValue) → close_to_go l.own y ≡ o → GoesOn now state (closes_if o l.own y)
-    closes_on None none = none_goes_on now state y (closed_watched l.terms _ _ path closed)
+    closes_on None none = none_goes_on now state y (closed_watched l.terms (record w { clock = clock_behind w.clock (moment_of state false (calls.Poll now)) }) y path closed)
     closes_on (Some f) goes = one_close f goes
 
   -- an open end that closes
@@ -415,7 +442,7 @@ module _ (l : Lens) (rest : List (List ℕ)) (lawful : IsLawful l.own) (mates : 
 
   -- an open end
   open_goes_on : (now : ℕ) → e.closing.state ≡ states.Open → (b : Bool) → goes (ready_at e now) ≡ b → GoesOn now states.Open (polled_if b l.own (ready_at e now))
-  open_goes_on now opened false none = none_goes_on now states.Open (rests (ready_at e now)) (let i = moment_watched now opened in record { path = i.path; flight = i.flight })
+  open_goes_on now opened false none = none_goes_on now states.Open (rests (ready_at e now)) (let i = moment_watched now opened in record { path = i.path; address = i.address; flight = i.flight })
   open_goes_on now opened true some = subst (λ (o : Option LostReason). GoesOn now states.Open (sends o l.own (ready_at e now))) (ap (λ (x : End). bounds l.own x) (sym (ready_is now))) (go (bounds l.own e) refl)
     where
       go : (o : Option LostReason) → bounds l.own e ≡ o → GoesOn now states.Open (sends o l.own (ready_at e now))
@@ -424,7 +451,7 @@ module _ (l : Lens) (rest : List (List ℕ)) (lawful : IsLawful l.own) (mates : 
 
   -- a closing end
   closing_goes_on : (now : ℕ) → e.closing.state ≡ states.Closing → GoesOn now states.Closing (closes l.own (with_closing e (ticked e.closing now)))
-  closing_goes_on now is = closes_on now states.Closing (with_closing e (ticked e.closing now)) refl refl owes (λ still. (let clash : states.Closing ≡ states.Open = sym is ∙ still in cc)) watched_before.path
+  closing_goes_on now is = closes_on now states.Closing (with_closing e (ticked e.closing now)) refl refl owes (λ still. (let clash : states.Closing ≡ states.Open = sym is ∙ still in cc)) (route_of l.terms w e watched_before)
       (ap (λ (state : State). given_in state (bounds l.own e) l.own e now) is) (close_to_go l.own (with_closing e (ticked e.closing now))) refl
 
   -- any end that doesn't fail
@@ -445,14 +472,18 @@ pub past_same : (o : Option ℕ) (clock : ℕ) → has_come o clock ≡ is_past 
 past_same None clock = refl
 past_same (Some moment) clock = refl
 
--- an expired timer of losses leaves the path
-expired_path : (b : Bool) (e : End) → (loss_expired b e).path.generation ≡ e.path.generation
-expired_path false e = refl
-expired_path true e = go e.tracking.loss_time
+-- an expired timer of losses leaves where the path leads, and which it is
+pub settles_route : (r : Route) → Settling (λ (x : End). IsRoute r x.path)
+settles_route r (steps.known n) x i = i
+settles_route r s x i = i
+
+expired_path : (r : Route) (b : Bool) (e : End) → IsRoute r e.path → IsRoute r (loss_expired b e).path
+expired_path r false e i = i
+expired_path r true e i = go e.tracking.loss_time
   where
-    go : (o : Option ℕ) → (loss_judged o e).path.generation ≡ e.path.generation
-    go None = refl
-    go (Some moment) = ap (λ (h : Held). h.generation) (detected_held e)
+    go : (o : Option ℕ) → IsRoute r (loss_judged o e).path
+    go None = i
+    go (Some moment) = losses_keep (λ (x : End). IsRoute r x.path) (settles_route r) e i
 
 -- the observer says with the end whether its timer of losses expires
 pub timer_expires : (t : Terms) (w : Watch) (e : End) (now : ℕ) → OpenStands e → Waits t w.clock w.flight (held e) → has_come e.timers.loss_detection (max e.closing.clock now) ≡ is_past (loss_due w.flight) (max w.clock now)
@@ -477,8 +508,8 @@ others_held words x e busy = ap (λ (b : Bool). held (unless_idle b words x e)) 
     each s f i = i
 
 -- a timeout at an open end
-open_timeout : (p : Policy) (t : Terms) (w : Watch) (e : End) (now : ℕ) → OpenStands e → e.path.generation ≡ 0 → Waits t w.clock w.flight (held e) → IsWatched t (at_time t w now) (timed_out_in states.Open p e now).end
-open_timeout p t w e now s path i = record { path = generation; flight = λ still. waits (busy expiry.idle still) }
+open_timeout : (p : Policy) (t : Terms) (w : Watch) (e : End) (now : ℕ) → OpenStands e → IsRoute w.route e.path → Waits t w.clock w.flight (held e) → IsWatched t (at_time t w now) (timed_out_in states.Open p e now).end
+open_timeout p t w e now s path i = record { path = route.1; address = route.0; flight = λ still. waits (busy expiry.idle still) }
   where
     begins : End
     begins = with_closing e (ticked e.closing now)
@@ -502,23 +533,23 @@ open_timeout p t w e now s path i = record { path = generation; flight = λ stil
         (subst (λ (b : Bool). Waits t (max w.clock now) (if b then expired_for w.flight.loss_time t (max w.clock now) w.flight else w.flight) (held (loss_expired expires begins))) (timer_expires t w e now s i) after)
 
     Here : End → Type 0
-    Here f = f.path.generation ≡ 0
+    Here f = IsRoute w.route f.path
 
     each : (s : Expired) (f : End) → Here f → Here (expiring.after s f)
     each expiring.of_acks f j = j
     each s f j = j
 
-    generation : (after_others p.words expiry (loss_expired expires begins)).path.generation ≡ 0
-    generation = by_expiring p.words Here Here each (λ f j. j) (λ f j. j) expiry (loss_expired expires begins) (expired_path expires begins ∙ path)
+    route : Here (after_others p.words expiry (loss_expired expires begins))
+    route = by_expiring p.words Here Here each (λ f j. j) (λ f j. j) expiry (loss_expired expires begins) (expired_path w.route expires begins path)
 
 -- a timeout takes the moment over, and expired timers leave what is watched
 pub timeout_watched : (p : Policy) (t : Terms) (w : Watch) (e : End) (now : ℕ) → LossStands e → IsWatched t w e → IsWatched t (watch_moment (is_timely e.closing.state (calls.Timeout now)) t (record w { clock = clock_behind w.clock (moment_of e.closing.state false (calls.Timeout now)) })) (timed_out p e now).end
 timeout_watched p t w e now stands i = go e.closing.state refl
   where
     go : (state : State) → e.closing.state ≡ state → IsWatched t (watch_moment (is_timely state (calls.Timeout now)) t (record w { clock = clock_behind w.clock (moment_of state false (calls.Timeout now)) })) (timed_out_in state p e now).end
-    go states.Open opened = open_timeout p t w e now (stands opened) i.path (i.flight opened)
+    go states.Open opened = open_timeout p t w e now (stands opened) (route_of t w e i) (i.flight opened)
     go states.Closing is = by_waits (IsWatched t w) (has_come e.timers.close (ticked e.closing now).clock) (with_closing e (ticked e.closing now))
-        (closed_watched t w _ i.path (λ opened. cc)) (closed_watched t w _ i.path (λ opened. (let clash : states.Closing ≡ states.Open = sym is ∙ opened in cc)))
+        (closed_watched t w _ (route_of t w e i) (λ opened. cc)) (closed_watched t w _ (route_of t w e i) (λ opened. (let clash : states.Closing ≡ states.Open = sym is ∙ opened in cc)))
     go states.Drained is = i
     go states.Failed is = i
 
@@ -573,38 +604,16 @@ no_moment states.Failed call apart silent other = refl
 -- an end of which what is watched is as it was
 pub record Leaves (e f : End) : Type 0 where
   pub state : f.closing.state ≡ e.closing.state
-  pub clock : f.closing.clock ≡ e.closing.clock
-  pub numbers : f.numbers ≡ e.numbers
-  pub tracking : f.tracking ≡ e.tracking
-  pub transport : f.transport ≡ e.transport
-  pub peer : f.peer_params ≡ e.peer_params
   pub path : f.path.generation ≡ e.path.generation
-  pub rtt : f.path.rtt ≡ e.path.rtt
-  pub delay : f.frequency.peer_delay ≡ e.frequency.peer_delay
-  pub request : f.frequency.in_flight ≡ e.frequency.in_flight
+  pub address : f.path.remote ≡ e.path.remote
+  pub alike : Alike e f
 
 -- an end that was left so is watched as it was
 pub leaves_watched : (t : Terms) (w : Watch) (e f : End) → Leaves e f → IsWatched t w e → IsWatched t w f
 leaves_watched t w e f l i = record {
   path = l.path ∙ i.path;
-  flight = λ opened.
-      let before = i.flight (sym l.state ∙ opened) in
-      let told = before.tells in
-      record {
-        tells = record {
-          terms = told.terms ∙ rw (l.transport, l.peer) refl;
-          clock = told.clock ∙ sym l.clock;
-          named = told.named ∙ ap (λ (x : Numbers). x.largest_acked) (sym l.numbers);
-          waits = subst (λ (x : Tracking). AreWaited w.flight.flying x.packets) (sym l.tracking) told.waits;
-          asked = subst (λ (x : Tracking). IsAsked w.flight.asked x) (sym l.tracking) told.asked;
-          rtt = told.rtt ∙ sym l.rtt;
-          delay = told.delay ∙ sym l.delay;
-          request = told.request ∙ ap request_in (sym l.request);
-        };
-        loss_time = before.loss_time ∙ ap (λ (x : Tracking). x.loss_time) (sym l.tracking);
-        expiries = before.expiries ∙ ap (λ (x : Tracking). min x.timeouts 16) (sym l.tracking);
-        probes = before.probes ∙ ap (λ (x : Tracking). x.probes) (sym l.tracking);
-      };
+  address = l.address ∙ i.address;
+  flight = λ opened. alike_waits t w.clock w.flight e f l.alike (i.flight (sym l.state ∙ opened));
 }
 
 -- what an open end cuts its numbers against is what came to it says
@@ -623,6 +632,6 @@ quiet_watched t w p e theirs call a apart silent other i = by_plain_call p e the
     cases_keep (cases.polls now) is = cc
     cases_keep (cases.hears arrival d) is = cc
     cases_keep (cases.waits now b) is = cc
-    cases_keep (cases.closes reason f now) may = closed_watched t w _ i.path (λ still. cc)
-    cases_keep (cases.changes_id b) may = by_next_id (λ (x : End). AsksOn e.frequency x.frequency → IsWatched t w x) e b (λ on. i) (λ c on. leaves_watched t w e _ (record { state = refl; clock = refl; numbers = refl; tracking = refl; transport = refl; peer = refl; path = refl; rtt = refl; delay = on.peer_delay; request = on.in_flight }) i) (λ c most on. leaves_watched t w e _ (record { state = refl; clock = refl; numbers = refl; tracking = refl; transport = refl; peer = refl; path = refl; rtt = refl; delay = on.peer_delay; request = on.in_flight }) i) (next_frequency e b)
-    cases_keep c may = leaves_watched t w e _ (record { state = refl; clock = refl; numbers = refl; tracking = refl; transport = refl; peer = refl; path = refl; rtt = refl; delay = refl; request = refl }) i
+    cases_keep (cases.closes reason f now) may = closed_watched t w _ (route_of t w e i) (λ still. cc)
+    cases_keep (cases.changes_id b) may = by_next_id (λ (x : End). AsksOn e.frequency x.frequency → IsWatched t w x) e b (λ on. i) (λ c on. leaves_watched t w e _ (record { state = refl; path = refl; address = refl; alike = record { clock = refl; numbers = refl; tracking = refl; transport = refl; peer = refl; rtt = refl; delay = on.peer_delay; request = on.in_flight } }) i) (λ c most on. leaves_watched t w e _ (record { state = refl; path = refl; address = refl; alike = record { clock = refl; numbers = refl; tracking = refl; transport = refl; peer = refl; rtt = refl; delay = on.peer_delay; request = on.in_flight } }) i) (next_frequency e b)
+    cases_keep c may = leaves_watched t w e _ (record { state = refl; path = refl; address = refl; alike = record { clock = refl; numbers = refl; tracking = refl; transport = refl; peer = refl; rtt = refl; delay = refl; request = refl } }) i

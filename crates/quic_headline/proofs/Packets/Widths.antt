@@ -28,6 +28,7 @@ use Rattle.quic_headline.proofs.Packets.Delivered.{Arrivals}
 use Rattle.quic_headline.proofs.Packets.Ids.{SaysIds, AllSayIds, IsLong, AnyNumber, KnownLong, insert_long, next_long}
 use Rattle.quic_headline.proofs.Packets.Sizes.{Sizing, sizing, Searching, taken_size}
 use Rattle.quic_headline.proofs.Packets.Apart.{by_frequency}
+use Rattle.quic_headline.proofs.Packets.Moving.{moving_keeps}
 
 -- ---- the ids that are known
 
@@ -155,27 +156,38 @@ next_same e (answers.UseNextId (Ok done)) k = taken (retires_for_next e.ids)
         ∙ ap (λ (n : ℕ). record (sizing e) { width = n }) (new.used ∙ sym k.used)
 next_same e a k = refl
 
+-- whose ids are as long still
+pub next_known : (e : End) (a : Answer) → KnownLong e.ids.peer → KnownLong (end_on_next_id e a).ids.peer
+next_known e (answers.UseNextId (Ok done)) k = taken (retires_for_next e.ids)
+  where
+    taken : (o : Option (Range ℕ)) → KnownLong (next_id_taken o e).ids.peer
+    taken None = k
+    taken (Some r) = fits_long _ (retiring r (with_ids e (next_used e.ids))) (next_long e.ids.peer k)
+next_known e a k = k
+
 -- ---- a delivery
 
 module _ (Q : Sizing → Type 0) (c : Searching Q) where
   -- all frames of a packet keep what packets that are acknowledged or lost keep
-  frames_size : (fs : List FrameValue) (e : End) → AllSayIds IsLong AnyNumber fs → KnownLong e.ids.peer → Q (sizing e) → Q (sizing (passed fs e).end)
+  frames_size : (fs : List FrameValue) (e : End) → AllSayIds IsLong AnyNumber fs → KnownLong e.ids.peer → Q (sizing e) → KnownLong (passed fs e).end.ids.peer × Q (sizing (passed fs e).end)
   frames_size fs e says k i =
       (frames_leave (λ (left : List FrameValue) (x : End). AllSayIds IsLong AnyNumber left × (KnownLong x.ids.peer × Q (sizing x)))
       (λ f left x j. (
         (λ g among. j.0 g (inr among)),
         (frame_known f x (j.0 f (inl refl)) j.1.0, taken_size Q c f x (λ is. subst Q (sym (apart_same f x is (j.0 f (inl refl)) j.1.0)) j.1.1) j.1.1),
-      )) fs e (says, (k, i))).1.1.1
+      )) fs e (says, (k, i))).1.1
 
-  pub arrivals_size : (e : End) (now n : ℕ) (frames : List FrameValue) (came : Intake) → AllSayIds IsLong AnyNumber frames → KnownLong e.ids.peer → Q (sizing e) → Arrivals e now n frames came (λ (o : Outcome) (i : Intake). Q (sizing o.end))
-  arrivals_size e now n frames came says k i = record {
-    ignored = λ reason. i;
-    noted = λ state reason. i;
+  -- a delivery keeps it, and how long the ids of the peer are
+  pub arrivals_size : (e : End) (now n : ℕ) (frames taken : List FrameValue) (came : Intake) → AllSayIds IsLong AnyNumber taken → KnownLong e.ids.peer → Q (sizing e) → Arrivals e now n frames taken came (λ (o : Outcome) (i : Intake). KnownLong o.end.ids.peer × Q (sizing o.end))
+  arrivals_size e now n frames taken came says k i = record {
+    ignored = λ reason. (k, i);
+    noted = λ state reason. (k, i);
     takes = λ words state new none urged mark. after;
+    moves = λ p o same remote x opened j. moving_keeps (λ (y : End). KnownLong y.ids.peer × Q (sizing y)) (λ m y b. b) (λ y a b. (next_known y a b.0, subst Q (sym (next_same y a b.0)) b.1)) p o remote x j;
     drains = λ words state new close is. after;
     refuses = λ words state new f is. after;
-    exhausts = λ state. i;
+    exhausts = λ state. (k, i);
   }
     where
-      after : Q (sizing (passed frames (begun e now n)).end)
-      after = frames_size frames (begun e now n) says k i
+      after : (let left : End = (passed taken (begun e now n)).end in KnownLong left.ids.peer × Q (sizing left))
+      after = frames_size taken (begun e now n) says k i

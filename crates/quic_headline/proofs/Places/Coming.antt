@@ -1,5 +1,5 @@
 -- What comes to an end by a call that it makes: nothing, or a datagram that the other sent.
-use Rattle.std.proofs.Common.{◌≡◌, ℕ, false, List, Option, Some, None, refl, sym, ap, ◌∙◌, subst, inl, inr}
+use Rattle.std.proofs.Common.{◌≡◌, ℕ, Bool, false, List, Option, Some, None, refl, sym, ap, ◌∙◌, subst, inl, inr}
 use Rattle.std.specs.Prelude.{slice_get}
 use Rattle.quic_machine.specs.Arrival.{delivered_by}
 use Rattle.quic_machine.specs.declared.run.Call.{Call}
@@ -8,6 +8,7 @@ use Rattle.quic_machine.specs.declared.run.Delivery.{Delivery}
 use Rattle.quic_machine.specs.declared.run.Answer.{Answer}
 use Rattle.quic_machine.specs.declared.run.Answer.TheVariants as answers
 use Rattle.quic_machine.specs.End.{End}
+use Rattle.quic_machine.specs.Migration.{is_there}
 use Rattle.quic_machine.specs.Receive.{Outcome, received}
 use Rattle.quic_machine.specs.Machine.{IsAnswer, IsDelivered, after_delivered, after_call, fails, says_last}
 use Rattle.quic_machine.specs.CallCases.{is_delivery}
@@ -16,7 +17,7 @@ use Rattle.quic_headline.specs.Observer.{Sent}
 use Rattle.quic_headline.proofs.Packets.Invariant.{InStep, IsSent, KnowsIn}
 use Rattle.quic_headline.proofs.Packets.Growth.{get_front, step_at}
 use Rattle.quic_headline.proofs.Packets.Intakes.{folded_more, nothing_handed, none_handed}
-use Rattle.quic_headline.proofs.Packets.Delivered.{Arrivals, ArrivalsWith, of_any, by_arrival_with}
+use Rattle.quic_headline.proofs.Packets.Delivered.{frames_at, Arrivals, ArrivalsWith, ArrivalsFrom, ArrivalsBy, of_any, of_anywhere, of_every, by_arrival_by}
 use Rattle.quic_headline.proofs.Places.Parties.{told_of, Party, called, came_to, AreJoined}
 
 -- ---- calls at which nothing comes
@@ -46,19 +47,33 @@ pub record Comes (x y : Party) (call : Call) (a : Answer) (P : End → Intake �
   pub apart : is_delivery call ≡ false → P (after_call x.policy x.end y.given call a) (came_to x y)
   -- there is no such datagram
   pub none : (delivery : Delivery) → call ≡ calls.Deliver delivery → P x.end (came_to x y)
-  -- a datagram that y sent
-  pub comes : (delivery : Delivery) → call ≡ calls.Deliver delivery → (s : Sent) → In s y.sents → Arrivals x.end delivery.now s.number s.frames (came_to x y) (λ (o : Outcome) (i : Intake). P o.end i)
+  -- a datagram that y sent, from where x takes y to be, or from elsewhere
+  pub comes : (delivery : Delivery) → call ≡ calls.Deliver delivery → (s : Sent) → In s y.sents → (here : Bool) → Arrivals x.end delivery.now s.number s.frames (frames_at here s.frames) (came_to x y) (λ (o : Outcome) (i : Intake). P o.end i)
 
 -- the same, with its mark and how it is answered: P of the answer, of the end and of what came
 pub record ComesWith (x y : Party) (call : Call) (a : Answer) (P : Answer → End → Intake → Type 0) : Type 0 where
   pub apart : is_delivery call ≡ false → P a (after_call x.policy x.end y.given call a) (came_to x y)
   pub none : (delivery : Delivery) → call ≡ calls.Deliver delivery → P a x.end (came_to x y)
+  pub comes : (delivery : Delivery) → call ≡ calls.Deliver delivery → (s : Sent) → In s y.sents → (here : Bool)
+      → ArrivalsWith delivery.ecn x.end delivery.now s.number s.frames (frames_at here s.frames) (came_to x y) (λ (o : Outcome) (i : Intake). P (answers.Deliver o.answer) o.end i)
+
+-- the same, with exactly what becomes of the path
+pub record ComesFrom (x y : Party) (call : Call) (a : Answer) (P : Answer → End → Intake → Type 0) : Type 0 where
+  pub apart : is_delivery call ≡ false → P a (after_call x.policy x.end y.given call a) (came_to x y)
+  pub none : (delivery : Delivery) → call ≡ calls.Deliver delivery → P a x.end (came_to x y)
   pub comes : (delivery : Delivery) → call ≡ calls.Deliver delivery → (s : Sent) → In s y.sents
-      → ArrivalsWith delivery.ecn x.end delivery.now s.number s.frames (came_to x y) (λ (o : Outcome) (i : Intake). P (answers.Deliver o.answer) o.end i)
+      → ArrivalsFrom delivery.remote delivery.ecn x.end delivery.now s.number s.frames (came_to x y) (λ (o : Outcome) (i : Intake). P (answers.Deliver o.answer) o.end i)
+
+-- the same, with the policy of x
+pub record ComesBy (x y : Party) (call : Call) (a : Answer) (P : Answer → End → Intake → Type 0) : Type 0 where
+  pub apart : is_delivery call ≡ false → P a (after_call x.policy x.end y.given call a) (came_to x y)
+  pub none : (delivery : Delivery) → call ≡ calls.Deliver delivery → P a x.end (came_to x y)
+  pub comes : (delivery : Delivery) → call ≡ calls.Deliver delivery → (s : Sent) → In s y.sents
+      → ArrivalsBy x.policy delivery.remote delivery.ecn x.end delivery.now s.number s.frames (came_to x y) (λ (o : Outcome) (i : Intake). P (answers.Deliver o.answer) o.end i)
 
 module _ (x y : Party) (a : Answer) (joined : AreJoined x y) (served : fails a ≡ false) (meets : Meets y x) (P : Answer → End → Intake → Type 0) where
   -- a delivery, by whether there is such a datagram
-  delivered : (delivery : Delivery) (o : Option (List ℕ)) → slice_get y.given delivery.index ≡ o → IsDelivered x.policy x.end delivery o a → ComesWith x y (calls.Deliver delivery) a P
+  delivered : (delivery : Delivery) (o : Option (List ℕ)) → slice_get y.given delivery.index ≡ o → IsDelivered x.policy x.end delivery o a → ComesBy x y (calls.Deliver delivery) a P
       → P a (after_delivered x.policy x.end (delivered_by (says_last a) delivery) o) (came_to (called x y.given (calls.Deliver delivery) a) y)
   delivered delivery None at is c = subst (λ (i : Intake). P a x.end i) (sym (came_same x y (calls.Deliver delivery) a (ap (λ (b : Answer). handed y.final (calls.Deliver delivery) b) is))) (c.none delivery refl)
   delivered delivery (Some d) at (inr is) c = cc
@@ -74,17 +89,37 @@ module _ (x y : Party) (a : Answer) (joined : AreJoined x y) (served : fails a �
       ∙ ap (λ (h : Option (List ℕ)). and_handed x.end.closing.state h x.policy (answers.Deliver o.answer) (came_to x y)) there in
       subst (λ (b : Answer). P b o.end (came_to (called x y.given (calls.Deliver delivery) a) y)) (sym is)
       (subst (λ (i : Intake). P (answers.Deliver o.answer) o.end i) (sym came)
-      (by_arrival_with y.policy x.policy s.id s.number s.reference s.frames d found.2 x.end (delivered_by (says_last a) delivery) (came_to x y) (λ (r : Outcome) (i : Intake). P (answers.Deliver r.answer) r.end i) joined.to_x joined.y_lawful meets.knows (c.comes delivery refl s found.1)))
+      (by_arrival_by y.policy x.policy s.id s.number s.reference s.frames d found.2 x.end (delivered_by (says_last a) delivery) (came_to x y) (λ (r : Outcome) (i : Intake). P (answers.Deliver r.answer) r.end i) joined.to_x joined.y_lawful meets.knows (c.comes delivery refl s found.1)))
 
   -- what holds in each case holds of the answer, of the end behind its call, and of what came
-  pub by_coming_with : (call : Call) → IsAnswer x.policy x.end y.given call a → ComesWith x y call a P → P a (called x y.given call a).end (came_to (called x y.given call a) y)
-  by_coming_with (calls.Deliver delivery) is c = delivered delivery (slice_get y.given delivery.index) refl is c
-  by_coming_with call is c = subst (λ (i : Intake). P a (after_call x.policy x.end y.given call a) i) (sym (came_same x y call a (none_handed y.final call a refl))) (c.apart refl)
+  pub by_coming_by : (call : Call) → IsAnswer x.policy x.end y.given call a → ComesBy x y call a P → P a (called x y.given call a).end (came_to (called x y.given call a) y)
+  by_coming_by (calls.Deliver delivery) is c = delivered delivery (slice_get y.given delivery.index) refl is c
+  by_coming_by call is c = subst (λ (i : Intake). P a (after_call x.policy x.end y.given call a) i) (sym (came_same x y call a (none_handed y.final call a refl))) (c.apart refl)
 
--- so it is whatever the mark, and however it is answered
+  -- so it is whatever its policy
+  pub by_coming_from : (call : Call) → IsAnswer x.policy x.end y.given call a → ComesFrom x y call a P → P a (called x y.given call a).end (came_to (called x y.given call a) y)
+  by_coming_from call is c = by_coming_by call is (record {
+    apart = c.apart;
+    none = c.none;
+    comes = λ delivery same s among.
+        of_every x.policy delivery.remote delivery.ecn x.end delivery.now s.number s.frames (came_to x y) (λ (o : Outcome) (i : Intake). P (answers.Deliver o.answer) o.end i)
+        (c.comes delivery same s among);
+  })
+
+  -- and wherever it came from
+  pub by_coming_with : (call : Call) → IsAnswer x.policy x.end y.given call a → ComesWith x y call a P → P a (called x y.given call a).end (came_to (called x y.given call a) y)
+  by_coming_with call is c = by_coming_from call is (record {
+    apart = c.apart;
+    none = c.none;
+    comes = λ delivery same s among.
+        of_anywhere delivery.remote delivery.ecn x.end delivery.now s.number s.frames (came_to x y) (λ (o : Outcome) (i : Intake). P (answers.Deliver o.answer) o.end i)
+        (c.comes delivery same s among (is_there delivery.remote x.end));
+  })
+
+-- whatever the mark, and however it is answered
 pub by_coming : (x y : Party) (a : Answer) → AreJoined x y → fails a ≡ false → Meets y x → (P : End → Intake → Type 0) (call : Call) → IsAnswer x.policy x.end y.given call a → Comes x y call a P → P (called x y.given call a).end (came_to (called x y.given call a) y)
 by_coming x y a joined served meets P call is c = by_coming_with x y a joined served meets (λ (b : Answer) (e : End) (i : Intake). P e i) call is (record {
   apart = c.apart;
   none = c.none;
-  comes = λ delivery same s among. of_any delivery.ecn x.end delivery.now s.number s.frames (came_to x y) (λ (o : Outcome) (i : Intake). P o.end i) (c.comes delivery same s among);
+  comes = λ delivery same s among here. of_any delivery.ecn x.end delivery.now s.number s.frames (frames_at here s.frames) (came_to x y) (λ (o : Outcome) (i : Intake). P o.end i) (c.comes delivery same s among here);
 })

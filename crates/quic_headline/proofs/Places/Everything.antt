@@ -11,7 +11,6 @@ use Rattle.quic_machine.specs.Machine.{World, end_at}
 use Rattle.quic_headline.specs.Runs.{Run, state_in, LeadsTo, AreServed}
 use Rattle.quic_headline.specs.InFlight.{TracksInFlight}
 use Rattle.quic_headline.specs.Causes.{KeysLast, NumberLimit}
-use Rattle.quic_headline.specs.Duties.{DutiesStand}
 use Rattle.quic_headline.specs.Grown.{GrownLimitsWait}
 use Rattle.quic_headline.specs.Messages.{MessagesAtMostOnce}
 use Rattle.quic_headline.specs.Headline.{IsHonest, IsRun, OrderedPrefix, Slices, Once, EndAfterAll, BlockedOnlyWithoutBytes, AcceptsAll, FinishedMeansArrived, AcknowledgedWereTaken, NamesWereTaken, OpensExactly, NewestOpens, NumbersRise}
@@ -52,7 +51,6 @@ use Rattle.quic_headline.proofs.Channel.Names.{NamesHold, names_group}
 use Rattle.quic_headline.proofs.Channel.Within.{Within, within_group}
 use Rattle.quic_headline.proofs.Channel.Openers.{Openers, openers_group}
 use Rattle.quic_headline.proofs.Channel.Openers as openers
-use Rattle.quic_headline.proofs.NextIds.Group.{NextKnown, next_group}
 use Rattle.quic_headline.proofs.Duties.Group.{Flying, flying_group}
 use Rattle.quic_headline.proofs.Duties.Ledger as ledger
 use Rattle.quic_headline.proofs.Grown.Clause.{GrownWait, grown_group}
@@ -172,10 +170,6 @@ module _ (Ready : Way) (ready : IsReadying Ready) where
     within = λ x y h. h.1.1.1;
   }))
 
-  -- and which ids of their peers they use
-  pub all_owing : Group Nothing (And (And (And (And All Arrives) Said) Flying) NextKnown)
-  all_owing = both Nothing (And (And (And All Arrives) Said) Flying) NextKnown all_flying (next_group (And Nothing (And (And (And All Arrives) Said) Flying)) (λ x y h. h.1.0.0.0.0.0))
-
   -- ---- the clauses
 
   module _ (r : Run) (end : World) (honest : IsHonest r) (run : IsRun r end) where
@@ -266,10 +260,10 @@ module _ (Ready : Way) (ready : IsReadying Ready) where
     pub number_limit : NumberLimit r
     number_limit = used_up.number_limit (And (And All Unclosed) Shut) (record { sight = λ x y h. h.0.0.1; shut = λ x y h. h.1 }) r end honest (placed (And (And All Unclosed) Shut) all_shut r end honest run)
 
-    pub duties_stand : DutiesStand r
-    duties_stand = ledger.duties_stand (And (And (And (And All Arrives) Said) Flying) NextKnown)
-        (record { packets = λ x y h. h.0.0.0.0.0.0; writes = λ x y h. h.0.0.0.0.0.1.0; arrives = λ x y h. h.0.0.0.1; flying = λ x y h. h.0.1; sight = λ x y h. h.0.0.0.0.1; next = λ x y h. h.1 }) r end honest
-        (placed (And (And (And (And All Arrives) Said) Flying) NextKnown) all_owing r end honest run)
+    pub duties_hold : ledger.DutiesHold r
+    duties_hold = ledger.duties_hold (And (And (And All Arrives) Said) Flying)
+        (record { packets = λ x y h. h.0.0.0.0.0; writes = λ x y h. h.0.0.0.0.1.0; arrives = λ x y h. h.0.0.1; flying = λ x y h. h.1; sight = λ x y h. h.0.0.0.1 }) r end honest
+        (placed (And (And (And All Arrives) Said) Flying) all_flying r end honest run)
 
     pub grown_limits_wait : GrownLimitsWait r
     grown_limits_wait = grown.grown_limits_wait (And (And All ReadsHold) GrownWait) (record { grown = λ x y h. h.1; reads = λ x y h. h.0.1 }) r end honest (placed (And (And All ReadsHold) GrownWait) all_grown r end honest run)

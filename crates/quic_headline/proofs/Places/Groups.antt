@@ -35,7 +35,7 @@ pub record Calls (B : Way) (x y : Party) (call : Call) (a : Answer) : Type 0 whe
   pub takes_behind : B y (called x y.given call a)
 
 -- G holds at the start and stays, over what B says: where the end that calls gives, where it takes,
--- and whichever windows both ends read.
+-- whichever windows both ends read, and whichever pacers they have behind a call.
 pub record Group (B G : Way) : Type 0 where
   pub first : (x y : Beginning) → AreMade x y → B (begun_as x y) (begun_as y x) → B (begun_as y x) (begun_as x y) → G (begun_as x y) (begun_as y x)
   pub writer : (x y : Party) (call : Call) (a : Answer) → Calls B x y call a → G x y → G y x → G (called x y.given call a) y

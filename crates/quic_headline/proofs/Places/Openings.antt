@@ -1,7 +1,7 @@
 -- What opens, what is named, and the numbers that rise, at each place of a run: the clauses that
 -- the packets alone give.
 use Rattle.std.proofs.Common.{◌≡◌, ℕ, Bool, true, false, List, [], ◌∷◌, ◌++◌, take, length, map, Option, refl, sym, ap, ◌∙◌, subst}
-use Rattle.std.specs.Prelude.{◌↔◌}
+use Rattle.std.specs.Prelude.{◌↔◌, ◌&&◌, not}
 use Rattle.std.specs.Option.{is_some}
 use Rattle.quic_wire_core.specs.declared.stream_id.Side.{Side}
 use Rattle.quic_wire_core.specs.declared.stream_id.Side.TheVariants.{Client, Server}
@@ -9,7 +9,6 @@ use Rattle.quic_wire_core.specs.StreamId.{other_side}
 use Rattle.quic_wire.specs.Value.{FrameValue, ack}
 use Rattle.quic_packet.specs.Datagram.{Opening}
 use Rattle.quic_machine.specs.declared.run.Injection.{Injection}
-use Rattle.quic_machine.specs.declared.run.Call.TheVariants as calls
 use Rattle.quic_machine.specs.declared.run.Answer.{Answer}
 use Rattle.quic_machine.specs.declared.run.Answer.TheVariants as answers
 use Rattle.quic_machine.specs.Policy.{Policy, CanOpen}
@@ -19,19 +18,19 @@ use Rattle.quic_machine.specs.Start.{IsLawful}
 use Rattle.quic_machine.specs.End.{End}
 use Rattle.quic_machine.specs.Opens.{opens, would_open}
 use Rattle.quic_machine.specs.Machine.{World, policy_at, says_last, injected_if}
-use Rattle.quic_machine.specs.RunLaws.{one_run}
-use Rattle.quic_headline.specs.Runs.{Run, Packet, Intake, In, IsTaken, IsNamed, until, given_until, count_given, AreServed, opens_by_key, expected_behind}
+use Rattle.quic_headline.specs.Runs.{Run, Packet, Intake, In, IsTaken, IsNamed, until, given_until, count_given, AreServed, opens_by_key}
 use Rattle.quic_headline.specs.Observer.{Sent, Watch, first_watch, frames_opened, watch, took, sents_until, references_until}
-use Rattle.quic_headline.specs.Headline.{IsHonest, IsAt, IsNamedIn, frames_given, would_open_at, Rise, AcknowledgedWereTaken, NamesWereTaken, OpensExactly}
+use Rattle.quic_headline.specs.Headline.{IsHonest, IsNamedIn, frames_given, Rise, AcknowledgedWereTaken, NamesWereTaken}
 use Rattle.quic_headline.proofs.Packets.Invariant.{InStep, IsSent, NameTaken, WereSent}
 use Rattle.quic_headline.proofs.Packets.Growth.{step_in}
 use Rattle.quic_headline.proofs.Packets.Delivered.{shown_if, expands, by_key_given, frames_of_payload}
-use Rattle.quic_headline.proofs.Packets.Knowing.{expects_in}
 use Rattle.quic_headline.proofs.Packets.Rising.{rise}
 use Rattle.quic_headline.proofs.Packets.Watching.{watched_intake}
 use Rattle.quic_headline.proofs.Packets.Group.{PacketsHold}
 use Rattle.quic_headline.proofs.Places.Parties.{Party, came_to, lens}
-use Rattle.quic_headline.proofs.Places.Placed.{party_at, Placed, watch_is, answered}
+use Rattle.quic_headline.proofs.Places.Placed.{party_at, Placed, watch_is}
+use Rattle.quic_headline.proofs.Packets.ByKey.{counted, opens_from_is}
+use Rattle.quic_machine.specs.Migration.{is_foreign}
 
 -- ---- injections
 
@@ -40,12 +39,21 @@ told_by_answer : (p : Policy) (e : End) (injection : Injection) (a : Answer) (b 
 told_by_answer p e injection a true c last same is = (λ told. sym same, λ opened. is)
 told_by_answer p e injection a false c last same is = (λ told. cc, λ opened. cc)
 
--- an end that expects this number answers by it
-opens_by : (p : Policy) (e : End) (injection : Injection) (a : Answer) (x : ℕ) → expected e.numbers ≡ x → a ≡ injected_if (would_open p e injection.remote injection.bytes) (says_last a) p e injection
-    → (a ≡ answers.Opens) ↔ (is_some (opens p (known e.ids) x injection.bytes) ≡ true)
-opens_by p e injection a x expects is =
+-- whether bytes open where an end takes what comes from there, and open by its keys
+opens_if : (away : Bool) (o : Option Opening) → is_some (counted (not away) o) ≡ (not away && is_some o)
+opens_if true o = refl
+opens_if false o = refl
+
+-- an end that expects this number answers by it, and by whether it takes something from there
+pub opens_by : (p : Policy) (e : End) (injection : Injection) (a : Answer) (x : ℕ) (away : Bool) → expected e.numbers ≡ x → is_foreign injection.remote e ≡ away → a ≡ injected_if (would_open p e injection.remote injection.bytes) (says_last a) p e injection
+    → (a ≡ answers.Opens) ↔ ((not away && is_some (opens p (known e.ids) x injection.bytes)) ≡ true)
+opens_by p e injection a x away expects foreign is =
     let d : List ℕ = injection.bytes in
-    told_by_answer p e injection a (would_open p e injection.remote d) (is_some (opens p (known e.ids) x d)) (says_last a) (ap (λ (n : ℕ). is_some (opens p (known e.ids) n d)) expects) is
+    told_by_answer p e injection a (would_open p e injection.remote d) (not away && is_some (opens p (known e.ids) x d)) (says_last a)
+    (ap is_some (opens_from_is p e injection.remote (expected e.numbers) d)
+    ∙ ap (λ (n : ℕ). is_some (counted (not (is_foreign injection.remote e)) (opens p (known e.ids) n d))) expects
+    ∙ ap (λ (b : Bool). is_some (counted (not b) (opens p (known e.ids) x d))) foreign
+    ∙ opens_if away (opens p (known e.ids) x d)) is
 
 -- ---- what ACK frames name
 
@@ -86,7 +94,7 @@ pub took_is : (r : Run) → IsHonest r → (w : World) (i : ℕ) (side : Side) (
 took_is r honest w i side sents theirs =
     let x : Party = party_at r i w side sents in
     let y : Party = party_at r i w (other_side side) theirs in
-    ap (λ (v : Watch). v.intake) (watch_is r honest w i side sents theirs) ∙ watched_intake (lens x y) x.told (first_watch x.final x.began x.initial_rtt x.initial_delay)
+    ap (λ (v : Watch). v.intake) (watch_is r honest w i side sents theirs) ∙ watched_intake (lens x y) x.told (first_watch x.final x.began x.made.path.remote x.initial_rtt x.initial_delay)
 
 -- what the other took
 pub took_there : (r : Run) → IsHonest r → (w : World) (i : ℕ) (side : Side) (sents theirs : List Sent) → (watch r (other_side side) i).intake ≡ came_to (party_at r i w (other_side side) theirs) (party_at r i w side sents)
@@ -125,13 +133,6 @@ module _ (r : Run) (end : World) (honest : IsHonest r) (side : Side) (i : ℕ) (
       (names_taken here.policy there.policy at.sents here.given (came_to here there).took at.joined.to_y at.joined.x_lawful at.gives.gives.each at.gives.named x number datagram
       (subst (λ (ds : List (List ℕ)). In datagram ds) given_here was) named)
 
-  -- an injection is answered by the ids that the end has, and by the number that the lists say
-  pub opens_at : (injection : Injection) (a : Answer) → IsAt r i side (calls.Inject injection) a → (a ≡ answers.Opens) ↔ (would_open_at r at.world side i injection.bytes ≡ true)
-  opens_at injection a is =
-      opens_by here.policy here.end injection a (expected_behind (took r side i))
-      (expects_in here.end.closing.state here.end.numbers (came_to here there) at.takes.knows ∙ ap expected_behind (sym took_here))
-      (answered r at.world end i side (calls.Inject injection) a at.goes_on is)
-
   -- the numbers of what was given rise, where the observer has what was given as it was sent
   pub rises_at : sents_until r side i ≡ at.sents → Rise (policy_at side r.keys) 0 (references_until r side i) (given_until r side i)
   rises_at own =
@@ -146,9 +147,3 @@ module _ (r : Run) (end : World) (honest : IsHonest r) (all : (side : Side) (i :
 
   pub names_were_taken : NamesWereTaken r
   names_were_taken side i x number datagram served = named_at r end honest side i (all side i served) x number datagram
-
-  pub opens_exactly : OpensExactly r
-  opens_exactly side i w injection a served leads there =
-      let at = all side i served in
-      let is : w ≡ at.world = (one_run r.keys (take i r.answers) r.start (take i r.events) (take i r.views) (take i r.views) w at.world served leads at.leads).1 in
-      subst (λ (v : World). (a ≡ answers.Opens) ↔ (would_open_at r v side i injection.bytes ≡ true)) (sym is) (opens_at r end honest side i at injection a there)

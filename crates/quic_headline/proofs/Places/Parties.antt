@@ -21,9 +21,11 @@ use Rattle.quic_machine.specs.End.{End, number_of, new_end, with_window, with_cl
 use Rattle.quic_machine.specs.Opens.{own_id_length}
 use Rattle.quic_machine.specs.Poll.{Draft, no_frames, datagram_size, draft_as, closing, bounds, close_to_go}
 use Rattle.quic_machine.specs.PollCases.{ready_at, draft_at, frames_padded}
-use Rattle.quic_machine.specs.Machine.{after_call, gives, gave, heard_at, control_at, World, end_at}
+use Rattle.quic_congestion.specs.Pacer.{Pacing}
+use Rattle.quic_machine.specs.Control.{Control, with_pacing}
+use Rattle.quic_machine.specs.Machine.{after_call, tells, pacing_left, gives, gave, heard_at, control_at, World, end_at}
 use Rattle.quic_headline.specs.Runs.{Told, Intake, nothing_came, and_told, folded}
-use Rattle.quic_headline.specs.Observer.{Sent, is_close, reference_for, moment_for, Terms, terms_of, Watch, first_watch, Lens, watch_told}
+use Rattle.quic_headline.specs.Observer.{Sent, is_close, reference_for, moment_for, Terms, terms_of, Watch, first_watch, Lens, watch_told, serves}
 use Rattle.quic_machine.specs.Validation.{with_blocked, is_blocked}
 
 -- ---- what a call adds
@@ -52,7 +54,7 @@ cut_for closes e = reference_for closes (number_of e) (truncated (number_of e) (
 
 -- what the datagram with these frames is sent as
 abbrev pub sent_as : End → ℕ → Draft → Sent
-sent_as e now d = record { id = e.ids.peer.id; number = number_of e; reference = cut_for (list_any is_close (frames_padded d)) e; frames = frames_padded d; moment = moment_for (list_any is_close (frames_padded d)) (max e.closing.clock now); size = datagram_size d }
+sent_as e now d = record { id = e.ids.peer.id; number = number_of e; reference = cut_for (list_any is_close (frames_padded d)) e; frames = frames_padded d; moment = moment_for (list_any is_close (frames_padded d)) (max e.closing.clock now); size = datagram_size d; generation = e.path.generation }
 
 -- what the datagram is sent as that an end gives at a moment, if it gives one
 abbrev pub sent_by : Policy → End → ℕ → Sent
@@ -103,26 +105,35 @@ called x theirs call a = record x {
 }
 
 -- what an end reads before a poll: the window that its controller shows, and whether nothing more
--- may go to an address that isn't validated
+-- may go to an address that isn't validated; and the pacer that it has behind a call
 pub record Shown : Type 0 where
   pub window : ℕ
   pub blocked : Bool
+  pub pacing : Pacing
 
 -- the end that read that
 abbrev pub with_shown : End → Shown → End
-with_shown e shown = with_blocked (with_window e shown.window) shown.blocked
+with_shown e shown = with_pacing (with_blocked (with_window e shown.window) shown.blocked) shown.pacing
 
 -- what one of the ends of a world reads
 abbrev pub shown_at : Side → World → Shown
-shown_at side w = record { window = control_at side w []; blocked = is_blocked (end_at side w) (heard_at side w) }
+shown_at side w = record { window = control_at side w []; blocked = is_blocked (end_at side w) (heard_at side w); pacing = (end_at side w).path.pacing }
 
 -- what it read before
 abbrev pub shown_by : End → Shown
-shown_by e = record { window = e.path.window; blocked = e.path.blocked }
+shown_by e = record { window = e.path.window; blocked = e.path.blocked; pacing = e.path.pacing }
+
+-- the same, with this pacer
+abbrev pub paced_by : End → Pacing → Shown
+paced_by e pacing = record (shown_by e) { pacing = pacing }
 
 -- it read that
 abbrev pub showing : Party → Shown → Party
 showing x shown = record x { end = with_shown x.end shown }
+
+-- the pacer that a call leaves at an end with this controller
+abbrev pub pacing_behind : Policy → Control → End → List (List ℕ) → Call → Answer → Pacing
+pacing_behind p control e theirs call a = pacing_left (control (tells p e theirs call)) call e (after_call p e theirs call a)
 
 -- what came to an end from the other
 abbrev pub came_to : Party → Party → Intake
@@ -130,11 +141,11 @@ came_to y x = folded (and_told y.policy x.final) y.told nothing_came
 
 -- how the lists of a run are read for an end: what it gives, the other opens
 abbrev pub lens : Party → Party → Lens
-lens x y = record { taker = y.policy; own = x.policy; peer_gave = y.final; terms = x.terms }
+lens x y = record { serves = serves x.side; taker = y.policy; own = x.policy; peer_gave = y.final; terms = x.terms }
 
 -- what the observer of an end knows
 abbrev pub watch_of : Party → Party → Watch
-watch_of x y = folded (watch_told (lens x y)) x.told (first_watch x.final x.began x.initial_rtt x.initial_delay)
+watch_of x y = folded (watch_told (lens x y)) x.told (first_watch x.final x.began x.made.path.remote x.initial_rtt x.initial_delay)
 
 -- ---- two ends
 

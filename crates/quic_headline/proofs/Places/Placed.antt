@@ -19,7 +19,8 @@ use Rattle.quic_machine.specs.Opens.{own_id_length}
 use Rattle.quic_machine.specs.Policy.{Policy}
 use Rattle.quic_machine.specs.Parts.{Windows}
 use Rattle.quic_machine.specs.End.{End, IsMade, new_end}
-use Rattle.quic_machine.specs.Control.{Control}
+use Rattle.quic_congestion.specs.Pacer.{Pacing}
+use Rattle.quic_machine.specs.Control.{Control, with_pacing}
 use Rattle.quic_machine.specs.Heard.{Heard}
 use Rattle.quic_machine.specs.Start.{AreStarted}
 use Rattle.quic_machine.specs.Machine.{World, Policies, IsAnswer, IsLeft, IsStep, after_call, reads_window, end_left, end_at, end_met, control_at, given_by, gives, policy_at, fails, Follows, view_of, heard_at}
@@ -27,7 +28,7 @@ use Rattle.quic_headline.specs.Runs.{Run, Told, In, given_of, told_by, ids_of, u
 use Rattle.quic_headline.specs.Observer.{Sent, terms_of, watch}
 use Rattle.quic_headline.specs.Headline.{IsHonest, IsRun, IsAt, used, CodeIsSmall}
 use Rattle.quic_headline.specs.Amounts.{making_at}
-use Rattle.quic_headline.proofs.Places.Parties.{sents_by, told_of, Party, called, watch_of, AreJoined, turned, Beginning, begun_as, AreMade, Shown, with_shown, shown_at, shown_by}
+use Rattle.quic_headline.proofs.Places.Parties.{sents_by, told_of, Party, called, watch_of, AreJoined, turned, Beginning, begun_as, AreMade, Shown, with_shown, shown_at, shown_by, paced_by, pacing_behind}
 use Rattle.quic_headline.proofs.Places.Groups.{Way, Nothing, Calls, Group, turned_makings}
 use Rattle.quic_headline.proofs.Places.Moments.{Grown, grown, Moment, moment, last_view}
 
@@ -224,26 +225,30 @@ module _ (G : Way) (g : Group Nothing G) (r : Run) (end : World) (honest : IsHon
       → Holds next (client ++ told_by Client w.client.closing.state event a) (server ++ told_by Server w.server.closing.state event a)
   event_keeps w next event a client server h uses is_step served grows grows_behind = go event.side event.call uses is_step
     where
-      -- the client makes a call, and has become this end for it
-      client_calls : (call : Call) (met : End) → met.closing.state ≡ w.client.closing.state → Uses (record { side = Client; call = call }) a client server → IsAnswer r.keys.client met w.from_server call a
-          → next ≡ record w { client = after_call r.keys.client met w.from_server call a; from_client = w.from_client ++ gives r.keys.client met call a; client_control = next.client_control; client_heard = next.client_heard }
+      -- the client makes a call, and has become this end for it; behind the call it has this pacer
+      client_calls : (call : Call) (met : End) (pacing : Pacing) → met.closing.state ≡ w.client.closing.state → Uses (record { side = Client; call = call }) a client server → IsAnswer r.keys.client met w.from_server call a
+          → next ≡ record w { client = with_pacing (after_call r.keys.client met w.from_server call a) pacing; from_client = w.from_client ++ gives r.keys.client met call a; client_control = next.client_control; client_heard = next.client_heard }
           → G (party r Client (record w { client = met }) h.client_sents client) (party r Server w h.server_sents server) → G (party r Server w h.server_sents server) (party r Client (record w { client = met }) h.client_sents client)
           → Holds next (client ++ told_of call a w.client.closing.state ∷ []) (server ++ [])
-      client_calls call met same uses answer is there back =
+      client_calls call met pacing same uses answer is there back =
           let here : World = record w { client = met } in
-          let after : World = record w { client = after_call r.keys.client met w.from_server call a; from_client = w.from_client ++ gives r.keys.client met call a; client_control = next.client_control; client_heard = next.client_heard } in
+          let left : World = record w { client = after_call r.keys.client met w.from_server call a; from_client = w.from_client ++ gives r.keys.client met call a; client_control = next.client_control; client_heard = next.client_heard } in
+          let after : World = record left { client = with_pacing left.client pacing } in
           let x : Party = party r Client here h.client_sents client in
           let y : Party = party r Server w h.server_sents server in
           let c : Calls Nothing x y call a =
           called_bare x y call a (joined_at here h.client_sents h.server_sents client server (same_grown w here refl refl grows))
-          (joined_at after (h.client_sents ++ sents_by r.keys.client met call a) h.server_sents (client ++ told_of call a met.closing.state ∷ []) server (subst (λ (v : World). Grown v end) is grows_behind)) answer served uses in
+          (joined_at left (h.client_sents ++ sents_by r.keys.client met call a) h.server_sents (client ++ told_of call a met.closing.state ∷ []) server (same_grown after left refl refl (subst (λ (v : World). Grown v end) is grows_behind))) answer served uses in
+          let behind : Shown = paced_by (called x y.given call a).end pacing in
+          let gives_left = g.writer x y call a c there back in
+          let takes_left = g.reader x y call a c there back in
           subst (λ (s : State). Holds next (client ++ told_of call a s ∷ []) (server ++ [])) same
           (subst (λ (v : World). Holds v (client ++ told_of call a met.closing.state ∷ []) (server ++ [])) (sym is)
           (subst (λ (ts : List Told). Holds after (client ++ told_of call a met.closing.state ∷ []) ts) (sym (append-nil server)) (record {
             client_sents = h.client_sents ++ sents_by r.keys.client met call a;
             server_sents = h.server_sents;
-            to_server = g.writer x y call a c there back;
-            to_client = g.reader x y call a c there back;
+            to_server = g.shows (called x y.given call a) y behind (shown_by y.end) tt tt gives_left takes_left;
+            to_client = g.shows y (called x y.given call a) (shown_by y.end) behind tt tt takes_left gives_left;
           })))
 
       -- the client makes a call, and a poll reads a window first
@@ -254,31 +259,36 @@ module _ (G : Way) (g : Group Nothing G) (r : Run) (end : World) (honest : IsHon
           let shown : Shown = shown_at Client w in
           let x : Party = party r Client w h.client_sents client in
           let y : Party = party r Server w h.server_sents server in
-          client_calls (calls.Poll now) (with_shown w.client shown) refl uses step.answer is
+          let met : End = with_shown w.client shown in
+          client_calls (calls.Poll now) met (pacing_behind r.keys.client w.client_control met w.from_server (calls.Poll now) a) refl uses step.answer is
           (g.shows x y shown (shown_by y.end) tt tt h.to_server h.to_client)
           (g.shows y x (shown_by y.end) shown tt tt h.to_client h.to_server)
-      client_meets call uses step is = client_calls call w.client refl uses step.answer is h.to_server h.to_client
+      client_meets call uses step is = client_calls call w.client (pacing_behind r.keys.client w.client_control w.client w.from_server call a) refl uses step.answer is h.to_server h.to_client
 
-      -- the server makes a call, and has become this end for it
-      server_calls : (call : Call) (met : End) → met.closing.state ≡ w.server.closing.state → Uses (record { side = Server; call = call }) a client server → IsAnswer r.keys.server met w.from_client call a
-          → next ≡ record w { server = after_call r.keys.server met w.from_client call a; from_server = w.from_server ++ gives r.keys.server met call a; server_control = next.server_control; server_heard = next.server_heard }
+      -- the server makes a call, and has become this end for it; behind the call it has this pacer
+      server_calls : (call : Call) (met : End) (pacing : Pacing) → met.closing.state ≡ w.server.closing.state → Uses (record { side = Server; call = call }) a client server → IsAnswer r.keys.server met w.from_client call a
+          → next ≡ record w { server = with_pacing (after_call r.keys.server met w.from_client call a) pacing; from_server = w.from_server ++ gives r.keys.server met call a; server_control = next.server_control; server_heard = next.server_heard }
           → G (party r Server (record w { server = met }) h.server_sents server) (party r Client w h.client_sents client) → G (party r Client w h.client_sents client) (party r Server (record w { server = met }) h.server_sents server)
           → Holds next (client ++ []) (server ++ told_of call a w.server.closing.state ∷ [])
-      server_calls call met same uses answer is there back =
+      server_calls call met pacing same uses answer is there back =
           let here : World = record w { server = met } in
-          let after : World = record w { server = after_call r.keys.server met w.from_client call a; from_server = w.from_server ++ gives r.keys.server met call a; server_control = next.server_control; server_heard = next.server_heard } in
+          let left : World = record w { server = after_call r.keys.server met w.from_client call a; from_server = w.from_server ++ gives r.keys.server met call a; server_control = next.server_control; server_heard = next.server_heard } in
+          let after : World = record left { server = with_pacing left.server pacing } in
           let x : Party = party r Server here h.server_sents server in
           let y : Party = party r Client w h.client_sents client in
           let c : Calls Nothing x y call a =
           called_bare x y call a (turned y x (joined_at here h.client_sents h.server_sents client server (same_grown w here refl refl grows)))
-          (turned y (called x y.given call a) (joined_at after h.client_sents (h.server_sents ++ sents_by r.keys.server met call a) client (server ++ told_of call a met.closing.state ∷ []) (subst (λ (v : World). Grown v end) is grows_behind))) answer served uses in
+          (turned y (called x y.given call a) (joined_at left h.client_sents (h.server_sents ++ sents_by r.keys.server met call a) client (server ++ told_of call a met.closing.state ∷ []) (same_grown after left refl refl (subst (λ (v : World). Grown v end) is grows_behind)))) answer served uses in
+          let behind : Shown = paced_by (called x y.given call a).end pacing in
+          let gives_left = g.writer x y call a c there back in
+          let takes_left = g.reader x y call a c there back in
           subst (λ (s : State). Holds next (client ++ []) (server ++ told_of call a s ∷ [])) same
           (subst (λ (v : World). Holds v (client ++ []) (server ++ told_of call a met.closing.state ∷ [])) (sym is)
           (subst (λ (ts : List Told). Holds after ts (server ++ told_of call a met.closing.state ∷ [])) (sym (append-nil client)) (record {
             client_sents = h.client_sents;
             server_sents = h.server_sents ++ sents_by r.keys.server met call a;
-            to_server = g.reader x y call a c there back;
-            to_client = g.writer x y call a c there back;
+            to_server = g.shows y (called x y.given call a) (shown_by y.end) behind tt tt takes_left gives_left;
+            to_client = g.shows (called x y.given call a) y behind (shown_by y.end) tt tt gives_left takes_left;
           })))
 
       -- the server makes a call, and a poll reads a window first
@@ -289,10 +299,11 @@ module _ (G : Way) (g : Group Nothing G) (r : Run) (end : World) (honest : IsHon
           let shown : Shown = shown_at Server w in
           let x : Party = party r Server w h.server_sents server in
           let y : Party = party r Client w h.client_sents client in
-          server_calls (calls.Poll now) (with_shown w.server shown) refl uses step.answer is
+          let met : End = with_shown w.server shown in
+          server_calls (calls.Poll now) met (pacing_behind r.keys.server w.server_control met w.from_client (calls.Poll now) a) refl uses step.answer is
           (g.shows x y shown (shown_by y.end) tt tt h.to_client h.to_server)
           (g.shows y x (shown_by y.end) shown tt tt h.to_server h.to_client)
-      server_meets call uses step is = server_calls call w.server refl uses step.answer is h.to_client h.to_server
+      server_meets call uses step is = server_calls call w.server (pacing_behind r.keys.server w.server_control w.server w.from_client call a) refl uses step.answer is h.to_client h.to_server
 
       go : (side : Side) (call : Call) → Uses (record { side = side; call = call }) a client server → IsStep r.keys w (record { side = side; call = call }) a next
           → Holds next (client ++ told_by Client w.client.closing.state (record { side = side; call = call }) a) (server ++ told_by Server w.server.closing.state (record { side = side; call = call }) a)

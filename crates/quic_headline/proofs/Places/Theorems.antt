@@ -1,7 +1,6 @@
 -- The headline of every honest run: one theorem for each clause.
 use Rattle.quic_machine.specs.Machine.{World}
 use Rattle.quic_headline.specs.Runs.{Run}
-use Rattle.quic_headline.specs.Duties.{DutiesStand}
 use Rattle.quic_headline.specs.Grown.{GrownLimitsWait}
 use Rattle.quic_headline.specs.Messages.{MessagesAtMostOnce}
 use Rattle.quic_headline.specs.InFlight.{TracksInFlight}
@@ -13,6 +12,7 @@ use Rattle.quic_headline.specs.Ids.{IdsAreNew, AcceptedWereOpened}
 use Rattle.quic_headline.specs.Polls.{PacerSetsItsTimer, AskingGoesWhereLet, WindowIsOfHistory}
 use Rattle.quic_headline.specs.Sizes.{SizeIsOfHistory, SizesMove, DatagramsAreSized}
 use Rattle.quic_headline.specs.Headline.{IsHonest, IsRun, OrderedPrefix, Slices, Once, EndAfterAll, BlockedOnlyWithoutBytes, AcceptsAll, FinishedMeansArrived, AcknowledgedWereTaken, NamesWereTaken, OpensExactly, NewestOpens, NumbersRise}
+use Rattle.quic_headline.proofs.Duties.Ledger.{DutiesHold}
 use Rattle.quic_headline.proofs.Halves.Ready.{Ready, ready_probes, ready_group}
 use Rattle.quic_headline.proofs.Places.Everything as everything
 use Rattle.quic_headline.proofs.Steps.Pacing as pacing
@@ -95,8 +95,8 @@ numbers_rise = everything.numbers_rise Ready ready
 pub tracks_in_flight : (r : Run) (end : World) → IsHonest r → IsRun r end → TracksInFlight r
 tracks_in_flight = everything.tracks_in_flight Ready ready
 
-pub duties_stand : (r : Run) (end : World) → IsHonest r → IsRun r end → DutiesStand r
-duties_stand = everything.duties_stand Ready ready
+pub duties_hold : (r : Run) (end : World) → IsHonest r → IsRun r end → DutiesHold r
+duties_hold = everything.duties_hold Ready ready
 
 pub grown_limits_wait : (r : Run) (end : World) → IsHonest r → IsRun r end → GrownLimitsWait r
 grown_limits_wait = everything.grown_limits_wait Ready ready

@@ -21,7 +21,8 @@ use Rattle.quic_headline.proofs.Packets.Referring.{Refers, refers_group}
 use Rattle.quic_headline.proofs.Places.Parties.{Party, AreJoined}
 use Rattle.quic_headline.proofs.Places.Groups.{Way, Nothing, And, Group, both, over, knot}
 use Rattle.quic_headline.proofs.Places.Placed.{Placed, placed, placed_less}
-use Rattle.quic_headline.proofs.Places.Openings.{acknowledged_were_taken, names_were_taken, opens_exactly}
+use Rattle.quic_headline.proofs.Places.Openings.{acknowledged_were_taken, names_were_taken}
+use Rattle.quic_headline.proofs.Moves.Foreign.{opens_exactly}
 use Rattle.quic_headline.proofs.Places.Flights.{numbers_rise, tracks_in_flight}
 use Rattle.quic_headline.proofs.Places.Newest.{newest_opens}
 use Rattle.quic_headline.proofs.Causes.Sealed.{Seals, seals_group, keys_last}
@@ -90,7 +91,7 @@ module _ (H : Way) (s : Spells H) where
       all_named = names_were_taken r end honest packets_place
 
       pub all_open : OpensExactly r
-      all_open = opens_exactly r end honest packets_place
+      all_open = opens_exactly r end honest observed_place
 
       pub all_newest : NewestOpens r
       all_newest = newest_opens r end honest (observed_at Refers (over PacketsHold Observed Refers (λ x y h. h.0) refers_group))

@@ -25,6 +25,7 @@ use Rattle.quic_headline.proofs.Duties.Requests.{Next, frame_next, call_next}
 use Rattle.quic_headline.proofs.Requests.Asks.{By, by_of, is_anew, IsToAsk, anew_asks}
 use Rattle.quic_headline.proofs.Requests.Drafts.{Goes, goes_none, goes_one, polled_requests, requests_more}
 use Rattle.quic_headline.proofs.Requests.Only.{Only, call_only}
+use Rattle.quic_headline.proofs.Packets.Moving.{moved_frequency}
 
 -- As many requests went of x as are counted; it asks as it was made to; and one waits, or goes
 -- again if its packet is lost, only where it is to ask, and its peer can be asked.
@@ -48,6 +49,7 @@ delivered_next p e arrival (Some d) = by_received (Next e.frequency.next) (recor
   asks_close = λ x i. i;
   exhausts = λ now x i. i;
   draws = λ words x i. i;
+  moves = λ q o remote x i. (moved_frequency q o remote x).next ∙ i;
 }) p e arrival d refl
 
 -- so does any call but a poll

@@ -39,6 +39,7 @@ use Rattle.quic_headline.proofs.Steps.Probes.{begun}
 use Rattle.quic_headline.proofs.Duties.Requests.{streams_flag, call_flag, lost_wait}
 use Rattle.quic_headline.proofs.Requests.Asks.{by_of, is_anew, anew_is}
 use Rattle.quic_headline.proofs.Requests.Drafts.{Has, has_none, has_one, draft_has, count_any}
+use Rattle.quic_headline.proofs.Packets.Moved.{by_migrated}
 
 module _ (G : Type 0) where
   -- where a request waits, G holds
@@ -124,6 +125,7 @@ module _ (G : Type 0) where
     asks_close = λ x j. record { waits = j.waits; bear = j.bear };
     exhausts = λ now x j. record { waits = j.waits; bear = j.bear };
     draws = λ words x j. record { waits = j.waits; bear = j.bear };
+    moves = λ q o remote x j. by_migrated Only q o remote x (λ c. record { waits = j.waits; bear = j.bear }) (λ c most. record { waits = j.waits; bear = j.bear });
   }) p e arrival d i
 
   -- ---- a call but a poll and a delivery

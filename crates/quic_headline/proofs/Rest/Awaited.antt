@@ -30,7 +30,7 @@ use Rattle.quic_machine.specs.Puts as puts
 use Rattle.quic_machine.specs.LeaveCases.{at_expiry, Expired, by_timers}
 use Rattle.quic_machine.specs.CallCases.{Plain, by_plain_call}
 use Rattle.quic_machine.specs.CallCases as cases
-use Rattle.quic_machine.specs.FrameCases.{Settling, Receives, named, acked_keeps, losses_keep, frame_keeps, frame_leaves, by_received, IsApart, apart_leaves, with_apart}
+use Rattle.quic_machine.specs.FrameCases.{Settling, Receives, named, acked_keeps, losses_keep, frame_keeps, frame_leaves, by_received, IsApart, apart_leaves}
 use Rattle.quic_headline.proofs.Packets.Apart.{AsksAnew, apart_acks, by_waits, by_next_id, next_acks}
 use Rattle.quic_machine.specs.Steps as steps
 use Rattle.quic_machine.specs.PollCases.{ready_at, ready_leaves, by_poll_to, draft_at, may_leave_at}
@@ -40,6 +40,8 @@ use Rattle.quic_headline.proofs.Packets.Probes.{by_going}
 use Rattle.quic_machine.specs.LeaveCases as expiring
 use Rattle.quic_headline.proofs.Packets.Closes.{by_closes}
 use Rattle.quic_headline.proofs.Packets.Heard.{by_taken}
+use Rattle.quic_headline.proofs.Packets.Moved.{by_migrated}
+use Rattle.quic_headline.proofs.Packets.Moving.{moved_acks}
 
 -- Where packets that ask were counted, an acknowledgement is due or the timer is set; it was set
 -- only for such a packet.
@@ -108,6 +110,10 @@ apart_awaited f e is i = apart_leaves (λ (x : End). AsksAnew e.acknowledging x.
     still : {p : Pending} → AsksAnew e.acknowledging p → e.closing.state ≡ states.Open → AckComes p e.timers.max_ack_delay
     still {p = p} anew opened = anew_comes e.acknowledging p e.timers.max_ack_delay anew (i opened)
 
+-- what waits is as it was
+still_comes : (e : End) → IsAwaited e → {p : Pending} → p ≡ e.acknowledging → e.closing.state ≡ states.Open → AckComes p e.timers.max_ack_delay
+still_comes e i same opened = subst (λ (q : Pending). AckComes q e.timers.max_ack_delay) (sym same) (i opened)
+
 receives : Receives IsAwaited
 receives = record {
   notes = λ n e i. i;
@@ -120,6 +126,7 @@ receives = record {
   asks_close = λ e i. i;
   exhausts = λ now e i. closed_awaited reasons.KeyLimit (with_closing e (ticked e.closing now));
   draws = λ words e i. i;
+  moves = λ p o remote e i. by_migrated (λ (x : End). x.acknowledging ≡ e.acknowledging → IsAwaited x) p o remote e (λ c. still_comes e i) (λ c most. still_comes e i) (moved_acks p o remote e);
 }
 
 -- ---- a poll
@@ -176,9 +183,7 @@ call_awaited p e theirs call a i = by_plain_call p e theirs IsAwaited call a cas
     cases_keep (cases.hears arrival d) may = by_received IsAwaited receives p e arrival d i
     cases_keep (cases.closes reason f now) may = λ opened. cc
     cases_keep (cases.waits now b) may = by_waits IsAwaited b (with_closing e (ticked e.closing now)) (λ opened. cc) i
-    cases_keep (cases.changes_id b) may =
-        let comes : (p : Pending) → p ≡ e.acknowledging → e.closing.state ≡ states.Open → AckComes p e.timers.max_ack_delay = λ p same opened. subst (λ (q : Pending). AckComes q e.timers.max_ack_delay) (sym same) (i opened) in
-        by_next_id (λ (x : End). x.acknowledging ≡ e.acknowledging → IsAwaited x) e b (λ same. i) (λ c same. comes (with_apart e c).acknowledging same) (λ c most same. comes (with_apart e c).acknowledging same) (next_acks e b)
+    cases_keep (cases.changes_id b) may = by_next_id (λ (x : End). x.acknowledging ≡ e.acknowledging → IsAwaited x) e b (λ same. i) (λ c. still_comes e i) (λ c most. still_comes e i) (next_acks e b)
     cases_keep c may = i
 
 -- ---- a run
@@ -198,5 +203,6 @@ pub acks_awaited_run : (k : Policies) (w end : World) (events : List RunEvent) (
 acks_awaited_run k w end events told views s f = run_keeps IsAwaited (record {
   call = call_awaited;
   shows = λ window blocked e i. i;
+  paces = λ pacing e i. i;
   stops = λ e next is opened. let clash : states.Failed ≡ states.Open = sym is.0 ∙ opened in cc;
 }) k w end events told views f (starts_awaited w s)

@@ -1,6 +1,6 @@
 -- Where an end rests, what was written there has arrived: each duty waits, is under way or has
 -- come, and nothing waits nor is under way.
-use Rattle.std.proofs.Common.{◌≡◌, ℕ, List, [], ◌∷◌, map, true, false, refl, sym, ap, ◌∙◌, inl, inr}
+use Rattle.std.proofs.Common.{◌≡◌, ℕ, List, [], ◌∷◌, map, true, false, refl, sym, ap, ◌∙◌, inl, inr, arith}
 use Rattle.std.specs.List.{list_any}
 use Rattle.std.proofs.lemmas.Bool.{or_parts}
 use Rattle.quic_wire_core.specs.declared.stream_id.Side.{Side}
@@ -13,10 +13,9 @@ use Rattle.quic_headline.specs.Runs.{Run, In, AreServed, until}
 use Rattle.quic_headline.specs.Observer.{Sent, took, sents_until, watch}
 use Rattle.quic_headline.specs.InFlight.{all_offsets, waited_for, but_for_record}
 use Rattle.quic_headline.specs.Headline.{IsHonest, IsRun}
-use Rattle.quic_headline.specs.InUse.{in_use}
 use Rattle.quic_headline.specs.Duties.{Duty, Offset, Fin, IsOwed, AnyIn, StandsIn, IsCarried, HasCome, IsSomewhere}
 use Rattle.quic_headline.specs.Rest.{Rests, HaveRoom, HasNothingLeft, DeliveredAtRest}
-use Rattle.quic_headline.proofs.Places.Theorems.{tracks_in_flight, duties_stand}
+use Rattle.quic_headline.proofs.Places.Theorems.{tracks_in_flight, duties_hold}
 use Rattle.quic_headline.proofs.Places.Placed.{Placed, placed}
 use Rattle.quic_headline.proofs.Places.Everything as everything
 use Rattle.quic_headline.proofs.Places.Theorems.{ready}
@@ -93,8 +92,8 @@ module _ (r : Run) (end : World) (honest : IsHonest r) (run : IsRun r end) (side
       none_in duty own p none stands = absurd own
 
   -- so it has come
-  has_come : (duty : Duty) → OfStream duty → IsOwed (in_use r side i) (end_at side w) (sents_until r side i) (until r side i) duty → HasCome (took r (other_side side) i) (until r side i) duty
-  has_come duty own owed = go duty own (duties_stand r end honest run i w served place.leads side duty owed)
+  has_come : (duty : Duty) → OfStream duty → IsOwed 0 (end_at side w) (sents_until r side i) (until r side i) duty → HasCome (took r (other_side side) i) (until r side i) duty
+  has_come duty own owed = go duty own (duties_hold r end honest run i w served place.leads side 0 (omega arith) duty owed)
     where
       go : (duty : Duty) → OfStream duty → IsSomewhere (end_at side w) (sents_until r side i) (took r (other_side side) i) (until r side i) duty → HasCome (took r (other_side side) i) (until r side i) duty
       go duty own (inl there) = (let clash : true ≡ false = sym there.queued ∙ left.nothing_waits in cc)

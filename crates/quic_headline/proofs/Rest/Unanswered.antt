@@ -24,7 +24,11 @@ use Rattle.quic_headline.specs.Moments.{acknowledges}
 use Rattle.quic_headline.specs.Rest.{Unanswered, asking_among, unanswered_told, none_unanswered}
 use Rattle.quic_headline.proofs.Packets.Invariant.{AreTracked, Acks}
 use Rattle.quic_headline.proofs.Packets.Intakes.{folded_more}
-use Rattle.quic_headline.proofs.Packets.Delivered.{Arrivals, arrived, with_taken}
+use Rattle.quic_headline.proofs.Packets.Delivered.{frames_at, among_at, Arrivals, arrived, with_taken}
+use Rattle.quic_headline.proofs.Packets.Moving.{moved_acks}
+use Rattle.quic_packet.specs.Datagram.{Opening}
+use Rattle.quic_machine.specs.Policy.{Policy}
+use Rattle.quic_machine.specs.Migration.{migrated}
 use Rattle.quic_headline.proofs.Packets.Watching.{none_new, one_new}
 use Rattle.quic_headline.proofs.Packets.Stays.{keeps_frames}
 use Rattle.quic_headline.proofs.Packets.Acking.{packet_runs, runs_step}
@@ -81,7 +85,7 @@ asking_one q p i = go (list_any asks q.frames) refl i
     go true is (inr none) = absurd none
     go false is none = absurd none
 
-module _ (e : End) (now n : ℕ) (frames : List FrameValue) (i : Intake) (sents : List Sent) (ps : List Packet) (tracked : AreTracked sents e.tracking.packets) (acks : Acks e.acknowledging e.marks.came) where
+module _ (e : End) (now n : ℕ) (frames : List FrameValue) (here : Bool) (i : Intake) (sents : List Sent) (ps : List Packet) (tracked : AreTracked sents e.tracking.packets) (acks : Acks e.acknowledging e.marks.came) where
   -- the packet that comes, what was taken with it, and the end behind its frames
   abbrev packet : Packet
   packet = record { number = n; frames = frames }
@@ -89,8 +93,12 @@ module _ (e : End) (now n : ℕ) (frames : List FrameValue) (i : Intake) (sents 
   abbrev taken : List Packet
   taken = packet ∷ i.took
 
+  -- of these are taken
+  abbrev fs : List FrameValue
+  fs = frames_at here frames
+
   abbrev left : End
-  left = (arrived e now n frames).end
+  left = (arrived e now n fs).end
 
   -- the end once it is taken, with a mark or with none
   abbrev due : Bool → Pending
@@ -100,14 +108,17 @@ module _ (e : End) (now n : ℕ) (frames : List FrameValue) (i : Intake) (sents 
   after words urged mark = drawn words (after_taken n (asks_in (map Ok frames)) urged mark left)
 
   runs : AreRuns left.acknowledging.runs
-  runs = ((keeps_frames frames (begun e now n)).acks acks).runs.runs
+  runs = ((keeps_frames fs (begun e now n)).acks acks).runs.runs
 
-  named_here : (a : AckValue) (k : ℕ) → In (ack a) frames → names a k ≡ true → IsNamed taken k
-  named_here a k among named = record { packet = packet; was_taken = inl refl; frame = a; carried = among; named = named }
+  named_here : (a : AckValue) (k : ℕ) → In (ack a) fs → names a k ≡ true → IsNamed taken k
+  named_here a k among named = record { packet = packet; was_taken = inl refl; frame = a; carried = stands a among; named = named }
+    where
+      stands : (a : AckValue) → In (ack a) fs → In (ack a) frames
+      stands a among = among_at (λ (f : FrameValue). ack a ≡ f → In (ack a) frames) (λ is. cc) here frames (λ f there is. subst (λ (g : FrameValue). In g frames) (sym is) there) (ack a) among refl
 
   -- what was reached is so behind the frames, or known
   passed_on : (number : ℕ) → IsReached sents i.took number e.acknowledging.runs → IsReached sents taken number left.acknowledging.runs
-  passed_on number was = frames_reached sents taken number frames named_here (begun e now n) tracked
+  passed_on number was = frames_reached sents taken number fs named_here (begun e now n) tracked
       (elim was [ inl known ↦ inl (known_on sents sents i.took taken number (λ s j. j) (λ p j. inr j) known) | inr reached ↦ inr reached ])
 
   after_runs : (words : ℕ → ℕ) (urged : Bool) (mark : Option EcnCodepoint) → (after words urged mark).acknowledging.runs ≡ at_most (with_one left.acknowledging.runs n)
@@ -126,7 +137,7 @@ module _ (e : End) (now n : ℕ) (frames : List FrameValue) (i : Intake) (sents 
   -- one that was owed before
   older : (words : ℕ → ℕ) (urged : Bool) (mark : Option EcnCodepoint) (p : Packet) → Owes sents i.took e p.number → Owes sents taken (after words urged mark) p.number
   older words urged mark p owes = record {
-    counted = (counts words urged mark).1 (subst (λ (k : ℕ). 0 < k) (sym (frames_acks frames (begun e now n)).asking) owes.counted);
+    counted = (counts words urged mark).1 (subst (λ (k : ℕ). 0 < k) (sym (frames_acks fs (begun e now n)).asking) owes.counted);
     reached = elim (passed_on p.number owes.reached) [
       | inl known ↦ inl known
       | inr reached ↦ inr (subst (λ (rs : List Run). Reaches rs p.number) (sym (after_runs words urged mark)) (more_reached n p.number left.acknowledging.runs runs reached))
@@ -142,12 +153,20 @@ module _ (e : End) (now n : ℕ) (frames : List FrameValue) (i : Intake) (sents 
         | inr old ↦ older words urged mark p (owes p old)
       ]
 
+  -- a change of the path leaves what is to be acknowledged
+  moved_owes : (p : Policy) (o : Opening) (remote : ℕ) (x : End) (number : ℕ) → Owes sents taken x number → Owes sents taken (migrated p o remote x) number
+  moved_owes p o remote x number owes = (let same = moved_acks p o remote x in record {
+    counted = subst (λ (q : Pending). 0 < q.asking) (sym same) owes.counted;
+    reached = subst (λ (q : Pending). IsReached sents taken number q.runs) (sym same) owes.reached;
+  })
+
   -- each case of a delivery
-  arrivals_owe : (e.closing.state ≡ states.Open → OwesAll sents i.took e ps) → Arrivals e now n frames i (λ (o : Outcome) (j : Intake). OwesMore sents i ps o.end j)
+  arrivals_owe : (e.closing.state ≡ states.Open → OwesAll sents i.took e ps) → Arrivals e now n frames fs i (λ (o : Outcome) (j : Intake). OwesMore sents i ps o.end j)
   arrivals_owe owes = record {
     ignored = λ reason opened. none_more sents i ps e (owes opened) opened;
     noted = λ state reason opened. absurd (let clash : states.Closing ≡ states.Open = sym state ∙ opened in cc);
     takes = λ words state new none urged mark opened. taken_owes words urged mark (owes state);
+    moves = λ p o spells remote x opened h still q among. moved_owes p o remote x q.number (h opened q among);
     drains = λ words state new close is opened. absurd cc;
     refuses = λ words state new f is opened. absurd cc;
     exhausts = λ state opened. absurd cc;
@@ -159,7 +178,7 @@ call_owes : (x y : Party) (call : Call) (a : Answer) → Calls Observed x y call
 call_owes x y call a c ps none owes = by_coming x y a c.joined c.served (meets y x c.takes.0) (OwesMore x.sents (came_to x y) ps) call c.answer (record {
   apart = λ apart opened. none_more x.sents (came_to x y) ps (after_call x.policy x.end y.given call a) (apart_owes apart (was_open x.policy x.end y.given call a opened)) opened;
   none = λ delivery is opened. none_more x.sents (came_to x y) ps x.end (owes opened) opened;
-  comes = λ delivery is s among. arrivals_owe x.end delivery.now s.number s.frames (came_to x y) x.sents ps c.gives.0.tracked c.takes.0.acks owes;
+  comes = λ delivery is s among here. arrivals_owe x.end delivery.now s.number s.frames here (came_to x y) x.sents ps c.gives.0.tracked c.takes.0.acks owes;
 })
   where
     apart_owes : is_delivery call ≡ false → x.end.closing.state ≡ states.Open → OwesAll x.sents (came_to x y).took (after_call x.policy x.end y.given call a) ps
@@ -176,7 +195,7 @@ call_owes x y call a c ps none owes = by_coming x y a c.joined c.served (meets y
 
 -- what the observer of x knows that isn't answered
 abbrev pub unanswered_of : Party → Party → Unanswered
-unanswered_of x y = folded (unanswered_told (lens x y)) x.told (none_unanswered (first_watch x.final x.began x.initial_rtt x.initial_delay))
+unanswered_of x y = folded (unanswered_told (lens x y)) x.told (none_unanswered (first_watch x.final x.began x.made.path.remote x.initial_rtt x.initial_delay))
 
 -- the watch within it is the observer's
 pub same_watch : (l : Lens) (told : List Told) (u : Unanswered) → (folded (unanswered_told l) told u).watch ≡ folded (watch_told l) told u.watch
@@ -189,13 +208,13 @@ module _ (x y : Party) (call : Call) (a : Answer) (c : Calls Observed x y call a
   before = unanswered_of x y
 
   pub watch_within : before.watch ≡ watch_of x y
-  watch_within = same_watch (lens x y) x.told (none_unanswered (first_watch x.final x.began x.initial_rtt x.initial_delay))
+  watch_within = same_watch (lens x y) x.told (none_unanswered (first_watch x.final x.began x.made.path.remote x.initial_rtt x.initial_delay))
 
   -- what isn't answered behind a call: an ACK frame that goes ends it
   pub packets_told : (unanswered_of (called x y.given call a) y).packets ≡ (if acknowledges (sents_by x.policy x.end call a) then [] else asking_among (news (came_to x y) (came_to (called x y.given call a) y)) ++ before.packets)
   packets_told =
       let after : Watch = watch_behind x y call a c before.watch watch_within in
-      ap (λ (v : Unanswered). v.packets) (folded_more (unanswered_told (lens x y)) x.told (told_of call a x.end.closing.state) (none_unanswered (first_watch x.final x.began x.initial_rtt x.initial_delay)))
+      ap (λ (v : Unanswered). v.packets) (folded_more (unanswered_told (lens x y)) x.told (told_of call a x.end.closing.state) (none_unanswered (first_watch x.final x.began x.made.path.remote x.initial_rtt x.initial_delay)))
       ∙ ap (λ (ss : List Sent). if acknowledges ss then [] else asking_among (news before.watch.intake after.intake) ++ before.packets) (went_behind x y call a c before.watch watch_within)
       ∙ ap (λ (j : Intake). if acknowledges (sents_by x.policy x.end call a) then [] else asking_among (news j after.intake) ++ before.packets) (came_before x y call a c before.watch watch_within)
       ∙ ap (λ (j : Intake). if acknowledges (sents_by x.policy x.end call a) then [] else asking_among (news (came_to x y) j) ++ before.packets) (came_behind x y call a c before.watch watch_within)

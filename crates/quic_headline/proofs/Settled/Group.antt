@@ -43,14 +43,14 @@ use Rattle.quic_machine.specs.FrameCases.{begun, apart_leaves}
 use Rattle.quic_machine.specs.declared.answers.Event.{Event}
 use Rattle.quic_machine.specs.Steps as steps
 use Rattle.quic_headline.specs.Runs.{Told, Packet, Intake, In, and_told, finish_told_by, finishes_told}
-use Rattle.quic_headline.specs.Observer.{Sent, HoldsOffset, HoldsEnd, Watch}
+use Rattle.quic_headline.specs.Observer.{Sent, HoldsOffset, HoldsEnd, Watch, Flight}
 use Rattle.quic_headline.specs.InFlight.{all_offsets}
 use Rattle.quic_headline.proofs.Packets.Apart.{by_waits, by_next_id}
 use Rattle.quic_headline.proofs.Packets.Invariant.{IsSent, AreTracked, WereSent, carried_stream}
 use Rattle.quic_headline.proofs.Packets.Growth.{step_of}
 use Rattle.quic_headline.proofs.Packets.Carried.{carried_same}
-use Rattle.quic_headline.proofs.Packets.Delivered.{Arrivals, arrived, with_taken}
-use Rattle.quic_headline.proofs.Packets.Named.{WasCarried, SettlesOn, frames_settle}
+use Rattle.quic_headline.proofs.Packets.Delivered.{Arrivals, arrived, with_taken, frames_at, among_at}
+use Rattle.quic_headline.proofs.Packets.Named.{WasCarried, SettlesOn, frames_settle, NamesTaken}
 use Rattle.quic_headline.proofs.Packets.Losses.{Losing, expiry_stays}
 use Rattle.quic_headline.proofs.Packets.Waited.{IsWaited, AreWaited, waited_there}
 use Rattle.quic_headline.proofs.Packets.Flying.{Waits, held, Loses, Flies, frames_fly, ticked_waits, numbers_wait}
@@ -79,6 +79,9 @@ use Rattle.quic_headline.proofs.Settled.Acked.{telling, KnowsAcked}
 use Rattle.quic_headline.proofs.Settled.Words.{Settling, is_reset, settling_calls, settling_frame}
 use Rattle.quic_headline.proofs.Settled.Carried.{known_of, waited_offsets, MetaSent, sents_settle, reset_holds, lost_holds, acked_holds}
 use Rattle.quic_headline.proofs.Settled.Sends.{poll_settles_nothing, poll_settles}
+use Rattle.quic_headline.proofs.Packets.Moved.{by_migrated}
+use Rattle.quic_headline.proofs.Packets.Strays.{acks_at}
+use Rattle.quic_headline.proofs.Packets.Routed.{flight_at}
 
 -- ---- where the same was done and told
 
@@ -320,32 +323,44 @@ module _ (B : Way) (b : SettlesOver B) (x y : Party) (call : Call) (a : Answer) 
   done_then : (q : ℕ) → wrote (x.told ++ told_of call a x.end.closing.state ∷ []) q ≡ done_by call a (wrote x.told) q
   done_then q = b.spoken.done x y call a c q
 
-  small : (d : Sent) → In d y.sents → (f : FrameValue) → In f d.frames → IsSmallLimit f
-  small d among = let spelled = step_of (IsSent y.policy) y.sents y.given d takes.gives.each among in payload_small d.frames spelled.1.payload spelled.1.spells
+  small : (d : Sent) → In d y.sents → (here : Bool) (f : FrameValue) → In f (frames_at here d.frames) → IsSmallLimit f
+  small d among here = let spelled = step_of (IsSent y.policy) y.sents y.given d takes.gives.each among in among_at IsSmallLimit tt here d.frames (payload_small d.frames spelled.1.payload spelled.1.spells)
 
   -- each case of a delivery, whether the packet is taken or refused
-  always_arrives : (now : ℕ) (d : Sent) → In d y.sents → Arrivals x.end now d.number d.frames (came_to x y) (λ (o : Outcome) (i : Intake). Always (told_so x) (wrote x.told) o.end)
-  always_arrives now d among = record { ignored = λ reason. s.always; noted = λ state reason. s.always; takes = λ words state new none urged mark. after; drains = λ words state new close is. after; refuses = λ words state new f is. after; exhausts = λ state. s.always }
+  always_arrives : (now : ℕ) (d : Sent) → In d y.sents → (here : Bool) → Arrivals x.end now d.number d.frames (frames_at here d.frames) (came_to x y) (λ (o : Outcome) (i : Intake). Always (told_so x) (wrote x.told) o.end)
+  always_arrives now d among here = record {
+    ignored = λ reason. s.always;
+    noted = λ state reason. s.always;
+    takes = λ words state new none urged mark. after;
+    moves = λ p o same remote z opened j. by_migrated (Always (told_so x) (wrote x.told)) p o remote z (λ c. j) (λ c most. j);
+    drains = λ words state new close is. after;
+    refuses = λ words state new f is. after;
+    exhausts = λ state. s.always;
+  }
     where
       took : List Packet
       took = (came_to y x).took
 
-      after : Always (told_so x) (wrote x.told) (arrived x.end now d.number d.frames).end
-      after = frames_settle took x.sents (record { taken = gives.taken; rising = gives.gives.rising }) d.frames (Always (told_so x) (wrote x.told)) (record {
+      taken : List FrameValue
+      taken = frames_at here d.frames
+
+      after : Always (told_so x) (wrote x.told) (arrived x.end now d.number taken).end
+      after = frames_settle took x.sents (record { taken = gives.taken; rising = gives.gives.rising }) taken (Always (told_so x) (wrote x.told)) (record {
         settles = always_settles took x.sents (told_so x) (wrote x.told) says gives.taken;
         names = λ ak e i j. j;
-        on_streams = λ f e i on j. settling_frame Any AnyEnd nothing_known (told_so x) (wrote x.told) f e on (small d among f i) j;
+        on_streams = λ f e i on j. settling_frame Any AnyEnd nothing_known (told_so x) (wrote x.told) f e on (small d among here f i) j;
         message = λ m e j. j;
         apart = λ f e i apart j. apart_leaves (Always (told_so x) (wrote x.told)) f e apart (λ c. j) (λ c most. j);
-      }) (begun x.end now d.number) (λ ak i k named. takes.named d ak k among i named) gives.tracked s.always
+      }) (begun x.end now d.number) (acks_at (NamesTaken took) here d.frames (λ ak i k named. takes.named d ak k among i named)) gives.tracked s.always
 
   -- of an open end
-  still_arrives : (delivery : Delivery) → call ≡ calls.Deliver delivery → (d : Sent) → In d y.sents
-      → Arrivals x.end delivery.now d.number d.frames (came_to x y) (λ (o : Outcome) (i : Intake). o.end.closing.state ≡ states.Open → Open x.sents (wrote x.told) (told_so x) (acked_with x.terms x.end.closing.state call (watch_of x y) i) o.end)
-  still_arrives delivery is d among = record {
+  still_arrives : (delivery : Delivery) → call ≡ calls.Deliver delivery → (d : Sent) → In d y.sents → (here : Bool)
+      → Arrivals x.end delivery.now d.number d.frames (frames_at here d.frames) (came_to x y) (λ (o : Outcome) (i : Intake). o.end.closing.state ≡ states.Open → Open x.sents (wrote x.told) (told_so x) (acked_with x.terms x.end.closing.state call (watch_of x y) i) o.end)
+  still_arrives delivery is d among here = record {
     ignored = λ reason still. before still;
     noted = λ state reason still. (let clash : states.Closing ≡ states.Open = sym state ∙ still in cc);
     takes = λ words state new none urged mark still. taken state none;
+    moves = λ p o same remote z opened j still. by_migrated (Open x.sents (wrote x.told) (told_so x) (acked_with x.terms x.end.closing.state call (watch_of x y) (with_taken (came_to x y) d.number d.frames))) p o remote z (λ c. j opened) (λ c most. j opened);
     drains = λ words state new close is still. cc;
     refuses = λ words state new f is still. cc;
     exhausts = λ state still. cc;
@@ -354,24 +369,27 @@ module _ (B : Way) (b : SettlesOver B) (x y : Party) (call : Call) (a : Answer) 
       before : x.end.closing.state ≡ states.Open → Open x.sents (wrote x.told) (told_so x) (acked_with x.terms x.end.closing.state call (watch_of x y) (came_to x y)) x.end
       before still = subst (λ (acked : List Sent). Open x.sents (wrote x.told) (told_so x) acked x.end) (sym (acked_here x y call)) (s.still still)
 
-      taken : x.end.closing.state ≡ states.Open → (arrived x.end delivery.now d.number d.frames).fault ≡ None
-          → Open x.sents (wrote x.told) (told_so x) (acked_with x.terms x.end.closing.state call (watch_of x y) (with_taken (came_to x y) d.number d.frames)) (arrived x.end delivery.now d.number d.frames).end
+      came : List FrameValue
+      came = frames_at here d.frames
+
+      taken : x.end.closing.state ≡ states.Open → (arrived x.end delivery.now d.number came).fault ≡ None
+          → Open x.sents (wrote x.told) (told_so x) (acked_with x.terms x.end.closing.state call (watch_of x y) (with_taken (came_to x y) d.number d.frames)) (arrived x.end delivery.now d.number came).end
       taken opened none =
           let w : Watch = watch_of x y in
           let now : ℕ = max w.clock delivery.now in
           let waits : Waits x.terms w.clock w.flight (held x.end) = (b.sight x y c.gives).watched.flight opened in
           let numbers : Numbers = number_opened x.end.numbers d.number in
           let begins : Waits x.terms now w.flight (held (begun x.end delivery.now d.number)) = ticked_waits x.terms w.clock delivery.now w.flight (record (held x.end) { numbers = numbers }) (numbers_wait x.terms w.clock w.flight (held x.end) numbers refl waits) in
-          let all = frames_fly x.terms now d.frames (λ flying acked e. AllSent x.sents flying × Open x.sents (wrote x.told) (told_so x) acked e) (open_flies x.sents (wrote x.told) says (told_so x) d.frames (small d among)) w.flight (begun x.end delivery.now d.number) none
+          let all = frames_fly x.terms now came (λ flying acked e. AllSent x.sents flying × Open x.sents (wrote x.told) (told_so x) acked e) (open_flies x.sents (wrote x.told) says (told_so x) came (small d among here)) w.flight (begun x.end delivery.now d.number) none
           (record { waits = begins; holds = (flying_sent x.sents w.flight.flying x.end.tracking.packets waits.tells.waits gives.tracked, s.still opened) }) in
-          subst (λ (acked : List Sent). Open x.sents (wrote x.told) (told_so x) acked (arrived x.end delivery.now d.number d.frames).end) (sym (acked_then x y call delivery is opened d.number d.frames)) all.holds.1
+          subst (λ (acked : List Sent). Open x.sents (wrote x.told) (told_so x) acked (arrived x.end delivery.now d.number came).end) (sym (acked_then x y call delivery is opened d.number d.frames ∙ ap (λ (f : Flight). f.acked) (sym (flight_at x.terms now here d.frames w.flight)))) all.holds.1
 
   -- a delivery
   always_delivered : (delivery : Delivery) → call ≡ calls.Deliver delivery → Always (told_so x) (wrote x.told) (called x y.given call a).end
   always_delivered delivery is = by_coming x y a c.joined c.served (meets y x takes) (λ (e : End) (i : Intake). Always (told_so x) (wrote x.told) e) call c.answer (record {
     apart = λ apart. (let clash : true ≡ false = sym (ap is_delivery is) ∙ apart in cc);
     none = λ other same. s.always;
-    comes = λ other same d among. always_arrives other.now d among;
+    comes = λ other same d among here. always_arrives other.now d among here;
   })
 
   still_delivered : (delivery : Delivery) → call ≡ calls.Deliver delivery → (called x y.given call a).end.closing.state ≡ states.Open
@@ -379,7 +397,7 @@ module _ (B : Way) (b : SettlesOver B) (x y : Party) (call : Call) (a : Answer) 
   still_delivered delivery is = by_coming x y a c.joined c.served (meets y x takes) (λ (e : End) (i : Intake). e.closing.state ≡ states.Open → Open x.sents (wrote x.told) (told_so x) (acked_with x.terms x.end.closing.state call (watch_of x y) i) e) call c.answer (record {
     apart = λ apart. (let clash : true ≡ false = sym (ap is_delivery is) ∙ apart in cc);
     none = λ other same still. subst (λ (acked : List Sent). Open x.sents (wrote x.told) (told_so x) acked x.end) (sym (acked_here x y call)) (s.still still);
-    comes = λ other same d among. still_arrives other same d among;
+    comes = λ other same d among here. still_arrives other same d among here;
   })
 
   -- what is known of any other call, whatever is known

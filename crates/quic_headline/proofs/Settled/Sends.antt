@@ -155,7 +155,7 @@ nothing_goes = record {
 
 -- a datagram that isn't whole yet, behind those that were sent
 abbrev drafted : List FrameValue → Sent
-drafted fs = record { id = []; number = 0; reference = 0; frames = fs; moment = 0; size = 0 }
+drafted fs = record { id = []; number = 0; reference = 0; frames = fs; moment = 0; size = 0; generation = 0 }
 
 no_stream : (f : FrameValue) (g : StreamValue) → IsNoStream f → stream g ≡ f → ⊥
 no_stream f g is same = subst IsNoStream (sym same) is

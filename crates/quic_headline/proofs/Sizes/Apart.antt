@@ -31,6 +31,7 @@ use Rattle.quic_headline.proofs.Packets.Sizes.{Searching, received_size, expired
 use Rattle.quic_headline.proofs.Packets.Group.{PacketsHold}
 use Rattle.quic_headline.proofs.Places.Parties.{Party}
 use Rattle.quic_headline.proofs.Places.Groups.{Way, Group}
+use Rattle.quic_headline.proofs.Packets.Moved.{by_migrated}
 
 -- the last probe of a search is above the low bound, unless it came through, or none went
 abbrev Steps : Option Search → Type 0
@@ -235,7 +236,7 @@ apart_call least most p e theirs call a sized i = by_plain_call p e theirs (λ (
     keep : Plain p e call (λ (x : End). IsApart x.path.discovery)
     keep (cases.times now expiry) may = expired_size (λ s. IsApart s.discovery) searching p.words e now expiry i
     keep (cases.polls now) may = (polled_search (λ (d : Discovery). IsSized least most d × IsApart d) (λ moment number d h. (sized_polled least most moment number d h.0, apart_polled least most moment number d h.0 h.1)) p e now (sized, i)).1
-    keep (cases.hears arrival d) may = received_size (λ s. IsApart s.discovery) searching (λ f x is j. apart_leaves (λ (y : End). IsApart y.path.discovery) f x is (λ c. j) (λ c longest. j)) p e arrival d i
+    keep (cases.hears arrival d) may = received_size (λ s. IsApart s.discovery) searching (λ f x is j. apart_leaves (λ (y : End). IsApart y.path.discovery) f x is (λ c. j) (λ c longest. j)) (λ q o remote x j. by_migrated (λ (y : End). IsApart y.path.discovery) q o remote x (λ c. j) (λ c longest. j)) p e arrival d i
     keep (cases.waits now b) may = by_waits (λ (x : End). IsApart x.path.discovery) b (with_closing e (ticked e.closing now)) i i
     keep (cases.changes_id b) may = by_next_id (λ (x : End). IsApart x.path.discovery) e b i (λ c. i) (λ c longest. i)
     keep c may = i

@@ -1,6 +1,6 @@
 -- From one view of an open end to the next its size stays, grows to that of a probe that is
 -- acknowledged between them, or falls to the least that is configured.
-use Rattle.std.proofs.Common.{◌≡◌, ◌⊎◌, ℕ, zero, suc, ◌<◌, ◌≤◌, max, List, [], ◌∷◌, take, true, false, Option, Some, None, inl, inr, refl, sym, ap, ◌∙◌, subst, arith}
+use Rattle.std.proofs.Common.{◌≡◌, ◌⊎◌, ℕ, zero, suc, ◌<◌, ◌≤◌, max, List, [], ◌∷◌, take, Bool, true, false, Option, Some, None, inl, inr, refl, sym, ap, ◌∙◌, subst, arith}
 use Rattle.std.specs.Prelude.{slice_get}
 use Rattle.std.proofs.lemmas.Bool.{cases_lt}
 use Rattle.quic_wire_core.specs.declared.stream_id.Side.{Side}
@@ -29,7 +29,8 @@ use Rattle.quic_machine.specs.CallCases as cases
 use Rattle.quic_machine.specs.LeaveCases.{at_expiry, by_expired}
 use Rattle.quic_machine.specs.FrameCases.{begun}
 use Rattle.quic_headline.specs.Runs.{Run, Intake, In, state_in, LeadsTo, AreServed}
-use Rattle.quic_headline.specs.Observer.{Sent, Watch}
+use Rattle.quic_wire.specs.Value.{FrameValue, ack}
+use Rattle.quic_headline.specs.Observer.{Sent, Terms, Flight, after_ack, after_frames, Watch}
 use Rattle.quic_headline.specs.Headline.{IsHonest, IsRun}
 use Rattle.quic_headline.specs.Polls.{mtu_in, IsMade}
 use Rattle.quic_headline.specs.Sizes.{WasProbed, SizesMove}
@@ -37,7 +38,8 @@ use Rattle.quic_headline.proofs.Packets.Acked.{acked_with, acks_behind, acked_th
 use Rattle.quic_headline.proofs.Packets.Apart.{by_waits, by_next_id}
 use Rattle.quic_headline.proofs.Packets.Searches.{losses_search}
 use Rattle.quic_headline.proofs.Packets.Sizes.{polled_search}
-use Rattle.quic_headline.proofs.Packets.Delivered.{Arrivals, arrived, with_taken}
+use Rattle.quic_headline.proofs.Packets.Delivered.{frames_at, Arrivals, arrived, with_taken}
+use Rattle.quic_headline.proofs.Packets.Moved.{by_migrated}
 use Rattle.quic_headline.proofs.Packets.Flying.{Waits, held, frames_fly, ticked_waits, numbers_wait}
 use Rattle.quic_headline.proofs.Packets.Group.{PacketsHold, meets}
 use Rattle.quic_headline.proofs.Packets.Sight.{Sight}
@@ -48,7 +50,7 @@ use Rattle.quic_headline.proofs.Places.Moments.{last_view, state_shown}
 use Rattle.quic_headline.proofs.Places.Placed.{party_at, placed}
 use Rattle.quic_headline.proofs.Timers.Quiet.{Unnamed}
 use Rattle.quic_headline.proofs.Held.Behind.{last_step}
-use Rattle.quic_headline.proofs.Steps.Made.{made_served, made_end, served_before, calling, CallHolds, call_holds}
+use Rattle.quic_headline.proofs.Steps.Made.{made_served, left_at, made_end, served_before, calling, CallHolds, call_holds}
 use Rattle.quic_headline.proofs.Steps.Resized.{reads_search, size_there}
 use Rattle.quic_headline.proofs.Sizes.Search.{lost_falls}
 use Rattle.quic_headline.proofs.Sizes.Probed.{KnowsSearch}
@@ -84,6 +86,13 @@ moves_first x y sight search quiet opened = record { inside = λ s among. among;
   where
     own : (s : Sent) → In s (watch_of x y).flight.flying → In s x.sents
     own s among = subst (λ (ss : List Sent). In s ss) sight.own (quiet.quiet.own s among)
+
+-- frames of path validation acknowledge nothing
+after_stray : (t : Terms) (now : ℕ) (here : Bool) (fs : List FrameValue) (f : Flight) → after_frames t now (frames_at here fs) f ≡ after_frames t now fs f
+after_stray t now true fs f = refl
+after_stray t now false [] f = refl
+after_stray t now false (ack a ∷ fs) f = after_stray t now false fs (after_ack t now a f)
+after_stray t now false (g ∷ fs) f = after_stray t now false fs f
 
 -- ---- calls that take no packet
 
@@ -160,38 +169,43 @@ module _ (G : Way) (g : Group Nothing G) (packets : (x y : Party) → G x y → 
     abbrev After : End → Intake → Type 0
     After e j = e.closing.state ≡ states.Open → HasMoved flew (acked_with x.terms x.end.closing.state delivers seen j) least x.end.path.discovery.size e.path.discovery
 
-    arrives : (s : Sent) → Arrivals x.end delivery.now s.number s.frames (came_to x y) (λ (o : Outcome) (j : Intake). After o.end j)
-    arrives s = record {
+    arrives : (here : Bool) (s : Sent) → Arrivals x.end delivery.now s.number s.frames (frames_at here s.frames) (came_to x y) (λ (o : Outcome) (j : Intake). After o.end j)
+    arrives here s = record {
       ignored = λ reason still. inl refl;
       noted = λ state reason still. (let clash : states.Closing ≡ states.Open = sym state ∙ still in cc);
       takes = λ words state new none urged mark still. taken state none;
+      moves = λ p o spells remote z opened h. by_migrated (λ (e : End). After e (with_taken (came_to x y) s.number s.frames)) p o remote z (λ c. h) (λ c most. h);
       drains = λ words state new close is still. cc;
       refuses = λ words state new f is still. cc;
       exhausts = λ state still. cc;
     }
       where
-        taken : x.end.closing.state ≡ states.Open → (arrived x.end delivery.now s.number s.frames).fault ≡ None
-            → HasMoved flew (acked_with x.terms x.end.closing.state delivers seen (with_taken (came_to x y) s.number s.frames)) least x.end.path.discovery.size (arrived x.end delivery.now s.number s.frames).end.path.discovery
+        fs : List FrameValue
+        fs = frames_at here s.frames
+
+        taken : x.end.closing.state ≡ states.Open → (arrived x.end delivery.now s.number fs).fault ≡ None
+            → HasMoved flew (acked_with x.terms x.end.closing.state delivers seen (with_taken (came_to x y) s.number s.frames)) least x.end.path.discovery.size (arrived x.end delivery.now s.number fs).end.path.discovery
         taken state none =
             let now : ℕ = max seen.clock delivery.now in
             let waits : Waits x.terms seen.clock seen.flight (held x.end) = (sight x y h.gives).watched.flight state in
             let numbers : Numbers = number_opened x.end.numbers s.number in
             let starts : Waits x.terms now seen.flight (held (begun x.end delivery.now s.number)) = ticked_waits x.terms seen.clock delivery.now seen.flight (record (held x.end) { numbers = numbers }) (numbers_wait x.terms seen.clock seen.flight (held x.end) numbers refl waits) in
-            let all = frames_fly x.terms now s.frames (Moves flew least x.end.path.discovery.size) (moving_flies flew least x.end.path.discovery.size s.frames) seen.flight (begun x.end delivery.now s.number) none (record { waits = starts; holds = begins }) in
-            subst (λ (acked : List Sent). HasMoved flew acked least x.end.path.discovery.size (arrived x.end delivery.now s.number s.frames).end.path.discovery) (sym (acked_then x y delivers delivery refl state s.number s.frames)) all.holds.moved
+            let all = frames_fly x.terms now fs (Moves flew least x.end.path.discovery.size) (moving_flies flew least x.end.path.discovery.size fs) seen.flight (begun x.end delivery.now s.number) none (record { waits = starts; holds = begins }) in
+            subst (λ (acked : List Sent). HasMoved flew acked least x.end.path.discovery.size (arrived x.end delivery.now s.number fs).end.path.discovery)
+            (sym (acked_then x y delivers delivery refl state s.number s.frames ∙ ap (λ (f : Flight). f.acked) (sym (after_stray x.terms now here s.frames seen.flight)))) all.holds.moved
 
     delivered : After (called x y.given delivers a).end (came_to (called x y.given delivers a) y)
     delivered = by_coming x y a h.joined (made_served r i side delivers a w next m) (meets y x (packets y x h.takes)) After delivers m.step.answer (record {
       apart = λ apart. cc;
       none = λ other same still. inl refl;
-      comes = λ other same s among. (let is : delivery ≡ other = cc in subst (λ (d : Delivery). Arrivals x.end d.now s.number s.frames (came_to x y) (λ (o : Outcome) (j : Intake). After o.end j)) is (arrives s));
+      comes = λ other same s among here. (let is : delivery ≡ other = cc in subst (λ (d : Delivery). Arrivals x.end d.now s.number s.frames (frames_at here s.frames) (came_to x y) (λ (o : Outcome) (j : Intake). After o.end j)) is (arrives here s));
     })
 
     -- what the run's observer knows
     pub moved : (end_at side next).closing.state ≡ states.Open → ((end_at side next).path.discovery.size ≡ (end_at side w).path.discovery.size)
         ⊎ (((end_at side next).path.discovery.size ≡ least) ⊎ (((end_at side w).path.discovery.size ≤ (end_at side next).path.discovery.size) × WasProbed r side i (end_at side next).path.discovery.size))
     moved still =
-        let left : end_at side next ≡ (called x y.given delivers a).end = made_end r i side delivers a w next m in
+        let left : end_at side next ≡ left_at r side w delivers a = made_end r i side delivers a w next m in
         subst (λ (e : End). (e.path.discovery.size ≡ x.end.path.discovery.size) ⊎ ((e.path.discovery.size ≡ least) ⊎ ((x.end.path.discovery.size ≤ e.path.discovery.size) × WasProbed r side i e.path.discovery.size))) (sym left)
         (go (called x y.given delivers a).end.path.discovery (delivered (sym (ap (λ (e : End). e.closing.state) left) ∙ still)))
       where
@@ -233,7 +247,7 @@ module _ (G : Way) (g : Group Nothing G) (packets : (x y : Party) → G x y → 
       let e : End = end_at side w in
       let read : End = reads_window (control_at side w) (heard_at side w) call e in
       let p : Policy = policy_at side r.keys in
-      let left : end_at side next ≡ after_call p read (given_by (other_side side) w) call a = made_end r i side call a w next m in
+      let left : end_at side next ≡ left_at r side w call a = made_end r i side call a w next m in
       let same : read.path.discovery ≡ e.path.discovery = reads_search (control_at side w) (heard_at side w) call e in
       let least = (falls_to i side w (served_before r.answers i m.served) m.leads).0 in
       let size : (end_at side next).path.discovery.size ≡ (after_call p read (given_by (other_side side) w) call a).path.discovery.size = ap (λ (x : End). x.path.discovery.size) left in

@@ -45,6 +45,7 @@ use Rattle.quic_headline.proofs.Timers.Still.{was_open}
 use Rattle.quic_headline.proofs.Steps.Probes.{begun}
 use Rattle.quic_headline.proofs.Steps.Probing.{IsProbing, probe_goes, probe_size}
 use Rattle.quic_headline.proofs.Sizes.Search.{Fewer, acked_fewer, lost_fewer, polled_fewer, acked_least, lost_least_stays}
+use Rattle.quic_headline.proofs.Packets.Moved.{by_migrated}
 
 -- each of these that is the open probe is such, and has its size
 abbrev pub Probes : List Sent → Discovery → Type 0
@@ -79,7 +80,7 @@ call_fewer p e theirs call a silent = by_plain_call p e theirs (λ (x : End). Fe
     keep : Plain p e call (λ (x : End). Fewer e.path.discovery x.path.discovery)
     keep (cases.times now expiry) may = expired_size (λ s. Fewer e.path.discovery s.discovery) (searching e.path.discovery) p.words e now expiry still
     keep (cases.polls now) is = (let clash : true ≡ false = sym is ∙ silent in cc)
-    keep (cases.hears arrival d) may = received_size (λ s. Fewer e.path.discovery s.discovery) (searching e.path.discovery) (λ f x is i. apart_leaves (λ (y : End). Fewer e.path.discovery y.path.discovery) f x is (λ c. i) (λ c most. i)) p e arrival d still
+    keep (cases.hears arrival d) may = received_size (λ s. Fewer e.path.discovery s.discovery) (searching e.path.discovery) (λ f x is i. apart_leaves (λ (y : End). Fewer e.path.discovery y.path.discovery) f x is (λ c. i) (λ c most. i)) (λ q o remote x i. by_migrated (λ (y : End). Fewer e.path.discovery y.path.discovery) q o remote x (λ c. i) (λ c most. i)) p e arrival d still
     keep (cases.closes reason f now) may = still
     keep (cases.waits now b) may = by_waits (λ (x : End). Fewer e.path.discovery x.path.discovery) b (with_closing e (ticked e.closing now)) still still
     keep (cases.changes_id a) may = by_next_id (λ (x : End). Fewer e.path.discovery x.path.discovery) e a still (λ c. still) (λ c most. still)
@@ -257,7 +258,7 @@ call_floor p e theirs call a least i = by_plain_call p e theirs (λ (x : End). x
     cases_keep : Plain p e call (λ (x : End). x.path.discovery.bursts.least ≡ least)
     cases_keep (cases.times now expiry) may = expired_size (λ s. s.discovery.bursts.least ≡ least) (falling least) p.words e now expiry i
     cases_keep (cases.polls now) may = polled_search (λ (d : Discovery). d.bursts.least ≡ least) (λ moment number d same. same) p e now i
-    cases_keep (cases.hears arrival d) may = received_size (λ s. s.discovery.bursts.least ≡ least) (falling least) (λ f x is i. apart_leaves (λ (y : End). y.path.discovery.bursts.least ≡ least) f x is (λ c. i) (λ c most. i)) p e arrival d i
+    cases_keep (cases.hears arrival d) may = received_size (λ s. s.discovery.bursts.least ≡ least) (falling least) (λ f x is i. apart_leaves (λ (y : End). y.path.discovery.bursts.least ≡ least) f x is (λ c. i) (λ c most. i)) (λ q o remote x i. by_migrated (λ (y : End). y.path.discovery.bursts.least ≡ least) q o remote x (λ c. i) (λ c most. i)) p e arrival d i
     cases_keep (cases.closes reason f now) may = i
     cases_keep (cases.waits now b) may = by_waits (λ (x : End). x.path.discovery.bursts.least ≡ least) b (with_closing e (ticked e.closing now)) i i
     cases_keep (cases.changes_id a) may = by_next_id (λ (x : End). x.path.discovery.bursts.least ≡ least) e a i (λ c. i) (λ c most. i)

@@ -1,12 +1,17 @@
 -- At each place of an honest run the pacer of an open end is that which the run's lists say; and so
 -- polls hold to it.
-use Rattle.std.proofs.Common.{◌≡◌, ℕ, zero, suc, ◌<◌, ◌≤◌, true, false, ◌||◌, List, [], ◌∷◌, length, Option, Some, None, refl, sym, ap, ◌∙◌, ◌⊎◌, inl, inr, arith}
-use Rattle.std.specs.Prelude.{slice_get}
+use Rattle.std.proofs.Common.{◌≡◌, ℕ, suc, ◌<◌, ◌≤◌, Bool, true, false, not, ◌==◌, ◌||◌, List, [], ◌∷◌, length, Option, Some, None, refl, sym, ap, ◌∙◌, subst, ◌⊎◌, inl, inr, arith}
+use Rattle.std.specs.Prelude.{slice_get, if◌then◌else◌}
+use Rattle.std.proofs.lemmas.Bool.{both_ways, eq-eqb}
+use Rattle.std.proofs.lemmas.List.{append-nil}
 use Rattle.std.proofs.lemmas.Option.{slice_get_within}
 use Rattle.quic_wire_core.specs.declared.stream_id.Side.{Side}
 use Rattle.quic_wire_core.specs.declared.stream_id.Side.TheVariants.{Client, Server}
 use Rattle.quic_wire_core.specs.StreamId.{other_side}
-use Rattle.quic_congestion.specs.Pacer.{Pacing, Ask, pacing_after}
+use Rattle.quic_time.specs.Rtt.{Rtt, best_rtt}
+use Rattle.quic_congestion.specs.Congestion.{Told}
+use Rattle.quic_congestion.specs.Pacer.{Pacing, Ask, new_pacing, pacing_after}
+use Rattle.quic_congestion.specs.Pacer as pacer
 use Rattle.quic_machine.specs.declared.answers.State.TheVariants as states
 use Rattle.quic_machine.specs.declared.run.RunEvent.{RunEvent}
 use Rattle.quic_machine.specs.declared.run.Call.{Call}
@@ -17,48 +22,53 @@ use Rattle.quic_machine.specs.declared.run.EndView.{EndView}
 use Rattle.quic_machine.specs.declared.run.View.{View}
 use Rattle.quic_machine.specs.Policy.{Policy}
 use Rattle.quic_machine.specs.Closing.{ticked}
+use Rattle.quic_machine.specs.Parts.{current_mtu}
 use Rattle.quic_machine.specs.End.{End, with_closing}
+use Rattle.quic_machine.specs.Control.{Control, after_told}
+use Rattle.quic_machine.specs.Migration.{has_moved, pacing_moved}
 use Rattle.quic_machine.specs.Timeouts.{loss_judged}
 use Rattle.quic_machine.specs.Poll.{message_waits, polled}
 use Rattle.quic_machine.specs.FrameCases.{Settling, Receives, named, acked_keeps, losses_keep, frame_keeps, frame_leaves, by_received, apart_leaves}
 use Rattle.quic_machine.specs.Steps as steps
-use Rattle.quic_machine.specs.CallCases.{Plain, is_poll, by_plain_call}
+use Rattle.quic_machine.specs.CallCases.{Plain, is_poll, is_delivery, by_plain_call}
 use Rattle.quic_machine.specs.CallCases as cases
-use Rattle.quic_machine.specs.Machine.{World, after_call, end_at, given_by, policy_at, gave}
+use Rattle.quic_machine.specs.Machine.{World, IsStep, IsTold, reads_window, pacing_left, after_call, tells, end_at, control_at, heard_at, given_by, policy_at, gave}
 use Rattle.quic_machine.specs.RunLaws.{as_many_views}
 use Rattle.quic_machine.specs.LeaveCases.{by_timers, Expired}
 use Rattle.quic_machine.specs.LeaveCases as expiring
-use Rattle.quic_headline.specs.Runs.{Run, In, same_side, LeadsTo, AreServed}
-use Rattle.quic_headline.specs.Observer.{Watch, watch}
+use Rattle.quic_headline.specs.Runs.{Run, In, same_side, folded, until, given_of, LeadsTo, AreServed}
+use Rattle.quic_headline.specs.Runs as runs
+use Rattle.quic_headline.specs.Observer.{terms_of, Watch, watch_from, watch, watch_told, lens_of, has_changed, path_changes}
 use Rattle.quic_headline.specs.Headline.{IsHonest, IsRun}
-use Rattle.quic_headline.specs.Polls.{pacing_timer, seen_of, seen_at, pacing_at, pacer_names, IsMade, GaveNothing, GaveAsking, IsFull, IsHeldBack, IsLimited, IsToGo, IsSizeProbe}
-use Rattle.quic_headline.specs.Telling.{bytes_asking}
+use Rattle.quic_headline.specs.Polls.{bytes_on, pacing_timer, seen_of, seen_at, pacing_at, pacer_names, IsMade, GaveNothing, GaveAsking, IsFull, IsHeldBack, IsLimited, IsToGo, IsSizeProbe}
 use Rattle.quic_headline.specs.Waited.{Wants, wants}
 use Rattle.quic_headline.proofs.Packets.Quiet.{HaveHeardNothing}
-use Rattle.quic_headline.specs.Spread.{gone_at, names_for, paces_by, paces_in, paces_at, pacer_at, named_at, HoldsToPacer, HoldsBy, SearchesApart, PacerIsOfHistory}
+use Rattle.quic_headline.specs.Spread.{gone_at, names_for, paces_by, paces_in, paces_at, pacer_anew, pacer_at, named_at, HoldsToPacer, HoldsBy, SearchesApart, PacerIsOfHistory}
 use Rattle.quic_headline.proofs.Packets.Apart.{by_waits, by_next_id}
+use Rattle.quic_headline.proofs.Packets.Moved.{by_migrated}
+use Rattle.quic_headline.proofs.Packets.Flying.{Waits, held}
 use Rattle.quic_headline.proofs.Packets.Group.{has_room}
 use Rattle.quic_headline.proofs.Places.Parties.{sent_by, sent_if, sents_by, Party, watch_of, with_shown, shown_at}
 use Rattle.quic_headline.proofs.Places.Groups.{Way, Nothing, And, Group, both, beside, over}
 use Rattle.quic_headline.proofs.Places.Moments.{last_seen}
-use Rattle.quic_headline.proofs.Places.Placed.{party_at}
+use Rattle.quic_headline.proofs.Places.Placed.{party_at, Placed, placed, watch_is}
 use Rattle.quic_headline.proofs.Places.Steps.{poll_answer}
 use Rattle.quic_headline.proofs.Places.Together.{Spells}
 use Rattle.quic_headline.proofs.Places.Everything as everything
 use Rattle.quic_headline.proofs.Places.Theorems.{ready, asking_goes_where_let}
 use Rattle.quic_headline.proofs.Halves.Ready.{Ready}
 use Rattle.quic_headline.proofs.Halves.Joined.{streams_spell}
-use Rattle.quic_headline.proofs.Held.Behind.{last_step}
 use Rattle.quic_headline.proofs.Held.Flight.{bytes_of_end}
 use Rattle.quic_headline.proofs.Held.Messages.{AreShort, short_group, short_waits}
 use Rattle.quic_headline.proofs.Held.Clause.{polls_send_what_waits}
 use Rattle.quic_headline.proofs.Messages.Lists.{waiting_is}
 use Rattle.quic_headline.proofs.Rest.Between.{step_leaves}
 use Rattle.quic_headline.proofs.Sizes.Apart.{ProbesApart, apart_group}
-use Rattle.quic_headline.proofs.Sizes.Moves.{did_there}
-use Rattle.quic_headline.proofs.Steps.Made.{served_before, made_served, made_end, MadeAt, made_at, polling, PollHolds, poll_holds, observed_poll, sents_more}
+use Rattle.quic_headline.proofs.Steps.Made.{served_before, one_behind, made_served, left_at, made_end, reads_state, reads_either, MadeAt, made_at, polling, PollHolds, poll_holds, observed_poll, sents_more}
+use Rattle.quic_headline.proofs.Steps.Along.{stands_within, view_there, along}
+use Rattle.quic_headline.proofs.Moves.Route.{changes_at}
+use Rattle.quic_headline.proofs.Moves.Kept.{apart_stays}
 use Rattle.quic_headline.proofs.Steps.Pacing.{names_shown, pacer_sets_its_timer}
-use Rattle.quic_headline.proofs.Tellings.Clause.{view_before}
 use Rattle.quic_headline.proofs.Timers.Still.{was_open}
 use Rattle.quic_headline.proofs.Timers.Watched.{Observed, went_is, timers_behind, open_behind}
 use Rattle.quic_headline.proofs.Waited.Group.{wants_of, Wanting, wanting_group}
@@ -93,6 +103,7 @@ receives_same e = record {
   asks_close = λ x i. i;
   exhausts = λ now x i. i;
   draws = λ words x i. i;
+  moves = λ p o remote x i. by_migrated (SamePacer e) p o remote x (λ c. i) (λ c most. i);
 }
 
 judged_same : (e : End) (moment : Option ℕ) (x : End) → SamePacer e x → SamePacer e (loss_judged moment x)
@@ -114,6 +125,15 @@ pacer_stays p e theirs call a other = by_plain_call p e theirs (SamePacer e) cal
     keep (cases.waits now b) may = by_waits (SamePacer e) b (with_closing e (ticked e.closing now)) refl refl
     keep (cases.changes_id a) may = by_next_id (SamePacer e) e a refl (λ c. refl) (λ c most. refl)
     keep c may = refl
+
+-- the pacer that a call leaves is made anew only where it leads to another path, as a delivery may
+pacing_stays : (window : ℕ) (call : Call) (before after : End) → has_moved before after ≡ false → pacing_left window call before after ≡ after.path.pacing
+pacing_stays window (calls.Deliver delivery) before after same = ap (λ (b : Bool). pacing_moved b window after) same
+pacing_stays window call before after same = refl
+
+pacing_anew : (window : ℕ) (call : Call) (before after : End) → has_moved before after ≡ true → is_delivery call ≡ true → pacing_left window call before after ≡ new_pacing (best_rtt after.path.rtt) window (current_mtu after.path) after.closing.clock
+pacing_anew window (calls.Deliver delivery) before after moved is = ap (λ (b : Bool). pacing_moved b window after) moved
+pacing_anew window call before after moved is = cc
 
 -- ---- what is known
 
@@ -186,7 +206,7 @@ module _ (r : Run) (end : World) (honest : IsHonest r) (run : IsRun r end) (quie
           probes = ap (λ (v : Watch). v.flight.probes) h.seen ∙ flight.probes;
           rtt = ap (λ (v : Watch). v.flight.rtt) h.seen ∙ flight.tells.rtt;
           clock = ap (λ (v : Watch). v.clock) h.seen ∙ flight.tells.clock;
-          flying = ap (λ (v : Watch). bytes_asking v.flight.flying) h.seen ∙ sym (bytes_of_end e (watch_of x y).flight.flying h.gives.0.0.0.1.watched.path flight.tells.waits);
+          flying = ap (λ (v : Watch). bytes_on v.route.generation v.flight.flying) h.seen ∙ sym (bytes_of_end e (watch_of x y).route.generation (watch_of x y).flight.flying h.gives.0.0.0.1.watched.path flight.tells.waits);
           messages = waiting_is r end honest run side i w within was_served m.leads;
           asked = λ set. h.gives.0.1.pinged opened (sym (ap (λ (v : Wants). v.pinged) wants_is) ∙ set);
           waits = λ set. ap (λ (v : Wants). v.pinged || v.probed) wants_is ∙ (h.gives.0.0.1.wanted opened).pinged set;
@@ -241,47 +261,147 @@ module _ (r : Run) (end : World) (honest : IsHonest r) (run : IsRun r end) (quie
   abbrev Paced : Side → ℕ → World → Type 0
   Paced side i w = (end_at side w).closing.state ≡ states.Open → (end_at side w).path.pacing ≡ pacer_at r side i
 
+  -- what the lists make of it by an event that leads nowhere else
+  abbrev stayed : Side → ℕ → Pacing
+  stayed side i = pacing_after (paces_at (slice_get r.events i) (slice_get r.views i) r side i) (pacer_at r side i)
+
   -- a call of its own
-  own_next : (side : Side) (call : Call) (a : Answer) (i : ℕ) (v : View) (w next : World) → SearchesApart r side → IsMade r i side call a w next → LeadsTo r (suc i) next → slice_get r.views i ≡ Some v → Paced side i w → (end_at side next).closing.state ≡ states.Open
-      → (end_at side next).path.pacing ≡ pacing_after (paces_by call r side i v) (pacer_at r side i)
-  own_next side (calls.Poll now) a i v w next apart m leads there before still =
-      let opened : (end_at side w).closing.state ≡ states.Open = was_open (policy_at side r.keys) (with_shown (end_at side w) (shown_at side w)) (given_by (other_side side) w) (calls.Poll now) a (sym (ap (λ (z : End). z.closing.state) (made_end r i side (calls.Poll now) a w next m)) ∙ still) in
-      poll_spread i side now a w next m opened apart v leads there still ∙ ap (λ (q : Pacing). pacing_after (paces_by (calls.Poll now) r side i v) q) (before opened)
-  own_next side call a i v w next apart m leads there before still =
-      let made : end_at side next ≡ after_call (policy_at side r.keys) (end_at side w) (given_by (other_side side) w) call a = made_end r i side call a w next m in
-      let opened : (end_at side w).closing.state ≡ states.Open = was_open (policy_at side r.keys) (end_at side w) (given_by (other_side side) w) call a (sym (ap (λ (z : End). z.closing.state) made) ∙ still) in
-      ap (λ (z : End). z.path.pacing) made ∙ pacer_stays (policy_at side r.keys) (end_at side w) (given_by (other_side side) w) call a refl ∙ before opened
+  module _ (side : Side) (i : ℕ) (call : Call) (a : Answer) (w next : World) (apart : SearchesApart r side) (m : IsMade r i side call a w next) (leads : LeadsTo r (suc i) next) (before : Paced side i w) (still : (end_at side next).closing.state ≡ states.Open) where
+    abbrev met : End
+    met = reads_window (control_at side w) (heard_at side w) call (end_at side w)
 
-  -- one call more, at either end
-  at_next : (side by : Side) (call : Call) (a : Answer) (i : ℕ) (v : View) (w next : World) → SearchesApart r side → IsMade r i by call a w next → LeadsTo r (suc i) next → slice_get r.views i ≡ Some v → Paced side i w → Paced side (suc i) next
-  at_next side by call a i v w next apart m leads there before still =
-      go side by call apart m before still
-      ∙ sym (ap (λ (o : Option RunEvent). pacing_after (paces_at o (slice_get r.views i) r side i) (pacer_at r side i)) m.at.event
-      ∙ ap (λ (o : Option View). pacing_after (paces_at (Some (record { side = by; call = call })) o r side i) (pacer_at r side i)) there)
+    abbrev behind : End
+    behind = after_call (policy_at side r.keys) met (given_by (other_side side) w) call a
+
+    abbrev window : ℕ
+    window = control_at side w (tells (policy_at side r.keys) met (given_by (other_side side) w) call)
+
+    made : end_at side next ≡ left_at r side w call a
+    made = made_end r i side call a w next m
+
+    pacing_is : (end_at side next).path.pacing ≡ pacing_left window call met behind
+    pacing_is = ap (λ (z : End). z.path.pacing) made
+
+    was : (end_at side w).closing.state ≡ states.Open
+    was = sym (reads_state (control_at side w) (heard_at side w) call (end_at side w)) ∙ was_open (policy_at side r.keys) met (given_by (other_side side) w) call a (sym (ap (λ (z : End). z.closing.state) made) ∙ still)
+
+    -- whether it leads elsewhere
+    changes : path_changes r side i ≡ has_moved met behind
+    changes =
+        changes_at r end honest run side i w next m.served m.leads leads
+        ∙ ap (λ (z : End). has_moved (end_at side w) z) made
+        ∙ ap (λ (g : ℕ). not (behind.path.generation == g)) (sym (reads_either (λ (z : End). z.path.generation ≡ (end_at side w).path.generation) (control_at side w) (heard_at side w) call (end_at side w) refl refl))
+
+    view : (v : View) × (slice_get r.views i ≡ Some v)
+    view = view_there r end run side i side call a w next m
+
+    -- what the lists make of it otherwise
+    stayed_is : stayed side i ≡ pacing_after (paces_by call r side i view.0) (pacer_at r side i)
+    stayed_is =
+        ap (λ (o : Option RunEvent). pacing_after (paces_at o (slice_get r.views i) r side i) (pacer_at r side i)) m.at.event
+        ∙ ap (λ (o : Option View). pacing_after (paces_at (Some (record { side = side; call = call })) o r side i) (pacer_at r side i)) view.1
+        ∙ ap (λ (b : Bool). pacing_after (paces_in b call r side i view.0) (pacer_at r side i)) (own side)
+      where
+        own : (s : Side) → same_side s s ≡ true
+        own Client = refl
+        own Server = refl
+
+    -- where it doesn't
+    here_next : has_moved met behind ≡ false → (end_at side next).path.pacing ≡ stayed side i
+    here_next same = by_call call refl ∙ sym stayed_is
+      where
+        by_call : (c : Call) → call ≡ c → (end_at side next).path.pacing ≡ pacing_after (paces_by call r side i view.0) (pacer_at r side i)
+        by_call (calls.Poll now) is =
+            subst (λ (c : Call). (end_at side next).path.pacing ≡ pacing_after (paces_by c r side i view.0) (pacer_at r side i)) (sym is)
+            (poll_spread i side now a w next (subst (λ (c : Call). IsMade r i side c a w next) is m) was apart view.0 leads view.1 still
+            ∙ ap (λ (q : Pacing). pacing_after (paces_by (calls.Poll now) r side i view.0) q) (before was))
+        by_call c is =
+            pacing_is
+            ∙ pacing_stays window call met behind same
+            ∙ ap (λ (k : Call). (after_call (policy_at side r.keys) (reads_window (control_at side w) (heard_at side w) k (end_at side w)) (given_by (other_side side) w) k a).path.pacing) is
+            ∙ pacer_stays (policy_at side r.keys) (end_at side w) (given_by (other_side side) w) c a refl
+            ∙ before was
+            ∙ sym (ap (λ (k : Call). pacing_after (paces_by k r side i view.0) (pacer_at r side i)) is)
+
+    -- and where it does
+    elsewhere_next : has_moved met behind ≡ true → (end_at side next).path.pacing ≡ pacer_anew r side (suc i)
+    elsewhere_next moved =
+        pacing_is
+        ∙ pacing_anew window call met behind moved (delivers (is_delivery call) refl)
+        ∙ ap (λ (q : Rtt). new_pacing (best_rtt q) window (current_mtu behind.path) behind.closing.clock) (sym rtt)
+        ∙ ap (λ (n : ℕ). new_pacing (best_rtt (watch r side (suc i)).flight.rtt) n (current_mtu behind.path) behind.closing.clock) (sym window_seen)
+        ∙ ap (λ (n : ℕ). new_pacing (best_rtt (watch r side (suc i)).flight.rtt) (seen_at r side (suc i)).window n behind.closing.clock) (sym size_seen)
+        ∙ ap (λ (n : ℕ). new_pacing (best_rtt (watch r side (suc i)).flight.rtt) (seen_at r side (suc i)).window (seen_at r side (suc i)).current_mtu n) (sym clock)
+      where
+        delivers : (b : Bool) → is_delivery call ≡ b → is_delivery call ≡ true
+        delivers true is = is
+        delivers false is = absurd (both_ways (has_moved met behind) (ap not (eq-eqb behind.path.generation met.path.generation (apart_stays (policy_at side r.keys) met (given_by (other_side side) w) call a is))) moved)
+
+        at : Placed Known r end side (suc i)
+        at = placed Known known r end honest run side (suc i) m.served
+
+        same : at.world ≡ next
+        same = one_behind r (suc i) at.world next m.served at.leads leads
+
+        flight : Waits (terms_of (end_at side r.start)) (watch r side (suc i)).clock (watch r side (suc i)).flight (held (end_at side next))
+        flight =
+            subst (λ (u : World). Waits (terms_of (end_at side r.start)) (watch r side (suc i)).clock (watch r side (suc i)).flight (held (end_at side u))) same
+            (subst (λ (v : Watch). Waits (terms_of (end_at side r.start)) v.clock v.flight (held (end_at side at.world))) (sym (watch_is r honest at.world (suc i) side at.sents at.theirs))
+            (at.gives.0.0.0.1.watched.flight (ap (λ (u : World). (end_at side u).closing.state) same ∙ still)))
+
+        rtt : (watch r side (suc i)).flight.rtt ≡ behind.path.rtt
+        rtt = flight.tells.rtt ∙ ap (λ (z : End). z.path.rtt) made
+
+        clock : (watch r side (suc i)).clock ≡ behind.closing.clock
+        clock = flight.tells.clock ∙ ap (λ (z : End). z.closing.clock) made
+
+        seen_next : seen_at r side (suc i) ≡ seen_of side next
+        seen_next = last_seen side r.keys (suc i) r.start next r.events r.answers r.views leads
+
+        control : control_at side next ≡ after_told (control_at side w) (tells (policy_at side r.keys) met (given_by (other_side side) w) call)
+        control = subst (λ (b : Bool). IsTold b (policy_at side r.keys) (control_at side w) (heard_at side w) (end_at side w) (given_by (other_side side) w) call (control_at side next)) (made_served r i side call a w next m) m.step.control
+
+        window_seen : (seen_at r side (suc i)).window ≡ window
+        window_seen = ap (λ (u : EndView). u.window) seen_next ∙ ap (λ (c : Control). c []) control ∙ ap (λ (ts : List Told). control_at side w ts) (append-nil (tells (policy_at side r.keys) met (given_by (other_side side) w) call))
+
+        size_seen : (seen_at r side (suc i)).current_mtu ≡ current_mtu behind.path
+        size_seen = ap (λ (u : EndView). u.current_mtu) seen_next ∙ ap (λ (z : End). current_mtu z.path) made
+
+    own_next : (end_at side next).path.pacing ≡ pacer_at r side (suc i)
+    own_next = go (has_moved met behind) refl
+      where
+        go : (b : Bool) → has_moved met behind ≡ b → (end_at side next).path.pacing ≡ pacer_at r side (suc i)
+        go true is = elsewhere_next is ∙ ap (λ (b : Bool). if b then pacer_anew r side (suc i) else stayed side i) (sym (changes ∙ is))
+        go false is = here_next is ∙ ap (λ (b : Bool). if b then pacer_anew r side (suc i) else stayed side i) (sym (changes ∙ is))
+
+  -- a call of the other end
+  other_next : (side : Side) (i : ℕ) (event : RunEvent) (a : Answer) (w next : World) → slice_get r.events i ≡ Some event → same_side event.side side ≡ false → IsStep r.keys w event a next → until r side (suc i) ≡ until r side i → Paced side i w → Paced side (suc i) next
+  other_next side i event a w next at other step told before still =
+      ap (λ (z : End). z.path.pacing) same ∙ before (sym (ap (λ (z : End). z.closing.state) same) ∙ still) ∙ sym unpaced ∙ ap (λ (b : Bool). if b then pacer_anew r side (suc i) else stayed side i) (sym stays)
     where
-      go : (side by : Side) (call : Call) → SearchesApart r side → IsMade r i by call a w next → Paced side i w → (end_at side next).closing.state ≡ states.Open
-          → (end_at side next).path.pacing ≡ pacing_after (paces_in (same_side by side) call r side i v) (pacer_at r side i)
-      go Client Client call apart m before still = own_next Client call a i v w next apart m leads there before still
-      go Server Server call apart m before still = own_next Server call a i v w next apart m leads there before still
-      go Client Server call apart m before still =
-          let stays : next.client ≡ w.client = (step_leaves Client r.keys w next (record { side = Server; call = call }) a refl m.step).end in
-          ap (λ (z : End). z.path.pacing) stays ∙ before (sym (ap (λ (z : End). z.closing.state) stays) ∙ still)
-      go Server Client call apart m before still =
-          let stays : next.server ≡ w.server = (step_leaves Server r.keys w next (record { side = Client; call = call }) a refl m.step).end in
-          ap (λ (z : End). z.path.pacing) stays ∙ before (sym (ap (λ (z : End). z.closing.state) stays) ∙ still)
+      same : end_at side next ≡ end_at side w
+      same = (step_leaves side r.keys w next event a other step).end
 
-  -- so it is at each place behind a view
-  behind : (i : ℕ) (side : Side) (v : View) (w : World) → SearchesApart r side → AreServed r (suc i) → slice_get r.views i ≡ Some v → LeadsTo r (suc i) w → ((u : World) → LeadsTo r i u → Paced side i u) → Paced side (suc i) w
-  behind i side v w apart served there leads before =
-      let did = did_there i r.keys r.start end r.events r.answers r.views v run.follows there in
-      let last = last_step r.keys i r.start w r.events r.answers r.views did.event did.answer did.at_event did.at_answer leads in
-      at_next side did.event.side did.event.call did.answer i v last.before w apart (record { at = record { event = did.at_event; answer = did.at_answer }; leads = last.leads; step = last.step; served = served }) leads there (before last.before last.leads)
+      none : (o : Option View) → paces_at (Some event) o r side i ≡ []
+      none None = refl
+      none (Some v) = ap (λ (b : Bool). paces_in b event.call r side i v) other
 
-  at_place : (i : ℕ) (side : Side) (v : View) (w : World) → SearchesApart r side → AreServed r i → slice_get r.views i ≡ Some v → LeadsTo r i w → Paced side i w
-  at_place zero side v w apart served there leads = λ opened. ap (λ (u : World). (end_at side u).path.pacing) leads
-  at_place (suc i) side v w apart served there leads =
-      let before = view_before i r.views v there in
-      behind i side before.0 w apart served before.1 leads (λ u leads_there. at_place i side before.0 u apart (served_before r.answers i served) before.1 leads_there)
+      unpaced : stayed side i ≡ pacer_at r side i
+      unpaced =
+          ap (λ (o : Option RunEvent). pacing_after (paces_at o (slice_get r.views i) r side i) (pacer_at r side i)) at
+          ∙ ap (λ (ps : List pacer.Call). pacing_after ps (pacer_at r side i)) (none (slice_get r.views i))
+
+      stays : path_changes r side i ≡ false
+      stays =
+          ap (λ (ts : List runs.Told). has_changed (watch r side i) (folded (watch_told (lens_of r side)) ts (watch_from (end_at side r.start) (given_of r side)))) told
+          ∙ ap not (eq-eqb (watch r side i).route.generation (watch r side i).route.generation refl)
+
+  at_place : (side : Side) (i : ℕ) (w : World) → SearchesApart r side → i ≤ length r.views → AreServed r i → LeadsTo r i w → Paced side i w
+  at_place side i w apart = along r end run side (Paced side) (record {
+    first = λ opened. refl;
+    own = λ j call a v next m leads before still. own_next side j call a v next apart m leads before still;
+    other = other_next side;
+  }) i w
 
   -- ---- the clause
 
@@ -291,7 +411,7 @@ module _ (r : Run) (end : World) (honest : IsHonest r) (run : IsRun r end) (quie
       let e : End = with_shown (end_at side w) (shown_at side w) in
       sym (names_shown side w now)
       ∙ names e now
-      ∙ ap (λ (q : Pacing). names_for q (ask e now)) (at_place i side v w apart (served_before r.answers i m.served) there m.leads opened)
+      ∙ ap (λ (q : Pacing). names_for q (ask e now)) (at_place side i w apart (stands_within r end run side i side (calls.Poll now) a w next m) (served_before r.answers i m.served) m.leads opened)
       ∙ ap (λ (x : Ask). names_for (pacer_at r side i) x) (sym (asked_alike r side i e now (knows i side now a w next m opened apart)))
 
   -- the timer in a view

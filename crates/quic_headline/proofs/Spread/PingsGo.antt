@@ -20,7 +20,6 @@ use Rattle.quic_headline.specs.Headline.{IsHonest, IsRun}
 use Rattle.quic_headline.specs.Polls.{GaveAsking, GaveNothing, IsHeldBack, IsLimited}
 use Rattle.quic_headline.specs.Waited.{is_ping, wants}
 use Rattle.quic_headline.specs.Pings.{PingsGo}
-use Rattle.quic_headline.proofs.Packets.Group.{PacketsHold}
 use Rattle.quic_headline.proofs.Packets.Quiet.{heard_nothing}
 use Rattle.quic_headline.proofs.Places.Parties.{with_shown, shown_at}
 use Rattle.quic_headline.proofs.Places.Groups.{Way, Nothing, And, Group, both, over}
@@ -90,7 +89,7 @@ module _ (r : Run) (end : World) (honest : IsHonest r) (run : IsRun r end) where
   is_held : (side : Side) (i now : ℕ) (v : View) → AreServed r (suc i) → GaveNothing r side i now v → (wants r side (suc i)).pinged ≡ true → IsHeldBack r side (suc i) v ⊎ IsLimited r side (suc i) v
   is_held side i now v served gave wanted =
       let at = place side (suc i) served in
-      held_or_blocked r end honest run (λ by j there. placed_less Known PacketsHold r end by j (λ x y h. h.0.0.0.0) (place by j there)) (heard_nothing r honest) side i now v at.world served at.leads gave
+      held_or_blocked r end honest run (λ by j there. placed_less Known Observed r end by j (λ x y h. (h.0.0.0.0, h.0.0.1)) (place by j there)) (heard_nothing r honest) side i now v at.world served at.leads gave
       (held_back Known (record { packets = λ x y h. h.0.0.0.0; sight = λ x y h. h.0.0.1 }) r end honest side i now v at gave (λ none. ping_asks (end_at side at.world) (at.gives.1.pinged (open_now r side i now v at.world at.leads gave) wanted)))
 
 pub pings_go : (r : Run) (end : World) → IsHonest r → IsRun r end → PingsGo r

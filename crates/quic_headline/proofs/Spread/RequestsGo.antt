@@ -45,6 +45,7 @@ use Rattle.quic_headline.proofs.Waited.Pings.{by_ping, ready_waiting}
 use Rattle.quic_headline.proofs.Requests.Asks.{by_of, is_anew, anew_is, anew_known}
 use Rattle.quic_headline.proofs.Requests.Group.{Counted, counted_group}
 use Rattle.quic_headline.proofs.Spread.Along.{Has, composed_has}
+use Rattle.quic_headline.proofs.Timers.Watched.{Observed}
 
 -- ---- what is composed
 
@@ -187,7 +188,7 @@ module _ (r : Run) (end : World) (honest : IsHonest r) (run : IsRun r end) where
   -- where a poll gives nothing, it waits behind it, and is held back
   is_held : (side : Side) (i now : ℕ) (v : View) → AreServed r (suc i) → GaveNothing r side i now v → wants_anew (asking_at r side) (watch r side i).own (watch r side i).flight ≡ true → IsHeldBack r side (suc i) v ⊎ IsLimited r side (suc i) v
   is_held side i now v served gave wanted =
-      held_or_blocked r end honest run (λ by j there. placed_less Known PacketsHold r end by j (λ x y h. h.0.0.0) (place by j there)) (heard_nothing r honest) side i now v at.world served at.leads gave
+      held_or_blocked r end honest run (λ by j there. placed_less Known Observed r end by j (λ x y h. (h.0.0.0, h.0.1)) (place by j there)) (heard_nothing r honest) side i now v at.world served at.leads gave
       (held_back Known (record { packets = λ x y h. h.0.0.0; sight = λ x y h. h.0.1 }) r end honest side i now v at gave (λ none. asks))
     where
       answer : Answer

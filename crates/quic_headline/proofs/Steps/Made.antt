@@ -15,7 +15,7 @@ use Rattle.quic_machine.specs.declared.run.Answer.{Answer}
 use Rattle.quic_machine.specs.declared.run.View.{View}
 use Rattle.quic_machine.specs.End.{End, with_window}
 use Rattle.quic_machine.specs.Control.{Control}
-use Rattle.quic_machine.specs.Machine.{World, Policies, IsLeft, IsStep, after_call, reads_window, gives, end_at, control_at, heard_at, given_by, policy_at, changed, fails, Follows}
+use Rattle.quic_machine.specs.Machine.{World, Policies, IsLeft, IsStep, reads_window, end_left, gives, end_at, control_at, heard_at, given_by, policy_at, changed, fails, Follows}
 use Rattle.quic_machine.specs.RunLaws.{one_world, one_run, as_many_views}
 use Rattle.quic_headline.specs.Runs.{Run, Told, In, given_of, told_by, told_at, until, ids_of, state_in, state_behind, state_at, AreServed, LeadsTo, folded}
 use Rattle.quic_headline.specs.Observer.{Sent, Watch, first_watch, watch_told, watch, sents_until}
@@ -35,7 +35,7 @@ use Rattle.quic_headline.proofs.Held.Behind.{last_step}
 -- ---- the answers of a run
 
 -- where the first so many were served, the last of them was
-served_at : (answers : List Answer) (i : ℕ) (a : Answer) → list_any fails (take (suc i) answers) ≡ false → slice_get answers i ≡ Some a → fails a ≡ false
+pub served_at : (answers : List Answer) (i : ℕ) (a : Answer) → list_any fails (take (suc i) answers) ≡ false → slice_get answers i ≡ Some a → fails a ≡ false
 served_at [] i a served is = cc
 served_at (b ∷ answers) zero a served is = let same : b ≡ a = cc in ap fails (sym same) ∙ (or_parts (fails b) false served).0
 served_at (b ∷ answers) (suc i) a served is = served_at answers i a (or_parts (fails b) (list_any fails (take (suc i) answers)) served).1 is
@@ -91,13 +91,17 @@ gives_all Server r end run = run.from_server
 
 -- ---- a call
 
+-- the end that it leaves: behind a delivery the pacer of another path is made anew
+abbrev pub left_at : Run → Side → World → Call → Answer → End
+left_at r side w call a = end_left (policy_at side r.keys) (control_at side w) (heard_at side w) (end_at side w) (given_by (other_side side) w) call a
+
 module _ (r : Run) (i : ℕ) (side : Side) (call : Call) (a : Answer) (w next : World) (m : IsMade r i side call a w next) where
   -- it was served
   pub made_served : fails a ≡ false
   made_served = served_at r.answers i a m.served m.at.answer
 
   -- the end as it leaves it
-  pub made_end : end_at side next ≡ after_call (policy_at side r.keys) (reads_window (control_at side w) (heard_at side w) call (end_at side w)) (given_by (other_side side) w) call a
+  pub made_end : end_at side next ≡ left_at r side w call a
   made_end = subst (λ (b : Bool). IsLeft b (policy_at side r.keys) (control_at side w) (heard_at side w) (end_at side w) (given_by (other_side side) w) call a (end_at side next)) made_served m.step.end
 
 -- ---- a call and what holds at it
@@ -137,7 +141,7 @@ whole G r i side call a w h = record {
 }
 
 -- that reads the window leaves the state
-reads_state : (control : Control) (heard : Heard) (call : Call) (e : End) → (reads_window control heard call e).closing.state ≡ e.closing.state
+pub reads_state : (control : Control) (heard : Heard) (call : Call) (e : End) → (reads_window control heard call e).closing.state ≡ e.closing.state
 reads_state control heard (calls.Poll now) e = refl
 reads_state control heard call e = refl
 
@@ -208,7 +212,7 @@ module _ (G : Way) (g : Group Nothing G) (r : Run) (end : World) (honest : IsHon
     behind_back = g.reader x y call a c gives_now takes_now;
     calls = c;
     seen = watch_is r honest w i side at.sents at.theirs;
-    seen_behind = watch_is r honest w (suc i) side at.sents at.theirs ∙ ap (λ (ts : List Told). folded (watch_told (lens x y)) ts (first_watch x.final x.began x.initial_rtt x.initial_delay)) told_more;
+    seen_behind = watch_is r honest w (suc i) side at.sents at.theirs ∙ ap (λ (ts : List Told). folded (watch_told (lens x y)) ts (first_watch x.final x.began x.made.path.remote x.initial_rtt x.initial_delay)) told_more;
   }
     where
       event : RunEvent

@@ -37,6 +37,7 @@ use Rattle.quic_machine.specs.declared.answers.LostReason.{LostReason}
 use Rattle.quic_headline.proofs.Places.Parties.{with_shown, shown_at}
 use Rattle.quic_headline.proofs.Packets.Closes.{closes_left}
 use Rattle.quic_headline.proofs.Packets.Apart.{by_waits, by_next_id}
+use Rattle.quic_headline.proofs.Packets.Moved.{by_migrated}
 
 -- the timer isn't set, or is set as this says
 abbrev Paces : Option ℕ → End → Type 0
@@ -129,6 +130,7 @@ module _ (o : Option ℕ) where
     asks_close = λ e i. i;
     exhausts = λ now e i. inl refl;
     draws = λ words e i. i;
+    moves = λ p m remote e i. by_migrated (Paces o) p m remote e (λ c. i) (λ c most. i);
   }
 
   -- losses that are judged leave it

@@ -35,7 +35,7 @@ use Rattle.quic_headline.specs.Runs.{Run, LeadsTo}
 use Rattle.std.specs.List.{list_any}
 use Rattle.quic_headline.specs.Observer.{Sent, asks_of, is_close, Watch, watch, sents_until}
 use Rattle.quic_headline.specs.Headline.{IsHonest, IsRun}
-use Rattle.quic_headline.specs.Polls.{bytes_flying, search_at, seen_of, seen_at, IsMade, GaveOne, IsSearched, IsSizeProbe}
+use Rattle.quic_headline.specs.Polls.{bytes_on, bytes_flying, search_at, seen_of, seen_at, IsMade, GaveOne, IsSearched, IsSizeProbe}
 use Rattle.quic_headline.specs.Waited.{IsCloseAlone}
 use Rattle.quic_headline.proofs.Packets.Probes.{by_going}
 use Rattle.quic_headline.proofs.Packets.Flying.{asking_padded}
@@ -49,7 +49,6 @@ use Rattle.quic_headline.proofs.Places.Groups.{Way, Nothing, And, Group}
 use Rattle.quic_headline.proofs.Places.Moments.{last_seen}
 use Rattle.quic_headline.proofs.Places.Placed.{party_at}
 use Rattle.quic_headline.proofs.Places.Steps.{poll_answer}
-use Rattle.quic_headline.specs.Telling.{bytes_asking}
 use Rattle.quic_headline.proofs.Held.Flight.{bytes_of_end}
 use Rattle.quic_headline.proofs.Steps.Made.{made_served, made_end, one_behind, served_before, polling, PollHolds, poll_holds, observed_poll, sents_more}
 use Rattle.quic_headline.proofs.Steps.Probes.{begun}
@@ -317,8 +316,8 @@ module _ (H : Way) (g : Group Nothing (And (And PacketsHold H) Sight)) (r : Run)
       -- the observer counts the bytes in flight as the end does
       pub flight : bytes_in_flight e ≡ bytes_flying r side i
       flight =
-          bytes_of_end e (watch_of x y).flight.flying h.gives.1.watched.path (h.gives.1.watched.flight gives.opened).tells.waits
-          ∙ ap (λ (v : Watch). bytes_asking v.flight.flying) (sym h.seen)
+          bytes_of_end e (watch_of x y).route.generation (watch_of x y).flight.flying h.gives.1.watched.path (h.gives.1.watched.flight gives.opened).tells.waits
+          ∙ ap (λ (v : Watch). bytes_on v.route.generation v.flight.flying) (sym h.seen)
 
       -- and the probes that wait
       pub probes : (watch r side i).flight.probes ≡ e.tracking.probes

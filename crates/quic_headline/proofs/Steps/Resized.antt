@@ -12,9 +12,7 @@ use Rattle.quic_wire.specs.Value.{FrameValue, AckValue, ack, datagram, new_conne
 use Rattle.quic_wire.specs.Items.{items}
 use Rattle.quic_wire.specs.declared.frame.InvalidFrame.{InvalidFrame}
 use Rattle.quic_packet.specs.Header.{key_phase, reserved_bits}
-use Rattle.quic_packet.specs.Destination.{decoded, fixed_length_id}
 use Rattle.quic_packet.specs.Datagram.{Opening}
-use Rattle.quic_packet.specs.declared.packet.HeaderError.{HeaderError}
 use Rattle.quic_messages.specs.declared.errors.ReceivedError.{ReceivedError}
 use Rattle.quic_messages.specs.Messages.{received_answer}
 use Rattle.quic_config.specs.declared.mtu_discovery.TheConstants.{MAX_UDP_PAYLOAD}
@@ -30,6 +28,7 @@ use Rattle.quic_spaces.specs.declared.space.EcnError.{EcnError}
 use Rattle.quic_time.specs.Clocks.{saturated}
 use Rattle.quic_machine.specs.declared.answers.State.{State}
 use Rattle.quic_machine.specs.declared.answers.State.TheVariants as states
+use Rattle.quic_machine.specs.declared.answers.DropReason.{DropReason}
 use Rattle.quic_machine.specs.declared.answers.DropReason.TheVariants as drops
 use Rattle.quic_machine.specs.declared.run.RunEvent.{RunEvent}
 use Rattle.quic_machine.specs.declared.run.Call.{Call}
@@ -39,15 +38,14 @@ use Rattle.quic_machine.specs.declared.run.View.{View}
 use Rattle.quic_machine.specs.Parts.{current_mtu}
 use Rattle.quic_machine.specs.Policy.{Policy}
 use Rattle.quic_machine.specs.Closing.{ticked}
-use Rattle.quic_machine.specs.Ids.{known}
-use Rattle.quic_machine.specs.Opens.{own_id_length}
+use Rattle.quic_machine.specs.Opens.{head}
 use Rattle.quic_machine.specs.Tracking.{TrackedPacket, lost_by, acked_by}
 use Rattle.quic_machine.specs.Arrival.{Arrival, early, delivered_by}
 use Rattle.quic_machine.specs.End.{End, with_closing, with_numbers}
 use Rattle.quic_machine.specs.Control.{Control, flies, told_sent, told_packet, told_acks_ended, last_sent}
 use Rattle.quic_machine.specs.Sizes.{is_resized, told_if_resized, told_size, with_acked, search_acked, told_packets, others_of, after_lost, is_persistent, told_congested, told_losses}
 use Rattle.quic_machine.specs.Acked.{packet_acked, packets_acked, losses_detected, after_named, verdict, told_detected, told_grown, told_taken, told_seen, told_marks, told_of_losses, told_named, told_acked, counts_answer, sampled, measured, without_acked, losses_taken, request_acked}
-use Rattle.quic_machine.specs.Receive.{Fault, violation, Progress, message_judged, take_frame, unless_fault, take_items, take_payload, ends_as, asks_in, is_urged, dropped, by_state, opened_to, opened_as, headed, received_in, is_above, names_ungiven, is_empty, take_item, told_ack, told_item, told_unless, told_items, told_payload, told_by_state, told_opened, told_opened_as, told_headed, told_received_in, opening, broke, too_many_pieces, closed_by_peer, unopened_in, is_read, drawn_if}
+use Rattle.quic_machine.specs.Receive.{Fault, violation, Progress, message_judged, take_frame, unless_fault, take_items, take_payload, ends_as, asks_in, is_urged, dropped, by_state, opened_to, opened_as, headed, received_in, is_above, names_ungiven, is_empty, take_item, told_ack, told_item, told_unless, told_items, told_payload, told_by_state, told_opened, told_opened_as, told_headed, told_received_in, opening, broke, too_many_pieces, closed_by_peer, unopened_in, is_read, drawn_if, with_ids_drawn, has_migrated, migrated_if, items_taken}
 use Rattle.quic_machine.specs.Poll.{Ready, polled, ready, goes, asking, datagram_size, draft_of, told_if, told_polled_in}
 use Rattle.quic_machine.specs.Poll as poll
 use Rattle.quic_machine.specs.End.{number_of}
@@ -70,6 +68,7 @@ use Rattle.quic_machine.specs.Heard.{Heard}
 use Rattle.quic_time.specs.Timers.{has_come}
 use Rattle.std.specs.Option.{is_none}
 use Rattle.quic_headline.proofs.Packets.Apart.{by_waits, by_next_id}
+use Rattle.quic_headline.proofs.Packets.Moved.{by_migrated}
 
 -- ---- what tells no size
 
@@ -296,8 +295,10 @@ ends_tell (Some too_many_pieces) asks urged n mark d ts e t = t
 by_state_tells : (s : State) (o : Opening) (arrival : Arrival) (e : End) → Tells e.path.discovery (told_by_state s o (early arrival) e) (by_state s o arrival e).end.path.discovery
 by_state_tells states.Open o arrival e =
     let begins : End = with_closing e (ticked e.closing arrival.now) in
-    let taken : Progress = take_payload o.first (items o.payload) begins in
-    ends_tell taken.fault (asks_in (items o.payload)) (is_urged arrival.mark (items o.payload) begins) o.number arrival.mark e.path.discovery (told_payload o.first (items o.payload) begins) taken.end (payload_tells o.first (items o.payload) begins)
+    let is : List (Result FrameValue InvalidFrame) = items_taken o arrival e in
+    let asks : Bool = asks_in (items o.payload) in
+    let taken : Progress = take_payload o.first is begins in
+    ends_tell taken.fault asks (is_urged arrival.mark asks is begins) o.number arrival.mark e.path.discovery (told_payload o.first is begins) taken.end (payload_tells o.first is begins)
 by_state_tells states.Closing o arrival e = still e.path.discovery [] tt
 by_state_tells states.Drained o arrival e = still e.path.discovery [] tt
 by_state_tells states.Failed o arrival e = still e.path.discovery [] tt
@@ -326,19 +327,27 @@ drawn_tells : (b : Bool) (p : Policy) (d : Discovery) (ts : List Told) (e : End)
 drawn_tells true p d ts e t = t
 drawn_tells false p d ts e t = t
 
+-- and so does another path
+moved_tells : (b : Bool) (p : Policy) (o : Opening) (remote : ℕ) (d : Discovery) (ts : List Told) (e : End) → Tells d ts e.path.discovery → Tells d ts (migrated_if b p o remote e).path.discovery
+moved_tells true p o remote d ts e t = by_migrated (λ (x : End). Tells d ts x.path.discovery) p o remote e (λ c. t) (λ c most. t)
+moved_tells false p o remote d ts e t = t
+
 opened_as_tells : (o : Option Opening) (p : Policy) (arrival : Arrival) (e : End) → Tells e.path.discovery (told_opened_as o (early arrival) e) (opened_as o p arrival e).end.path.discovery
 opened_as_tells None p arrival e = unopened_tells e.closing.state arrival.last arrival e
-opened_as_tells (Some o) p arrival e = drawn_tells (is_read (opened_to o arrival e).answer) p e.path.discovery (told_opened o (early arrival) e) (opened_to o arrival e).end (opened_tells o arrival e)
+opened_as_tells (Some o) p arrival e =
+    let out = with_ids_drawn p (opened_to o arrival e) in
+    moved_tells (has_migrated o arrival.remote e out) p o arrival.remote e.path.discovery (told_opened o (early arrival) e) out.end
+    (drawn_tells (is_read (opened_to o arrival e).answer) p e.path.discovery (told_opened o (early arrival) e) (opened_to o arrival e).end (opened_tells o arrival e))
 
-headed_tells : (r : Result (List ℕ) HeaderError) (p : Policy) (e : End) (arrival : Arrival) (d : List ℕ) → Tells e.path.discovery (told_headed r p e (early arrival) d) (headed r p e arrival d).end.path.discovery
+headed_tells : (r : Result (List ℕ) DropReason) (p : Policy) (e : End) (arrival : Arrival) (d : List ℕ) → Tells e.path.discovery (told_headed r p e (early arrival) d) (headed r p e arrival d).end.path.discovery
 headed_tells (Err error) p e arrival d = still e.path.discovery [] tt
 headed_tells (Ok id) p e arrival d = opened_as_tells (opening p e d) p arrival e
 
 received_tells : (s : State) (p : Policy) (e : End) (arrival : Arrival) (d : List ℕ) → Tells e.path.discovery (told_received_in s p e (early arrival) d) (received_in s p e arrival d).end.path.discovery
 received_tells states.Failed p e arrival d = still e.path.discovery [] tt
 received_tells states.Drained p e arrival d = still e.path.discovery [] tt
-received_tells states.Open p e arrival d = headed_tells (decoded (fixed_length_id own_id_length) (known e.ids) d) p e arrival d
-received_tells states.Closing p e arrival d = headed_tells (decoded (fixed_length_id own_id_length) (known e.ids) d) p e arrival d
+received_tells states.Open p e arrival d = headed_tells (head e arrival.remote d) p e arrival d
+received_tells states.Closing p e arrival d = headed_tells (head e arrival.remote d) p e arrival d
 
 delivered_tells : (p : Policy) (e : End) (arrival : Arrival) (o : Option (List ℕ)) → Tells e.path.discovery (told_delivered p e (early arrival) o) (after_delivered p e arrival o).path.discovery
 delivered_tells p e arrival None = still e.path.discovery [] tt

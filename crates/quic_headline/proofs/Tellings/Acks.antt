@@ -27,7 +27,8 @@ use Rattle.quic_machine.specs.Receive.{take_frame}
 use Rattle.quic_machine.specs.FrameCases.{packets_lost_keep, by_marks, named, frame_keeps, frame_leaves, apart_leaves}
 use Rattle.quic_headline.specs.Runs.{In}
 use Rattle.quic_headline.specs.Observer.{Sent, asks_of, Flight, latest, is_greatest}
-use Rattle.quic_headline.specs.Telling.{Judging, measured_first, told_if, IsPinged, MayProbe, bytes_asking, last_moment, TellsAcked, acked_flight, MayMark, TellsSettled, TellsNamed}
+use Rattle.quic_headline.specs.Polls.{bytes_on}
+use Rattle.quic_headline.specs.Telling.{Judging, measured_first, told_if, IsPinged, MayProbe, last_moment, TellsAcked, acked_flight, MayMark, TellsSettled, TellsNamed}
 use Rattle.quic_headline.proofs.Packets.Searches.{losses_searched}
 use Rattle.quic_headline.proofs.Packets.Waited.{IsWaited, AreWaited}
 use Rattle.quic_headline.proofs.Packets.Flying.{Held, Tells, held, losses_tell, acked_keep, acked_held, timed, counted, timed_tells}
@@ -162,9 +163,9 @@ pub record Setting : Type 0 where
 abbrev pub setting : End → Setting
 setting e = record { generation = e.path.generation; transport = e.transport; next = e.numbers.next; first = e.path.first_after_rtt; rtt = e.path.rtt; limited = e.path.app_limited }
 
--- They are on the first path, and as its losses are judged.
+-- They are on the path that is judged, and as its losses are judged.
 pub record IsJudged (j : Judging) (s : Setting) : Type 0 where
-  pub first : s.generation ≡ 0
+  pub path : s.generation ≡ j.generation
   pub settings : s.transport ≡ j.settings
   pub next : s.next ≡ j.next
   pub measured : s.first ≡ measured_first j.first j.next s.rtt.smoothed
@@ -208,7 +209,7 @@ timed_set j ps rises a e i = go (measured rises a ps)
         let x : End = sampled (Some p) a left in
         let sample = sample_smoothed left.path.rtt (told_delay left a) (left.closing.clock - p.time_sent) in
         record {
-          first = stays.first;
+          path = stays.path;
           settings = stays.settings;
           next = stays.next;
           measured =
@@ -254,13 +255,13 @@ module _ (j : Judging) (now : ℕ) (flew : List Sent) (before : ℕ) where
     each = told_packets e ps;
     acks = subst (λ (b : Bool). TellsAcked j.settings.min_mtu now (is_some e.validation.challenge) b f.rtt ss (told_packets e ps)) set.limited (subst (λ (r : Rtt). TellsAcked j.settings.min_mtu now (is_some e.validation.challenge) e.path.app_limited r ss (told_packets e ps)) (sym w.rtt) (acked_told j.settings.min_mtu now (is_some e.validation.challenge) ss ps e w.clock (none_is e.validation.challenge) acked moves.sized (λ s i size shown. moves.probes s (moves.inside s (inside s i)) size shown)));
     lost = told_detected true x;
-    losses = losses_told j now true (acked_flight j.terms now a ss others f) x told (timed_set j ps rises a e set).first (timed_set j ps rises a e set).settings measured after.floor (λ s i size shown. may_probe j.settings.min_mtu x.path.discovery s after.sized size shown (after.probes s (after.inside s i) size shown));
+    losses = losses_told j now true (acked_flight j.terms now a ss others f) x told (timed_set j ps rises a e set).path (timed_set j ps rises a e set).settings measured after.floor (λ s i size shown. may_probe j.settings.min_mtu x.path.discovery s after.sized size shown (after.probes s (after.inside s i) size shown));
     marks = marked.0;
     counts = marked.1;
     is =
         ap (λ (ts : List Told). ts ++ told_marks rises ps a (losses_taken ps rises a e)) (append_assoc (told_packets e ps) (told_acks_ended left) (told_detected true x))
         ∙ ap (λ (y : Told). told_packets e ps ++ y ∷ told_detected true x ++ told_marks rises ps a (losses_taken ps rises a e)) ended
-        ∙ ap (λ (ts : List Told). told_packets e ps ++ AcksEnded now (min (bytes_asking others) latest) j.limited (Some (greatest_of f.named a.largest)) ∷ told_detected true x ++ ts) marked.2;
+        ∙ ap (λ (ts : List Told). told_packets e ps ++ AcksEnded now (min (bytes_on j.generation others) latest) j.limited (Some (greatest_of f.named a.largest)) ∷ told_detected true x ++ ts) marked.2;
   }
     where
       left : End
@@ -285,12 +286,12 @@ module _ (j : Judging) (now : ℕ) (flew : List Sent) (before : ℕ) where
       marked : (marks : Bool) × (marks ≡ true → MayMark f.named a) × (told_marks rises ps a (losses_taken ps rises a e) ≡ told_if marks (Congested now (last_moment ss) false 0))
       marked = marks_told f now rises ss ps a (losses_taken ps rises a e) clock is acked
 
-      ended : AcksEnded left.closing.clock (saturated (bytes_in_flight left)) left.path.app_limited left.numbers.largest_acked ≡ AcksEnded now (min (bytes_asking others) latest) j.limited (Some (greatest_of f.named a.largest))
+      ended : AcksEnded left.closing.clock (saturated (bytes_in_flight left)) left.path.app_limited left.numbers.largest_acked ≡ AcksEnded now (min (bytes_on j.generation others) latest) j.limited (Some (greatest_of f.named a.largest))
       ended =
           ap (λ (n : ℕ). AcksEnded n (saturated (bytes_in_flight left)) left.path.app_limited left.numbers.largest_acked) (ap (λ (h : Held). h.closing.clock) (acked_held ps e) ∙ sym w.clock)
-          ∙ ap (λ (n : ℕ). AcksEnded now (saturated n) left.path.app_limited left.numbers.largest_acked) (bytes_of_end left others (ap (λ (h : Held). h.generation) (acked_held ps e) ∙ set.first) stay)
-          ∙ ap (λ (b : Bool). AcksEnded now (min (bytes_asking others) latest) b left.numbers.largest_acked) (acked_limited ps e ∙ set.limited)
-          ∙ ap (λ (o : Option ℕ). AcksEnded now (min (bytes_asking others) latest) j.limited o) (ap (λ (h : Held). h.numbers.largest_acked) (acked_held ps e) ∙ sym w.named)
+          ∙ ap (λ (n : ℕ). AcksEnded now (saturated n) left.path.app_limited left.numbers.largest_acked) (bytes_of_end left j.generation others (ap (λ (h : Held). h.generation) (acked_held ps e) ∙ set.path) stay)
+          ∙ ap (λ (b : Bool). AcksEnded now (min (bytes_on j.generation others) latest) b left.numbers.largest_acked) (acked_limited ps e ∙ set.limited)
+          ∙ ap (λ (o : Option ℕ). AcksEnded now (min (bytes_on j.generation others) latest) j.limited o) (ap (λ (h : Held). h.numbers.largest_acked) (acked_held ps e) ∙ sym w.named)
 
   -- one that names these, or none
   pub named_told : (ss others : List Sent) (ps : Table TrackedPacket) (rises : Bool) (a : AckValue) (f : Flight) (e : End) → rises ≡ is_greatest f.named a.largest → ((s : Sent) → In s ss → In s f.flying) → ((s : Sent) → In s others → In s f.flying)

@@ -1,6 +1,6 @@
 -- An end asks its peer nothing where the peer's address is validated: no challenge of it is open,
 -- and its timer of path validation isn't set.
-use Rattle.std.proofs.Common.{◌≡◌, ℕ, Bool, true, false, List, Option, None, refl, sym, ap, subst}
+use Rattle.std.proofs.Common.{◌≡◌, ℕ, Bool, true, false, List, Option, None, Ok, refl, sym, ap, subst}
 use Rattle.std.proofs.lemmas.Bool.{both_ways}
 use Rattle.quic_wire_core.specs.declared.stream_id.Side.{Side}
 use Rattle.quic_wire.specs.Value.{FrameValue}
@@ -13,6 +13,7 @@ use Rattle.quic_machine.specs.declared.answers.State.TheVariants as states
 use Rattle.quic_machine.specs.declared.run.Call.{Call}
 use Rattle.quic_machine.specs.declared.run.Call.TheVariants as calls
 use Rattle.quic_machine.specs.declared.run.Answer.{Answer}
+use Rattle.quic_machine.specs.declared.run.Answer.TheVariants as answers
 use Rattle.quic_machine.specs.Policy.{Policy}
 use Rattle.quic_machine.specs.Parts.{Windows}
 use Rattle.quic_machine.specs.Closing.{ticked}
@@ -30,6 +31,7 @@ use Rattle.quic_machine.specs.CallCases.{Plain, is_timeout, by_plain_call}
 use Rattle.quic_machine.specs.CallCases as cases
 use Rattle.quic_headline.proofs.Packets.Apart.{by_waits}
 use Rattle.quic_headline.proofs.Packets.Closes.{by_closes}
+use Rattle.quic_headline.proofs.Packets.Moving.{by_answer, by_asked}
 use Rattle.quic_headline.proofs.Packets.Probes.{by_going}
 use Rattle.quic_headline.proofs.Validated.Standing.{Standing, standing, answered_if, asked_no_more, frame_stands, next_stands, taken_stands, expired_stands, call_stands}
 
@@ -82,6 +84,7 @@ receives = record {
   asks_close = λ e i. i;
   exhausts = λ now e i. stopped (standing e) i;
   draws = λ words e i. i;
+  moves = λ p o remote e i. by_asked IsUnaskedIf p o remote e (λ may. λ is. cc) (λ may. λ is. cc) (λ x j. next_stands IsSilentIf x (answers.UseNextId (Ok tt)) j) (λ token x j. j) (λ token x among j. by_answer IsUnaskedIf (λ y k is. (refl, refl)) token x j);
 }
 
 -- ---- a timeout

@@ -1,6 +1,6 @@
 -- What a controller is told by a call at its end is what may be told, by what the observer of the
 -- end knows.
-use Rattle.std.proofs.Common.{◌≡◌, ℕ, max, Bool, true, false, ◌&&◌, cond, List, [], ◌∷◌, ◌++◌, map, Option, Some, None, Result, refl, sym, ap, ◌∙◌, subst, inl, inr}
+use Rattle.std.proofs.Common.{◌≡◌, ℕ, max, Bool, true, false, ◌&&◌, cond, List, [], ◌∷◌, ◌++◌, map, Option, Some, None, Result, Ok, refl, sym, ap, ◌∙◌, subst, inl, inr}
 use Rattle.quic_machine.specs.declared.answers.LostReason.{LostReason}
 use Rattle.std.specs.Prelude.{slice_get}
 use Rattle.std.proofs.lemmas.List.{append-nil}
@@ -42,10 +42,12 @@ use Rattle.quic_headline.proofs.Packets.Growth.{get_front, step_at}
 use Rattle.quic_headline.proofs.Packets.Intakes.{nothing_handed, folded_more}
 use Rattle.quic_headline.proofs.Packets.Invariant.{IsSent, Knows, KnowsIn}
 use Rattle.quic_headline.proofs.Packets.Given.{draft_number}
-use Rattle.quic_headline.proofs.Packets.Delivered.{shown, shown_if, expands, opened_given, with_taken, with_refused}
+use Rattle.quic_headline.proofs.Packets.Delivered.{frames_at, frames_of_oks, shown, shown_if, expands, opened_given, with_taken, with_refused}
 use Rattle.quic_machine.specs.DraftLaws.{IsClose}
 use Rattle.quic_headline.proofs.Packets.Owing.{Owes, IsAlone, close_is, error_owes, closed_alone}
 use Rattle.quic_headline.proofs.Packets.Closes.{by_closes}
+use Rattle.quic_headline.proofs.Packets.Strays.{alone_at}
+use Rattle.quic_machine.specs.Migration.{items_at}
 use Rattle.quic_headline.proofs.Packets.Flying.{Waits, held, asking_padded, ticked_waits, numbers_wait}
 use Rattle.quic_headline.proofs.Packets.Watching.{watched_intake, untimely, none_opened, none_new, one_opened, one_new, none_comes, told_own, timer_expires}
 use Rattle.quic_headline.proofs.Packets.Closeless.{sent_closeless}
@@ -61,6 +63,7 @@ use Rattle.quic_headline.proofs.Tellings.Losses.{losses_told}
 use Rattle.quic_headline.proofs.Tellings.Asked.{IsUnasked}
 use Rattle.quic_headline.proofs.Tellings.Acks.{may_probe, IsSet}
 use Rattle.quic_headline.proofs.Tellings.Frames.{Reads, ToldItems, items_told, closes_tell}
+use Rattle.quic_headline.proofs.Tellings.Strays.{frames_items, items_sent, stray_tells, fronts}
 use Rattle.quic_headline.proofs.Tellings.Hearing.{AreSent, Hearings, by_hearing, closed_told}
 
 -- ---- calls at which nothing comes
@@ -196,7 +199,7 @@ module _ (x y : Party) (joined : AreJoined x y) (meets : Meets y x) (sight : Sig
 
   set : x.end.closing.state ≡ states.Open → IsSet j x.end
   set opened = record {
-    first = sight.watched.path;
+    path = sight.watched.path;
     settings = settings;
     next = next ∙ ap next_number (sym sight.own);
     measured = measured opened ∙ ap (λ (ss : List Sent). measured_first first (next_number ss) x.end.path.rtt.smoothed) (sym sight.own);
@@ -228,7 +231,7 @@ module _ (x y : Party) (joined : AreJoined x y) (meets : Meets y x) (sight : Sig
 
       go : (o : Option ℕ) → TellsExpired o j clock seen.flight (told_judged o begins)
       go None = refl
-      go (Some moment) = losses_told j clock false seen.flight begins waits.tells (set opened).first (set opened).settings ((set opened).measured ∙ ap (λ (r : Rtt). measured_first j.first j.next r.smoothed) (sym waits.tells.rtt)) moves.floor (λ s i size shown. may_probe c.min_mtu begins.path.discovery s moves.sized size shown (moves.probes s i size shown))
+      go (Some moment) = losses_told j clock false seen.flight begins waits.tells (set opened).path (set opened).settings ((set opened).measured ∙ ap (λ (r : Rtt). measured_first j.first j.next r.smoothed) (sym waits.tells.rtt)) moves.floor (λ s i size shown. may_probe c.min_mtu begins.path.discovery s moves.sized size shown (moves.probes s i size shown))
 
   pub timeout_told : (now : ℕ) (a : Answer) → IsAnswer x.policy x.end y.given (calls.Timeout now) a → TellsCall (lens x y) c validated first limited seen (told_of (calls.Timeout now) a x.end.closing.state) (told_timed_out x.end now)
   timeout_told now a is = go x.end.closing.state refl
@@ -301,22 +304,30 @@ module _ (x y : Party) (joined : AreJoined x y) (meets : Meets y x) (sight : Sig
       nothing = λ a.
           subst (λ (b : Bool). Brings b (news seen.intake seen.intake) seen.intake.part a []) (sym (none_opened seen.intake))
           (subst (λ (ps : List Packet). Brings false ps seen.intake.part a []) (sym (none_new seen.intake)) (record { taken = []; takes = refl; refused = []; refuses = refl; is = refl }));
-      takes = λ n is none.
-          let all = of_items opened n is in
-          let same : frames_of is ≡ all.front = all.split ∙ ap (λ (fs : List FrameValue). all.front ++ fs) (all.whole none) ∙ append-nil all.front in
-          taken_so n is (subst (λ (fs : List FrameValue). TellsFrames j now fs seen.flight (told_items is (begun x.end delivery.now n))) (sym same) all.told);
-      drains = λ close n is from some.
-          let closes = closed_alone from.frames (begun x.end delivery.now n) close from.alone (subst (λ (ks : List (Result FrameValue InvalidFrame)). (take_items ks (begun x.end delivery.now n)).fault ≡ Some (closed_by_peer close)) from.same some) in
-          taken_so n is (subst (λ (ks : List (Result FrameValue InvalidFrame)). TellsFrames j now (frames_of ks) seen.flight (told_items ks (begun x.end delivery.now n))) (sym from.same) (closes_tell j now from.frames seen.flight (begun x.end delivery.now n) closes));
-      refuses = λ fault n is.
-          let all = of_items opened n is in
-          refused_so n (frames_of is) fault (told_items is (begun x.end delivery.now n)) (all.front, all.behind, all.split, all.told);
+      takes = λ n here is none.
+          let ks : List (Result FrameValue InvalidFrame) = items_at here is in
+          let all = of_items opened n ks in
+          let same : frames_at here (frames_of is) ≡ all.front = sym (frames_items here is) ∙ all.split ∙ ap (λ (fs : List FrameValue). all.front ++ fs) (all.whole none) ∙ append-nil all.front in
+          taken_so n is (told_items ks (begun x.end delivery.now n)) (stray_tells j now here (frames_of is) seen.flight (told_items ks (begun x.end delivery.now n)) (subst (λ (fs : List FrameValue). TellsFrames j now fs seen.flight (told_items ks (begun x.end delivery.now n))) (sym same) all.told));
+      drains = λ close n here is from some.
+          let ks : List (Result FrameValue InvalidFrame) = items_at here is in
+          let sent : ks ≡ map Ok (frames_at here from.frames) = ap (λ (ls : List (Result FrameValue InvalidFrame)). items_at here ls) from.same ∙ items_sent here from.frames in
+          let closes = closed_alone (frames_at here from.frames) (begun x.end delivery.now n) close (alone_at here from.frames from.alone) (subst (λ (ls : List (Result FrameValue InvalidFrame)). (take_items ls (begun x.end delivery.now n)).fault ≡ Some (closed_by_peer close)) sent some) in
+          let told : List congestion.Told = told_items ks (begun x.end delivery.now n) in
+          let these : frames_of is ≡ from.frames = ap frames_of from.same ∙ frames_of_oks from.frames in
+          taken_so n is told (stray_tells j now here (frames_of is) seen.flight told (subst (λ (fs : List FrameValue). TellsFrames j now (frames_at here fs) seen.flight told) (sym these)
+          (subst (λ (ls : List (Result FrameValue InvalidFrame)). TellsFrames j now (frames_at here from.frames) seen.flight (told_items ls (begun x.end delivery.now n))) (sym sent)
+          (subst (λ (fs : List FrameValue). TellsFrames j now fs seen.flight (told_items (map Ok (frames_at here from.frames)) (begun x.end delivery.now n))) (frames_of_oks (frames_at here from.frames)) (closes_tell j now (frames_at here from.frames) seen.flight (begun x.end delivery.now n) closes)))));
+      refuses = λ fault n here is.
+          let ks : List (Result FrameValue InvalidFrame) = items_at here is in
+          let all = of_items opened n ks in
+          let first = fronts here (frames_of is) all.front all.behind (sym (frames_items here is) ∙ all.split) in
+          refused_so n (frames_of is) fault (told_items ks (begun x.end delivery.now n)) (first.first, first.others, first.split, stray_tells j now here first.first seen.flight (told_items ks (begun x.end delivery.now n)) (subst (λ (fs : List FrameValue). TellsFrames j now fs seen.flight (told_items ks (begun x.end delivery.now n))) (sym first.same) all.told));
       whole = λ fault n frames. refused_so n frames fault [] ([], frames, refl, refl);
     }
       where
-        taken_so : (n : ℕ) (is : List (Result FrameValue InvalidFrame)) → TellsFrames j now (frames_of is) seen.flight (told_items is (begun x.end delivery.now n)) → BringsBy (answers.Deliver Taken) (told_items is (begun x.end delivery.now n)) (with_taken seen.intake n (frames_of is))
-        taken_so n is tells =
-            let told : List congestion.Told = told_items is (begun x.end delivery.now n) in
+        taken_so : (n : ℕ) (is : List (Result FrameValue InvalidFrame)) (told : List congestion.Told) → TellsFrames j now (frames_of is) seen.flight told → BringsBy (answers.Deliver Taken) told (with_taken seen.intake n (frames_of is))
+        taken_so n is told tells =
             let frames : List FrameValue = frames_of is in
             subst (λ (b : Bool). Brings b (news seen.intake (with_taken seen.intake n frames)) seen.intake.part (answers.Deliver Taken) told) (sym (one_opened seen.intake n frames))
             (subst (λ (ps : List Packet). Brings true ps seen.intake.part (answers.Deliver Taken) told) (sym (one_new seen.intake n frames)) (record {

@@ -1,8 +1,8 @@
 -- At each place of an honest run, what a controller was told so far is what may be told, by what
 -- the observer of its end knows; and the window and the size that a view shows are those that the
 -- controller shows, and was told last.
-use Rattle.std.proofs.Common.{◌≡◌, ℕ, zero, suc, List, [], ◌∷◌, ◌++◌, ◌+◌, ◌≤◌, length, take, Bool, true, false, Option, Some, None, refl, sym, ap, ◌∙◌, subst, arith}
-use Rattle.std.specs.Prelude.{if◌then◌else◌, slice_get, unwrap_or}
+use Rattle.std.proofs.Common.{◌≡◌, ℕ, zero, suc, List, [], ◌∷◌, ◌++◌, ◌+◌, ◌≤◌, length, take, Bool, false, Option, Some, None, refl, sym, ap, ◌∙◌, subst, arith}
+use Rattle.std.specs.Prelude.{if◌then◌else◌, slice_get}
 use Rattle.std.proofs.lemmas.List.{append_assoc, append-nil}
 use Rattle.std.proofs.lemmas.Option.{slice_get_within}
 use Rattle.quic_wire_core.specs.declared.stream_id.Side.{Side}
@@ -18,20 +18,19 @@ use Rattle.quic_machine.specs.declared.run.Call.{Call}
 use Rattle.quic_machine.specs.declared.run.Call.TheVariants as calls
 use Rattle.quic_machine.specs.declared.run.Answer.{Answer}
 use Rattle.quic_machine.specs.declared.run.RunEvent.{RunEvent}
-use Rattle.quic_machine.specs.declared.run.EndView.{EndView}
 use Rattle.quic_machine.specs.declared.run.View.{View}
 use Rattle.quic_machine.specs.End.{End}
 use Rattle.quic_machine.specs.Control.{Control}
-use Rattle.quic_machine.specs.Machine.{World, reads_window, after_call, end_at, control_at, policy_at, given_by, tells, fails, view_of, heard_at, says_last}
+use Rattle.quic_machine.specs.Machine.{World, reads_window, end_at, control_at, policy_at, given_by, tells, fails, view_of, heard_at, says_last}
 use Rattle.quic_machine.specs.RunLaws.{one_run, as_many_views}
-use Rattle.quic_headline.specs.Runs.{Run, Told, same_side, state_in, given_of, told_by, told_at, until, state_at, folded, LeadsTo, AreServed}
+use Rattle.quic_headline.specs.Runs.{Run, Told, same_side, given_of, told_by, until, state_at, folded, LeadsTo, AreServed}
 use Rattle.quic_headline.specs.Observer.{Sent, Watch, Lens, watch_told, lens_of, watch_from, watch, next_number}
 use Rattle.quic_headline.specs.Headline.{IsHonest, IsRun}
-use Rattle.quic_headline.specs.Polls.{window_in, mtu_in, end_in, seen_of, seen_behind, search_at, told_by_step, IsMade}
+use Rattle.quic_headline.specs.Polls.{window_in, mtu_in, search_at, told_by_step, IsMade}
 use Rattle.quic_headline.specs.Amounts.{making_at}
 use Rattle.quic_config.specs.Transport.{parameters_of}
 use Rattle.quic_headline.specs.AppLimited.{MayCount, CountsAt}
-use Rattle.quic_headline.specs.Telling.{Judging, measured_first, first_behind, TellsCall, TellsCalls, validated_before, shows_validated, MayTell, ControllersAreTold}
+use Rattle.quic_headline.specs.Telling.{Judging, measured_first, first_behind, TellsCall, TellsCalls, shows_validated, MayTell, ControllersAreTold}
 use Rattle.quic_machine.specs.Heard.{Heard}
 use Rattle.quic_machine.specs.Arrival.{delivered_by}
 use Rattle.quic_headline.proofs.Packets.Intakes.{folded_more}
@@ -41,20 +40,21 @@ use Rattle.quic_headline.proofs.Packets.Sight.{Sight}
 use Rattle.quic_headline.proofs.Packets.Watching.{none_comes, told_own, untimely}
 use Rattle.quic_headline.proofs.Places.Parties.{told_of, Party}
 use Rattle.quic_headline.proofs.Places.Groups.{Way, Nothing, Group}
-use Rattle.quic_headline.proofs.Places.Moments.{told_none, last_view, last_seen}
+use Rattle.quic_headline.proofs.Places.Moments.{told_none, last_view}
 use Rattle.quic_headline.proofs.Places.Placed.{start_is, party_at, Placed, placed, watch_is}
 use Rattle.quic_headline.proofs.Places.Steps.{only_polls_give}
 use Rattle.quic_headline.proofs.Held.Behind.{last_step, window_shown}
 use Rattle.quic_headline.proofs.Timers.Quiet.{Unnamed}
 use Rattle.quic_headline.proofs.Timers.Still.{was_open}
-use Rattle.quic_headline.proofs.Steps.Made.{told_next, told_here, made_served, made_end, served_before, calling, call_holds}
+use Rattle.quic_headline.proofs.Steps.Made.{told_next, told_here, made_served, left_at, made_end, served_before, calling, call_holds}
 use Rattle.quic_headline.proofs.Steps.Windows.{ShowsAfter, step_shows, first_lead}
 use Rattle.quic_headline.proofs.Steps.Resized.{Tells, still, both, step_tells, size_there}
 use Rattle.quic_headline.proofs.Sizes.Probed.{KnowsSearch}
 use Rattle.quic_headline.proofs.Sizes.Moves.{did_there}
+use Rattle.quic_headline.proofs.Tellings.Shown.{validated_there}
 use Rattle.quic_headline.proofs.Tellings.Asked.{IsUnaskedIf, first_unasked, call_unasked}
 use Rattle.quic_headline.proofs.Tellings.Acks.{IsSet}
-use Rattle.quic_headline.proofs.Tellings.First.{Measured, call_measured, delivered_set, IsFirst, first_measured, is_first}
+use Rattle.quic_headline.proofs.Tellings.First.{Measured, call_measured, IsSetThere, delivered_set, IsFirst, first_measured, is_first}
 use Rattle.quic_headline.proofs.Tellings.Calls.{quiet_call, timeout_told, poll_call, delivery_told}
 
 -- ---- one call more
@@ -82,32 +82,6 @@ tells_more l c validated may n first w (u ∷ ts) t told now limited before so h
   tells_more l c validated may (suc n) (first_behind first (watch_told l u w)) (watch_told l u w) ts t before.2 now limited before.5 (λ opened m is. so opened m (omega (arith, is))) (λ m is. here m (omega (arith, is))),
   ap (λ (us : List congestion.Told). us ++ now) before.6 ∙ append_assoc before.1 before.2 now,
 )
-
--- what the view before a call of an end shows stands behind what those before its other calls do
-shown_before : (side : Side) (seen : EndView) (state : State) (i : ℕ) (events : List RunEvent) (answers : List Answer) (views : List View) (call : Call) (a : Answer) → slice_get events i ≡ Some (record { side = side; call = call }) → slice_get answers i ≡ Some a → length views ≡ length answers
-    → slice_get (validated_before side seen.validated events views) (length (told_at side state events (take i answers) views)) ≡ Some (seen_behind side seen i views).validated
-shown_before side seen state i [] answers views call a at_event at_answer many = cc
-shown_before side seen state i (e ∷ events) [] views call a at_event at_answer many = cc
-shown_before side seen state i (e ∷ events) (b ∷ answers) [] call a at_event at_answer many = absurd (omega arith)
-shown_before side seen state zero (e ∷ events) (b ∷ answers) (v ∷ views) call a at_event at_answer many =
-    let one : e ≡ record { side = side; call = call } = cc in
-    subst (λ (f : RunEvent). slice_get (validated_before side seen.validated (f ∷ events) (v ∷ views)) 0 ≡ Some seen.validated) (sym one) (own side)
-  where
-    own : (s : Side) → slice_get ((if same_side s s then seen.validated ∷ [] else []) ++ validated_before side (end_in v side).validated events views) 0 ≡ Some seen.validated
-    own Client = refl
-    own Server = refl
-shown_before side seen state (suc i) (e ∷ events) (b ∷ answers) (v ∷ views) call a at_event at_answer many =
-    go (same_side e.side side) ∙ shown_before side (end_in v side) (state_in v side) i events answers views call a at_event at_answer (omega arith)
-  where
-    shown : List Bool
-    shown = validated_before side (end_in v side).validated events views
-
-    told : List Told
-    told = told_at side (state_in v side) events (take i answers) views
-
-    go : (c : Bool) → slice_get ((if c then seen.validated ∷ [] else []) ++ shown) (length ((if c then told_of e.call b state ∷ [] else []) ++ told)) ≡ slice_get shown (length told)
-    go true = refl
-    go false = refl
 
 -- a place has one before it
 pub view_before : (i : ℕ) (views : List View) (v : View) → slice_get views (suc i) ≡ Some v → (u : View) × (slice_get views i ≡ Some u)
@@ -181,13 +155,6 @@ module _ (G : Way) (g : Group Nothing G) (packets : (x y : Party) → G x y → 
         let t : Told = told_of call a (end_at side w).closing.state in
         quiet_call (lens_of r side) (settings side) (end_at side w).path.validated (first_at side i) (end_at side w).path.app_limited (watch r side i) t (none_comes (lens_of r side) t (watch r side i).intake refl) (untimely t.state call refl) (only_polls_give policy (end_at side w) theirs call a refl m.step.answer)
 
-  -- by the views it is seen before a call whether the address of the peer is validated
-  shown : (i : ℕ) (side : Side) (call : Call) (a : Answer) (w next : World) → IsMade r i side call a w next → (n : ℕ) → n ≡ length (until r side i) → (end_at side w).path.validated ≡ validated side n
-  shown i side call a w next m n is =
-      sym (ap (λ (u : EndView). u.validated) (last_seen side r.keys i r.start w r.events r.answers r.views m.leads))
-      ∙ ap (λ (o : Option Bool). unwrap_or o true) (sym (shown_before side (seen_of side r.start) (end_at side r.start).closing.state i r.events r.answers r.views call a m.at.event m.at.answer (as_many_views r.keys r.start end r.events r.answers r.views run.follows)))
-      ∙ ap (λ (k : ℕ). validated side k) (sym is)
-
   -- ---- what is measured
 
   -- what is told at an end by one call more
@@ -252,7 +219,7 @@ module _ (G : Way) (g : Group Nothing G) (packets : (x y : Party) → G x y → 
 
     -- by what its losses are judged
     abbrev judged : Judging
-    judged = record { terms = l.terms; settings = settings side; validated = e.path.validated; next = next_number (watch r side i).own; first = first_at side i; limited = e.path.app_limited }
+    judged = record { terms = l.terms; settings = settings side; validated = e.path.validated; generation = (watch r side i).route.generation; next = next_number (watch r side i).own; first = first_at side i; limited = e.path.app_limited }
 
     set : IsSet judged e
     set =
@@ -260,12 +227,15 @@ module _ (G : Way) (g : Group Nothing G) (packets : (x y : Party) → G x y → 
         let y : Party = party_at r i at.world (other_side side) at.theirs in
         let own : (watch r side i).own ≡ at.sents = ap (λ (v : Watch). v.own) (watch_is r honest at.world i side at.sents at.theirs) ∙ (sight x y at.gives).own in
         record {
-          first = sym (ap (λ (v : World). (end_at side v).path.generation) here) ∙ (sight x y at.gives).watched.path;
+          path = sym (ap (λ (v : World). (end_at side v).path.generation) here) ∙ (sight x y at.gives).watched.path ∙ ap (λ (v : Watch). v.route.generation) (sym (watch_is r honest at.world i side at.sents at.theirs));
           settings = same;
           next = sym (ap (λ (v : World). (end_at side v).numbers.next) here) ∙ (packets x y at.gives).gives.next ∙ ap next_number (sym own);
           measured = first_measured (first_at side i) (next_number (watch r side i).own) e.path (known was);
           limited = refl;
         }
+
+    set_there : IsSetThere judged e
+    set_there = record { path = refl; settings = set.settings; next = set.next; measured = set.measured; limited = set.limited }
 
     -- what the end measured behind the call
     abbrev Measures : Call → Type 0
@@ -275,14 +245,14 @@ module _ (G : Way) (g : Group Nothing G) (packets : (x y : Party) → G x y → 
     measures (calls.Deliver delivery) m seen =
         let p : Policy = policy_at side r.keys in
         let theirs : List (List ℕ) = given_by (other_side side) w in
-        let made : left ≡ after_call p e theirs (calls.Deliver delivery) a = made_end r i side (calls.Deliver delivery) a w next m in
+        let made : left ≡ left_at r side w (calls.Deliver delivery) a = made_end r i side (calls.Deliver delivery) a w next m in
         let own : (watch r side (suc i)).own ≡ (watch r side i).own = ap (λ (v : Watch). v.own) seen ∙ told_own l (told_of (calls.Deliver delivery) a (state_at r side i)) (watch r side i) (only_polls_give p e theirs (calls.Deliver delivery) a refl m.step.answer) in
-        let behind : IsSet judged left = subst (λ (z : End). IsSet judged z) (sym made) (delivered_set judged p e (delivered_by (says_last a) delivery) (slice_get theirs delivery.index) set) in
+        let behind : IsSetThere judged left = subst (λ (z : End). IsSetThere judged z) (sym made) (delivered_set judged p e (delivered_by (says_last a) delivery) (slice_get theirs delivery.index) set_there) in
         behind.measured ∙ ap (λ (ss : List Sent). measured_first (first_at side i) (next_number ss) left.path.rtt.smoothed) (sym own)
     measures call m seen =
         let p : Policy = policy_at side r.keys in
         let read : End = reads_window (control_at side w) (heard_at side w) call e in
-        let made : left ≡ after_call p read (given_by (other_side side) w) call a = made_end r i side call a w next m in
+        let made : left ≡ left_at r side w call a = made_end r i side call a w next m in
         let kept = call_measured p read (given_by (other_side side) w) call a refl in
         let reads = (reads_same (control_at side w) (heard_at side w) call e).2 in
         ap (λ (z : End). z.path.first_after_rtt) made
@@ -414,7 +384,7 @@ module _ (G : Way) (g : Group Nothing G) (packets : (x y : Party) → G x y → 
               subst (λ (s : State). TellsCalls (lens_of r side) (settings side) (validated side) (CountsAt r side) 0 None (watch_from (end_at side r.start) (given_of r side)) (until r side i ++ told_of call a s ∷ []) (told ++ said)) ((reads_same (control_at side w) (heard_at side w) call (end_at side w)).0 ∙ sym state)
               (tells_more (lens_of r side) (settings side) (validated side) (CountsAt r side) 0 None (watch_from (end_at side r.start) (given_of r side)) (until r side i) (told_of call a met.closing.state) told said (end_at side w).path.app_limited may
               (λ opened n is. record { place = i; as_many = omega (arith, is); counts = counts i side w within m.leads (served_before r.answers i m.served) (sym (reads_same (control_at side w) (heard_at side w) call (end_at side w)).0 ∙ opened) })
-              (λ n is. subst (λ (b : Bool). TellsCall (lens_of r side) (settings side) b (first_at side i) (end_at side w).path.app_limited (watch r side i) (told_of call a met.closing.state) said) (shown i side call a w next m n (omega (arith, is))) (own_tells i side a w next same first asks call m)))
+              (λ n is. subst (λ (b : Bool). TellsCall (lens_of r side) (settings side) b (first_at side i) (end_at side w).path.app_limited (watch r side i) (told_of call a met.closing.state) said) (validated_there r end run side i call a w next m n (omega (arith, is))) (own_tells i side a w next same first asks call m)))
 
           -- a call of the other end
           theirs : (side : Side) (told : List congestion.Told) → MayTell r side i told → TellsCalls (lens_of r side) (settings side) (validated side) (CountsAt r side) 0 None (watch_from (end_at side r.start) (given_of r side)) (until r side i ++ []) (told ++ [])

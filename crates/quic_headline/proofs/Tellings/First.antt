@@ -1,6 +1,8 @@
 -- The number that went next as a round trip was first measured: what calls leave of it, and of how
 -- long a round trip takes.
-use Rattle.std.proofs.Common.{◌≡◌, ℕ, false, List, Option, Some, None, refl, sym, ap, ◌∙◌}
+use Rattle.std.proofs.Common.{◌≡◌, ℕ, false, List, Option, Some, None, refl, sym, ap, ◌∙◌, subst}
+use Rattle.quic_wire.specs.Value.{FrameValue}
+use Rattle.quic_packet.specs.Datagram.{Opening}
 use Rattle.quic_machine.specs.declared.run.Call.{Call}
 use Rattle.quic_machine.specs.declared.run.Answer.{Answer}
 use Rattle.quic_machine.specs.Arrival.{Arrival}
@@ -10,6 +12,8 @@ use Rattle.quic_machine.specs.Parts.{Path}
 use Rattle.quic_machine.specs.Tracking.{lost_by}
 use Rattle.quic_machine.specs.End.{End, with_closing, closed_by}
 use Rattle.quic_machine.specs.Acked.{verdict, losses_detected}
+use Rattle.quic_machine.specs.Receive.{take_frame}
+use Rattle.quic_machine.specs.Migration.{migrated}
 use Rattle.quic_machine.specs.Poll.{Polled}
 use Rattle.quic_machine.specs.Timeouts.{Expiry}
 use Rattle.quic_machine.specs.Machine.{after_delivered, after_call}
@@ -25,6 +29,7 @@ use Rattle.quic_headline.proofs.Packets.Probes.{may_leave}
 use Rattle.quic_headline.proofs.Packets.Searches.{losses_searched}
 use Rattle.quic_headline.proofs.Tellings.Acks.{IsSet, frame_set}
 use Rattle.quic_headline.proofs.Packets.Heard.{by_taken}
+use Rattle.quic_headline.proofs.Packets.Moved.{by_migrated}
 
 -- ---- calls that are no deliveries
 
@@ -63,11 +68,21 @@ call_measured p e theirs call a apart = by_plain_call p e theirs (λ (x : End). 
 
 -- ---- a delivery
 
+-- an end is judged so, but on the path that it has
+abbrev pub IsSetThere : Judging → End → Type 0
+IsSetThere j e = IsSet (record j { generation = e.path.generation }) e
+
+frame_there : (j : Judging) (f : FrameValue) (e : End) → IsSetThere j e → IsSetThere j (take_frame f e).end
+frame_there j f e i = (let on = frame_set (record j { generation = e.path.generation }) f e i in subst (λ (n : ℕ). IsSet (record j { generation = n }) (take_frame f e).end) (sym on.path) on)
+
+moved_there : (j : Judging) (p : Policy) (o : Opening) (remote : ℕ) (e : End) → IsSetThere j e → IsSetThere j (migrated p o remote e)
+moved_there j p o remote e i = by_migrated (IsSetThere j) p o remote e (λ c. record { path = refl; settings = i.settings; next = i.next; measured = i.measured; limited = i.limited }) (λ c most. record { path = refl; settings = i.settings; next = i.next; measured = i.measured; limited = i.limited })
+
 -- an end that is judged so is so behind a delivery
-pub delivered_set : (j : Judging) (p : Policy) (e : End) (arrival : Arrival) (o : Option (List ℕ)) → IsSet j e → IsSet j (after_delivered p e arrival o)
+pub delivered_set : (j : Judging) (p : Policy) (e : End) (arrival : Arrival) (o : Option (List ℕ)) → IsSetThere j e → IsSetThere j (after_delivered p e arrival o)
 delivered_set j p e arrival None i = i
 delivered_set j p e arrival (Some d) i =
-    by_received (IsSet j) (record { notes = λ n x k. k; begins = λ now n x k. k; frame = λ f x k. frame_set j f x k; takes = λ n asks urged mark x k. by_taken (IsSet j) n asks urged mark x (λ idle alive. k); closes = λ reason x k. k; drains = λ close x k. k; asks_close = λ x k. k; exhausts = λ now x k. k; draws = λ words x k. k }) p e arrival d i
+    by_received (IsSetThere j) (record { notes = λ n x k. k; begins = λ now n x k. k; frame = frame_there j; takes = λ n asks urged mark x k. by_taken (IsSetThere j) n asks urged mark x (λ idle alive. k); closes = λ reason x k. k; drains = λ close x k. k; asks_close = λ x k. k; exhausts = λ now x k. k; draws = λ words x k. k; moves = moved_there j }) p e arrival d i
 
 -- ---- what is known of it
 

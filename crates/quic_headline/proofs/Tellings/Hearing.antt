@@ -7,21 +7,20 @@ use Rattle.quic_wire.specs.Items.{items}
 use Rattle.quic_wire.specs.declared.frame.InvalidFrame.{InvalidFrame}
 use Rattle.quic_packet.specs.Header.{key_phase, reserved_bits}
 use Rattle.quic_packet.specs.Datagram.{Opening}
-use Rattle.quic_packet.specs.Destination.{decoded, fixed_length_id}
-use Rattle.quic_packet.specs.declared.packet.HeaderError.{HeaderError}
 use Rattle.quic_congestion.specs.Congestion.{Told}
 use Rattle.quic_recovery_core.specs.Duplicates.{is_duplicate}
 use Rattle.quic_spaces.specs.Numbers.{expected, number_opened}
 use Rattle.quic_machine.specs.declared.answers.State.{State}
 use Rattle.quic_machine.specs.declared.answers.State.TheVariants as states
+use Rattle.quic_machine.specs.declared.answers.DropReason.{DropReason}
 use Rattle.quic_machine.specs.declared.answers.DropReason.TheVariants as drops
 use Rattle.quic_machine.specs.declared.answers.Received.TheVariants.{Taken, Closed}
 use Rattle.quic_machine.specs.declared.run.Answer.{Answer}
 use Rattle.quic_machine.specs.declared.run.Answer.TheVariants as answers
 use Rattle.quic_machine.specs.Arrival.{Arrival, early}
-use Rattle.quic_machine.specs.Ids.{known}
 use Rattle.quic_machine.specs.Policy.{Policy}
-use Rattle.quic_machine.specs.Opens.{own_id_length, in_phase, opens_behind}
+use Rattle.quic_machine.specs.Opens.{in_phase, opens_behind, head}
+use Rattle.quic_machine.specs.Migration.{is_there, items_at}
 use Rattle.quic_machine.specs.End.{End, with_numbers}
 use Rattle.quic_machine.specs.Receive.{Fault, Progress, Outcome, error_of, violation, asks_in, is_urged, is_empty, take_items, dropped, ends_as, by_state, headed, opened_as, received_in, received, opening, told_items, told_by_state, told_opened_as, told_headed, told_received_in, told_received, broke, too_many_pieces, closed_by_peer}
 use Rattle.quic_machine.specs.FrameCases.{begun}
@@ -44,12 +43,12 @@ pub record AreSent (is : List (Result FrameValue InvalidFrame)) : Type 0 where
 pub record Hearings (e : End) (now : ℕ) (i : Intake) (P : Answer → List Told → Intake → Type 0) : Type 0 where
   -- nothing comes
   pub nothing : (a : Answer) → P a [] i
-  -- a packet is taken, whose payload has these items
-  pub takes : (n : ℕ) (is : List (Result FrameValue InvalidFrame)) → (take_items is (begun e now n)).fault ≡ None → P (answers.Deliver Taken) (told_items is (begun e now n)) (with_taken i n (frames_of is))
+  -- a packet is taken, whose payload has these items, from where the peer is or from elsewhere
+  pub takes : (n : ℕ) (here : Bool) (is : List (Result FrameValue InvalidFrame)) → (take_items (items_at here is) (begun e now n)).fault ≡ None → P (answers.Deliver Taken) (told_items (items_at here is) (begun e now n)) (with_taken i n (frames_of is))
   -- one is taken so far as the peer closes by one of its items, which were sent as these frames
-  pub drains : (close : CloseValue) (n : ℕ) (is : List (Result FrameValue InvalidFrame)) → AreSent is → (take_items is (begun e now n)).fault ≡ Some (closed_by_peer close) → P (answers.Deliver Taken) (told_items is (begun e now n)) (with_taken i n (frames_of is))
+  pub drains : (close : CloseValue) (n : ℕ) (here : Bool) (is : List (Result FrameValue InvalidFrame)) → AreSent is → (take_items (items_at here is) (begun e now n)).fault ≡ Some (closed_by_peer close) → P (answers.Deliver Taken) (told_items (items_at here is) (begun e now n)) (with_taken i n (frames_of is))
   -- one is refused, for one of its items
-  pub refuses : (fault : Fault) (n : ℕ) (is : List (Result FrameValue InvalidFrame)) → P (answers.Deliver (Closed (error_of fault))) (told_items is (begun e now n)) (with_refused i n (frames_of is))
+  pub refuses : (fault : Fault) (n : ℕ) (here : Bool) (is : List (Result FrameValue InvalidFrame)) → P (answers.Deliver (Closed (error_of fault))) (told_items (items_at here is) (begun e now n)) (with_refused i n (frames_of is))
   -- or as a whole
   pub whole : (fault : Fault) (n : ℕ) (frames : List FrameValue) → P (answers.Deliver (Closed (error_of fault))) [] (with_refused i n frames)
 
@@ -80,22 +79,31 @@ module _ (q : Policy) (e : End) (arrival : Arrival) (i : Intake) (d : List ℕ) 
     abbrev outcome : Bool → Bool → State → Outcome
     outcome phase again s = if phase then dropped drops.KeyPhase e else (if again then dropped drops.Duplicate e else by_state s o arrival noted)
 
-    faults : (f : Option Fault) → (take_items (items o.payload) (begun e arrival.now o.number)).fault ≡ f
-        → P (answers.Deliver (ends_as f (asks_in (items o.payload)) (is_urged arrival.mark (items o.payload) (begun e arrival.now o.number)) o.number arrival.mark (take_items (items o.payload) (begun e arrival.now o.number)).end).answer) (told_items (items o.payload) (begun e arrival.now o.number))
-        (came_new (answers.Deliver (ends_as f (asks_in (items o.payload)) (is_urged arrival.mark (items o.payload) (begun e arrival.now o.number)) o.number arrival.mark (take_items (items o.payload) (begun e arrival.now o.number)).end).answer))
-    faults None none = cases.takes o.number (items o.payload) none
-    faults (Some (closed_by_peer close)) some = cases.drains close o.number (items o.payload) from some
-    faults (Some (broke error)) some = cases.refuses (broke error) o.number (items o.payload)
-    faults (Some too_many_pieces) some = cases.refuses too_many_pieces o.number (items o.payload)
+    -- what is taken of its items
+    abbrev here : Bool
+    here = is_there arrival.remote e
+
+    abbrev taken : List (Result FrameValue InvalidFrame)
+    taken = items_at here (items o.payload)
+
+    -- what it comes to, at fault or not
+    abbrev left : Option Fault → End → Outcome
+    left f x = ends_as f (asks_in (items o.payload)) (is_urged arrival.mark (asks_in (items o.payload)) taken (begun e arrival.now o.number)) o.number arrival.mark x
+
+    faults : (f : Option Fault) → (take_items taken (begun e arrival.now o.number)).fault ≡ f
+        → P (answers.Deliver (left f (take_items taken (begun e arrival.now o.number)).end).answer) (told_items taken (begun e arrival.now o.number)) (came_new (answers.Deliver (left f (take_items taken (begun e arrival.now o.number)).end).answer))
+    faults None none = cases.takes o.number here (items o.payload) none
+    faults (Some (closed_by_peer close)) some = cases.drains close o.number here (items o.payload) from some
+    faults (Some (broke error)) some = cases.refuses (broke error) o.number here (items o.payload)
+    faults (Some too_many_pieces) some = cases.refuses too_many_pieces o.number here (items o.payload)
 
     -- what is taken of a payload that is refused as a whole, or isn't
     abbrev payload_if : Bool → Progress
-    payload_if b = if b then record { end = begun e arrival.now o.number; fault = Some violation } else take_items (items o.payload) (begun e arrival.now o.number)
+    payload_if b = if b then record { end = begun e arrival.now o.number; fault = Some violation } else take_items taken (begun e arrival.now o.number)
 
-    payload : (b : Bool) → P (answers.Deliver (ends_as (payload_if b).fault (asks_in (items o.payload)) (is_urged arrival.mark (items o.payload) (begun e arrival.now o.number)) o.number arrival.mark (payload_if b).end).answer) (if b then [] else told_items (items o.payload) (begun e arrival.now o.number))
-        (came_new (answers.Deliver (ends_as (payload_if b).fault (asks_in (items o.payload)) (is_urged arrival.mark (items o.payload) (begun e arrival.now o.number)) o.number arrival.mark (payload_if b).end).answer))
+    payload : (b : Bool) → P (answers.Deliver (left (payload_if b).fault (payload_if b).end).answer) (if b then [] else told_items taken (begun e arrival.now o.number)) (came_new (answers.Deliver (left (payload_if b).fault (payload_if b).end).answer))
     payload true = cases.whole violation o.number (frames_of (items o.payload))
-    payload false = faults (take_items (items o.payload) (begun e arrival.now o.number)).fault refl
+    payload false = faults (take_items taken (begun e arrival.now o.number)).fault refl
 
     abbrev Heard : Bool → Bool → Bool → State → Type 0
     Heard phase again b s = P (answers.Deliver (outcome phase again s).answer) (if phase || again then [] else told_by_state s o (early arrival) noted) (came phase b (answers.Deliver (outcome phase again s).answer))
@@ -103,7 +111,7 @@ module _ (q : Policy) (e : End) (arrival : Arrival) (i : Intake) (d : List ℕ) 
     tested : (phase again : Bool) → Heard phase again again states.Open
     tested true again = cases.nothing (answers.Deliver (dropped drops.KeyPhase e).answer)
     tested false true = cases.nothing (answers.Deliver (dropped drops.Duplicate e).answer)
-    tested false false = payload (not (reserved_bits o.first == 0) || is_empty (items o.payload))
+    tested false false = payload (not (reserved_bits o.first == 0) || is_empty taken)
 
     packet : P (answers.Deliver (opened_as (Some o) q arrival e).answer) (told_opened_as (Some o) (early arrival) e) (and_opened (if key_phase o.first then None else Some o) (answers.Deliver (opened_as (Some o) q arrival e).answer) i)
     packet =
@@ -117,7 +125,7 @@ module _ (q : Policy) (e : End) (arrival : Arrival) (i : Intake) (d : List ℕ) 
   opening_case None is = cases.nothing (answers.Deliver (opened_as None q arrival e).answer)
   opening_case (Some o) is = packet o (sent o is)
 
-  header_case : (r : Result (List ℕ) HeaderError) → P (answers.Deliver (headed r q e arrival d).answer) (told_headed r q e (early arrival) d) (and_opened (opens_behind r q (expected e.numbers) d) (answers.Deliver (headed r q e arrival d).answer) i)
+  header_case : (r : Result (List ℕ) DropReason) → P (answers.Deliver (headed r q e arrival d).answer) (told_headed r q e (early arrival) d) (and_opened (opens_behind r q (expected e.numbers) d) (answers.Deliver (headed r q e arrival d).answer) i)
   header_case (Err error) = cases.nothing (answers.Deliver (headed (Err error) q e arrival d).answer)
   header_case (Ok id) = opening_case (opening q e d) refl
 
@@ -125,7 +133,7 @@ module _ (q : Policy) (e : End) (arrival : Arrival) (i : Intake) (d : List ℕ) 
   at_open =
       let a : Answer = answers.Deliver (received_in states.Open q e arrival d).answer in
       let told : List Told = told_received_in states.Open q e (early arrival) d in
-      subst (λ (o : Option Opening). P a told (and_opened o a i)) (sym (came_open_is q e arrival d i.took k.expected)) (header_case (decoded (fixed_length_id own_id_length) (known e.ids) d))
+      subst (λ (o : Option Opening). P a told (and_opened o a i)) (sym (came_open_is q e arrival d i.took k.expected)) (header_case (head e arrival.remote d))
 
   -- what holds in each case holds of the datagram
   pub by_hearing : P (answers.Deliver (received q e arrival d).answer) (told_received q e (early arrival) d) (and_handed states.Open (Some d) q (answers.Deliver (received q e arrival d).answer) i)
@@ -144,13 +152,13 @@ closed_packet (Some o) arrival e is = go (key_phase o.first || is_duplicate e.nu
     go true = refl
     go false = ap (λ (s : State). told_by_state s o arrival noted) is
 
-closed_headed : (r : Result (List ℕ) HeaderError) (p : Policy) (e : End) (arrival : Arrival) (d : List ℕ) → e.closing.state ≡ states.Closing → told_headed r p e arrival d ≡ []
+closed_headed : (r : Result (List ℕ) DropReason) (p : Policy) (e : End) (arrival : Arrival) (d : List ℕ) → e.closing.state ≡ states.Closing → told_headed r p e arrival d ≡ []
 closed_headed (Err error) p e arrival d is = refl
 closed_headed (Ok id) p e arrival d is = closed_packet (opening p e d) arrival e is
 
 -- its controller is told nothing
 pub closed_told : (p : Policy) (e : End) (arrival : Arrival) (d : List ℕ) (s : State) → e.closing.state ≡ s → (s ≡ states.Open → ⊥) → told_received_in s p e arrival d ≡ []
 closed_told p e arrival d states.Open is closed = absurd (closed refl)
-closed_told p e arrival d states.Closing is closed = closed_headed (decoded (fixed_length_id own_id_length) (known e.ids) d) p e arrival d is
+closed_told p e arrival d states.Closing is closed = closed_headed (head e arrival.remote d) p e arrival d is
 closed_told p e arrival d states.Drained is closed = refl
 closed_told p e arrival d states.Failed is closed = refl

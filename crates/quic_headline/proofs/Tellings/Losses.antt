@@ -21,6 +21,7 @@ use Rattle.quic_machine.specs.Sizes.{is_resized, told_if_resized, told_size, is_
 use Rattle.quic_machine.specs.Acked.{verdict, told_detected}
 use Rattle.quic_headline.specs.Runs.{In}
 use Rattle.quic_headline.specs.Observer.{Sent, asks_of, Terms, Flight, latest, is_lost}
+use Rattle.quic_headline.specs.Polls.{counts_on}
 use Rattle.quic_headline.specs.Telling.{Judging, measured_first, told_if, MayProbe, lost_at, but_for_probe, bytes_asking, last_moment, lasting, loss_as, TellsLosses}
 use Rattle.quic_headline.proofs.Packets.Named.{in_filter}
 use Rattle.quic_headline.proofs.Packets.Waited.{IsWaited, AreWaited, waited_filter, waited_any}
@@ -118,13 +119,13 @@ by_both false c P h = (λ is. cc, λ both. (let clash : false ≡ true = both.0 
 
 -- ---- what is told
 
--- where an end knows what its observer does, on the first path, with these settings, and with the
+-- where an end knows what its observer does, on the path that it judges, with these settings, and with the
 -- number that went next as a round trip was first measured, and the open probe may be one, its
 -- controller is told of losses so
-pub losses_told : (j : Judging) (now : ℕ) (by_ack : Bool) (f : Flight) (e : End) → Tells j.terms now f (held e) → e.path.generation ≡ 0 → e.transport ≡ j.settings → e.path.first_after_rtt ≡ measured_first j.first j.next f.rtt.smoothed
+pub losses_told : (j : Judging) (now : ℕ) (by_ack : Bool) (f : Flight) (e : End) → Tells j.terms now f (held e) → e.path.generation ≡ j.generation → e.transport ≡ j.settings → e.path.first_after_rtt ≡ measured_first j.first j.next f.rtt.smoothed
     → e.path.discovery.bursts.least ≡ j.settings.min_mtu
     → ((s : Sent) → In s f.flying → (size : ℕ) → acknowledged_probe s.number e.path.discovery ≡ Some size → MayProbe j.settings.min_mtu s) → TellsLosses j now by_ack f (told_detected by_ack e)
-losses_told j now by_ack f e w first settings measured floor probes = record {
+losses_told j now by_ack f e w path settings measured floor probes = record {
   probe = probe;
   pinged = λ s among is. (let shown = open_shown s.number d is in probes s (in_filter (λ u. is_lost j.terms _ now _ u) s f.flying among) shown.0 shown.1);
   falls = is_resized d g;
@@ -186,12 +187,12 @@ losses_told j now by_ack f e w first settings measured floor probes = record {
         ∙ ap (λ (n : ℕ). Congested now n persists (saturated bytes)) (waited_last others (others_of d lost) each)
         ∙ ap (λ (n : ℕ). Congested now (last_moment others) persists (saturated n)) (waited_bytes others (others_of d lost) each)
 
-    any : list_any (flies e.path.generation) (others_of d lost) ≡ list_any asks_of others
-    any = ap (λ (n : ℕ). list_any (flies n) (others_of d lost)) first ∙ sym (waited_any asks_of (flies 0) (λ s p i. sym (flies_same s p i)) others (others_of d lost) each)
+    any : list_any (flies e.path.generation) (others_of d lost) ≡ list_any (counts_on j.generation) others
+    any = ap (λ (n : ℕ). list_any (flies n) (others_of d lost)) path ∙ sym (waited_any (counts_on j.generation) (flies j.generation) (λ s p i. sym (flies_same j.generation s p i)) others (others_of d lost) each)
 
     told : (b : Bool) → (if b then Congested e.closing.clock (last_sent (others_of d lost)) persists (saturated bytes) ∷ [] else []) ≡ told_if b (Congested now (last_moment others) persists (min (bytes_asking others) latest))
     told true = ap (λ (x : Told). x ∷ []) telling
     told false = refl
 
-    congested : told_congested by_ack e lost ≡ told_if (list_any asks_of others) (Congested now (last_moment others) persists (min (bytes_asking others) latest))
+    congested : told_congested by_ack e lost ≡ told_if (list_any (counts_on j.generation) others) (Congested now (last_moment others) persists (min (bytes_asking others) latest))
     congested = told (list_any (flies e.path.generation) (others_of d lost)) ∙ ap (λ (b : Bool). told_if b (Congested now (last_moment others) persists (min (bytes_asking others) latest))) any

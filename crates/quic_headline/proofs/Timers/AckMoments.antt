@@ -37,6 +37,10 @@ use Rattle.quic_headline.specs.Observer.{Sent, first_watch, news, Lens, watch_to
 use Rattle.quic_headline.specs.Moments.{is_ack, acknowledges, Debt, debt_told, first_debt}
 use Rattle.quic_headline.proofs.Packets.Entries.{IsControl, control_of}
 use Rattle.quic_headline.proofs.Packets.Delivered.{Arrivals, arrived, with_taken}
+use Rattle.quic_headline.proofs.Packets.Delivered.{frames_at as taken_at}
+use Rattle.quic_headline.proofs.Packets.Moved.{by_migrated}
+use Rattle.quic_headline.proofs.Packets.Moving.{moved_asks}
+use Rattle.quic_recovery_core.specs.AckFrequency.{Frequency}
 use Rattle.quic_headline.proofs.Packets.Watching.{one_new}
 use Rattle.quic_headline.proofs.Packets.Group.{meets}
 use Rattle.quic_headline.proofs.Places.Steps.{poll_answer}
@@ -281,38 +285,48 @@ or_false true = refl
 or_false false = refl
 
 -- each case of a delivery
-arrivals_set : (e : End) (now n : ℕ) (frames : List FrameValue) (i : Intake) → Arrivals e now n frames i (λ (o : Outcome) (j : Intake). SetBy e i o.end j)
-arrivals_set e now n frames i = record {
+arrivals_set : (e : End) (now n : ℕ) (frames taken : List FrameValue) (i : Intake) → Arrivals e now n frames taken i (λ (o : Outcome) (j : Intake). SetBy e i o.end j)
+arrivals_set e now n frames taken i = record {
   ignored = λ reason moment set. inl set;
   noted = λ state reason moment set. inl set;
-  takes = λ words state new none urged mark moment set. taken moment (taken_set e (arrived e now n frames).end n (asks_in (map Ok frames)) urged mark (frames_timer frames (begun e now n)) (frames_acks frames (begun e now n)) moment set);
+  takes = λ words state new none urged mark moment set. all_taken moment (taken_set e (arrived e now n taken).end n (asks_in (map Ok frames)) urged mark (frames_timer taken (begun e now n)) (frames_acks taken (begun e now n)) moment set);
+  moves = λ p o spells remote x opened h. by_migrated (λ (y : End). y.frequency ≡ x.frequency → SetBy e i y (with_taken i n frames)) p o remote x (λ c. again x h) (λ c most. again x h) (moved_asks p o remote x);
   drains = λ words state new close is moment set. cc;
   refuses = λ words state new f is moment set. cc;
   exhausts = λ state moment set. cc;
 }
   where
-    taken : (moment : ℕ) → (e.timers.max_ack_delay ≡ Some moment) ⊎ ((moment ≡ ack_due (arrived e now n frames).end.frequency.own_delay (arrived e now n frames).end.closing.clock) × (asks_in (map Ok frames) ≡ true) × (is_none e.acknowledging.since ≡ true) × (e.acknowledging.due ≡ false))
-        → (e.timers.max_ack_delay ≡ Some moment) ⊎ ((moment ≡ ack_due (arrived e now n frames).end.frequency.own_delay (arrived e now n frames).end.closing.clock) × (one_asks (news i (with_taken i n frames)) ≡ true) × (is_none e.acknowledging.since ≡ true) × (e.acknowledging.due ≡ false))
-    taken moment (inl was) = inl was
-    taken moment (inr due) = inr (due.0, ap (λ (ps : List Packet). one_asks ps) (one_new i n frames) ∙ or_false (list_any asks frames) ∙ sym (asks_same frames) ∙ due.1, due.2, due.3)
+    -- so it is where acknowledgements are asked for as before
+    again : (x : End) → SetBy e i x (with_taken i n frames) → {f : Frequency} → f ≡ x.frequency → (moment : ℕ) → x.timers.max_ack_delay ≡ Some moment
+        → (e.timers.max_ack_delay ≡ Some moment) ⊎ ((moment ≡ ack_due f.own_delay x.closing.clock) × (one_asks (news i (with_taken i n frames)) ≡ true) × (is_none e.acknowledging.since ≡ true) × (e.acknowledging.due ≡ false))
+    again x h same moment set = elim (h moment set) [
+      | inl was ↦ inl was
+      | inr due ↦ inr (due.0 ∙ ap (λ (g : Frequency). ack_due g.own_delay x.closing.clock) (sym same), due.1, due.2, due.3)
+    ]
+
+    all_taken : (moment : ℕ) → (e.timers.max_ack_delay ≡ Some moment) ⊎ ((moment ≡ ack_due (arrived e now n taken).end.frequency.own_delay (arrived e now n taken).end.closing.clock) × (asks_in (map Ok frames) ≡ true) × (is_none e.acknowledging.since ≡ true) × (e.acknowledging.due ≡ false))
+        → (e.timers.max_ack_delay ≡ Some moment) ⊎ ((moment ≡ ack_due (arrived e now n taken).end.frequency.own_delay (arrived e now n taken).end.closing.clock) × (one_asks (news i (with_taken i n frames)) ≡ true) × (is_none e.acknowledging.since ≡ true) × (e.acknowledging.due ≡ false))
+    all_taken moment (inl was) = inl was
+    all_taken moment (inr due) = inr (due.0, ap (λ (ps : List Packet). one_asks ps) (one_new i n frames) ∙ or_false (list_any asks frames) ∙ sym (asks_same frames) ∙ due.1, due.2, due.3)
 
 -- so it is behind any call
 pub call_set : (x y : Party) (call : Call) (a : Answer) → Calls Observed x y call a → SetBy x.end (came_to x y) (called x y.given call a).end (came_to (called x y.given call a) y)
 call_set x y call a c = by_coming x y a c.joined c.served (meets y x c.takes.0) (SetBy x.end (came_to x y)) call c.answer (record {
   apart = λ apart moment set. inl (call_none x.policy x.end y.given call a apart moment set);
   none = λ delivery is moment set. inl set;
-  comes = λ delivery is s among. arrivals_set x.end delivery.now s.number s.frames (came_to x y);
+  comes = λ delivery is s among here. arrivals_set x.end delivery.now s.number s.frames (taken_at here s.frames) (came_to x y);
 })
 
 -- ---- the observer's deadlines
 
--- nothing came to an end that gives these datagrams in all, and was made at a moment
-abbrev pub debt_first : List (List ℕ) → ℕ → ℕ → ℕ → Debt
-debt_first final start initial_rtt initial_delay = first_debt (first_watch final start initial_rtt initial_delay)
+-- nothing came to an end that gives these datagrams in all, and was made at a moment for a peer at
+-- this address
+abbrev pub debt_first : List (List ℕ) → ℕ → ℕ → ℕ → ℕ → Debt
+debt_first final start remote initial_rtt initial_delay = first_debt (first_watch final start remote initial_rtt initial_delay)
 
 -- what the observer of x knows
 abbrev pub debt_of : Party → Party → Debt
-debt_of x y = folded (debt_told (lens x y)) x.told (debt_first x.final x.began x.initial_rtt x.initial_delay)
+debt_of x y = folded (debt_told (lens x y)) x.told (debt_first x.final x.began x.made.path.remote x.initial_rtt x.initial_delay)
 
 -- the watch within the debt is the observer's
 pub owed_watch : (l : Lens) (told : List Told) (d : Debt) → (folded (debt_told l) told d).watch ≡ folded (watch_told l) told d.watch

@@ -36,6 +36,8 @@ use Rattle.quic_headline.proofs.Packets.Probes.{by_going}
 use Rattle.quic_machine.specs.LeaveCases as expiring
 use Rattle.quic_headline.proofs.Packets.Closes.{by_closes}
 use Rattle.quic_headline.proofs.Packets.Heard.{by_taken}
+use Rattle.quic_headline.proofs.Packets.Moved.{by_migrated}
+use Rattle.quic_headline.proofs.Packets.Moving.{moved_acks}
 
 -- no timer is set
 unset_follows : (e : End) → e.timers.max_ack_delay ≡ None → AckTimerFollows e
@@ -72,6 +74,10 @@ apart_follows f e is i = apart_leaves (λ (x : End). AsksAnew e.acknowledging x.
     still : {p : Pending} → AsksAnew e.acknowledging p → e.closing.state ≡ states.Open → is_some e.timers.max_ack_delay ≡ true → 0 < p.asking
     still anew opened set = subst (λ (k : ℕ). 0 < k) (sym (ap (λ (a : Pending). a.asking) anew.others)) (i opened set)
 
+-- what is counted is as it was
+still_counts : (e : End) → AckTimerFollows e → {p : Pending} → p ≡ e.acknowledging → e.closing.state ≡ states.Open → is_some e.timers.max_ack_delay ≡ true → 0 < p.asking
+still_counts e i same opened set = subst (λ (a : Pending). 0 < a.asking) (sym same) (i opened set)
+
 receives : Receives AckTimerFollows
 receives = record {
   notes = λ n e i. i;
@@ -83,6 +89,7 @@ receives = record {
   asks_close = λ e i. i;
   exhausts = λ now e i. closed_follows reasons.KeyLimit (with_closing e (ticked e.closing now));
   draws = λ words e i. i;
+  moves = λ p o remote e i. by_migrated (λ (x : End). x.acknowledging ≡ e.acknowledging → AckTimerFollows x) p o remote e (λ c. still_counts e i) (λ c most. still_counts e i) (moved_acks p o remote e);
 }
 
 -- ---- a poll
@@ -132,16 +139,13 @@ expired_follows words e now expiry i = by_timers words AckTimerFollows AckTimerF
 call_follows : (p : Policy) (e : End) (theirs : List (List ℕ)) (call : Call) (a : Answer) → AckTimerFollows e → AckTimerFollows (after_call p e theirs call a)
 call_follows p e theirs call a i = by_plain_call p e theirs AckTimerFollows call a cases_keep
   where
-    still : {p : Pending} → p ≡ e.acknowledging → e.closing.state ≡ states.Open → is_some e.timers.max_ack_delay ≡ true → 0 < p.asking
-    still same opened set = subst (λ (a : Pending). 0 < a.asking) (sym same) (i opened set)
-
     cases_keep : Plain p e call AckTimerFollows
     cases_keep (cases.times now expiry) may = expired_follows p.words e now expiry i
     cases_keep (cases.polls now) may = polled_follows p e now i
     cases_keep (cases.hears arrival d) may = by_received AckTimerFollows receives p e arrival d i
     cases_keep (cases.closes reason f now) may = λ opened. cc
     cases_keep (cases.waits now b) may = by_waits AckTimerFollows b (with_closing e (ticked e.closing now)) (λ opened. cc) i
-    cases_keep (cases.changes_id b) may = by_next_id (λ (x : End). x.acknowledging ≡ e.acknowledging → AckTimerFollows x) e b (λ same. i) (λ c same. still same) (λ c most same. still same) (next_acks e b)
+    cases_keep (cases.changes_id b) may = by_next_id (λ (x : End). x.acknowledging ≡ e.acknowledging → AckTimerFollows x) e b (λ same. i) (λ c. still_counts e i) (λ c most. still_counts e i) (next_acks e b)
     cases_keep c may = i
 
 -- a run
@@ -149,5 +153,6 @@ pub ack_timers_follow : (k : Policies) (w end : World) (events : List RunEvent) 
 ack_timers_follow k w end events told views f i = run_keeps AckTimerFollows (record {
   call = call_follows;
   shows = λ window blocked e i. i;
+  paces = λ pacing e i. i;
   stops = λ e next is opened. let clash : states.Failed ≡ states.Open = sym is.0 ∙ opened in cc;
 }) k w end events told views f i

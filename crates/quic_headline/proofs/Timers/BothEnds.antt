@@ -9,7 +9,8 @@ use Rattle.quic_machine.specs.declared.run.Answer.{Answer}
 use Rattle.quic_machine.specs.declared.run.View.{View}
 use Rattle.quic_machine.specs.Policy.{Policy}
 use Rattle.quic_machine.specs.End.{End, with_window}
-use Rattle.quic_machine.specs.Control.{Control}
+use Rattle.quic_congestion.specs.Pacer.{Pacing}
+use Rattle.quic_machine.specs.Control.{Control, with_pacing}
 use Rattle.quic_machine.specs.Machine.{World, Policies, HasStopped, IsLeft, IsStep, after_call, fails, Follows}
 use Rattle.quic_machine.specs.CallCases.{by_left}
 use Rattle.quic_machine.specs.Heard.{Heard}
@@ -34,13 +35,14 @@ AtBoth P w = P w.client × P w.server
 pub record IsKept (P : End → Type 0) : Type 0 where
   pub call : (p : Policy) (e : End) (theirs : List (List ℕ)) (call : Call) (a : Answer) → P e → P (after_call p e theirs call a)
   pub shows : (window : ℕ) (blocked : Bool) (e : End) → P e → P (with_blocked (with_window e window) blocked)
+  pub paces : (pacing : Pacing) (e : End) → P e → P (with_pacing e pacing)
   pub stops : (e next : End) → HasStopped e next → P next
 
 module _ (P : End → Type 0) (c : IsKept P) where
   -- the end that a call leaves
   left_keeps : (failed : Bool) (p : Policy) (control : Control) (heard : Heard) (e next : End) (theirs : List (List ℕ)) (call : Call) (a : Answer) → IsLeft failed p control heard e theirs call a next → P e → P next
   left_keeps true p control heard e next theirs call a is i = c.stops e next is
-  left_keeps false p control heard e next theirs call a is i = subst P (sym is) (by_left p e theirs P i (λ window blocked. c.shows window blocked e) control heard call a (λ x. c.call p x theirs call a))
+  left_keeps false p control heard e next theirs call a is i = subst P (sym is) (by_left p e theirs P i (λ window blocked. c.shows window blocked e) control heard call a (λ x pacing. c.paces pacing x) (λ x. c.call p x theirs call a))
 
   -- a step
   pub step_keeps : (k : Policies) (w next : World) (event : RunEvent) (a : Answer) → IsStep k w event a next → AtBoth P w → AtBoth P next

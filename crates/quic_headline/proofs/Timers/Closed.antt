@@ -1,6 +1,6 @@
 -- What calls make of the state of an end and of its timers: one that isn't open has none set, but
 -- for that of its close while it is closing, which stays.
-use Rattle.std.proofs.Common.{◌≡◌, ℕ, zero, suc, ◌+◌, ◌≤◌, max, Bool, true, false, not, ◌||◌, ◌==◌, List, [], ◌∷◌, take, slice_get, Option, Some, None, Result, Ok, Err, refl, sym, ap, ◌∙◌, subst, arith}
+use Rattle.std.proofs.Common.{◌≡◌, ℕ, zero, suc, ◌+◌, ◌≤◌, max, Bool, true, false, not, ◌&&◌, ◌||◌, ◌==◌, List, [], ◌∷◌, take, slice_get, Option, Some, None, Result, Ok, Err, refl, sym, ap, ◌∙◌, subst, arith}
 use Rattle.std.specs.Prelude.{if◌then◌else◌}
 use Rattle.std.specs.declared.ops.Range.{Range}
 use Rattle.quic_wire_core.specs.declared.shared.EcnCodepoint.{EcnCodepoint}
@@ -11,8 +11,6 @@ use Rattle.quic_wire.specs.Value.{FrameValue}
 use Rattle.quic_wire.specs.declared.frame.InvalidFrame.{InvalidFrame}
 use Rattle.quic_packet.specs.Header.{key_phase, reserved_bits}
 use Rattle.quic_packet.specs.Datagram.{Opening}
-use Rattle.quic_packet.specs.Destination.{decoded, fixed_length_id}
-use Rattle.quic_packet.specs.declared.packet.HeaderError.{HeaderError}
 use Rattle.quic_recovery_core.specs.Duplicates.{is_duplicate}
 use Rattle.quic_time.specs.Clocks.{saturated}
 use Rattle.quic_time.specs.Timers.{Timers, no_timers, each_timer, has_come}
@@ -21,6 +19,7 @@ use Rattle.quic_spaces.specs.Numbers.{number_opened}
 use Rattle.quic_machine.specs.Arrival.{Arrival, delivered_by, injected_by}
 use Rattle.quic_machine.specs.declared.answers.State.{State}
 use Rattle.quic_machine.specs.declared.answers.State.TheVariants as states
+use Rattle.quic_machine.specs.declared.answers.DropReason.{DropReason}
 use Rattle.quic_machine.specs.declared.answers.DropReason.TheVariants as drops
 use Rattle.quic_machine.specs.declared.answers.LostReason.{LostReason}
 use Rattle.quic_machine.specs.declared.answers.LostReason.TheVariants as reasons
@@ -34,7 +33,7 @@ use Rattle.quic_machine.specs.declared.run.Answer.TheVariants as answers
 use Rattle.quic_machine.specs.declared.run.EndView.{EndView}
 use Rattle.quic_machine.specs.declared.run.View.{View}
 use Rattle.quic_machine.specs.Policy.{Policy}
-use Rattle.quic_machine.specs.Ids.{known, next_used, retires_for_next}
+use Rattle.quic_machine.specs.Ids.{next_used, retires_for_next}
 use Rattle.quic_machine.specs.Closing.{Closing, ticked}
 use Rattle.quic_machine.specs.Heard.{Heard}
 use Rattle.quic_machine.specs.Validation.{is_blocked, with_blocked}
@@ -43,11 +42,12 @@ use Rattle.quic_machine.specs.Sizes.{without_longer_if, shortened}
 use Rattle.quic_machine.specs.MessageCalls.{most_message}
 use Rattle.quic_machine.specs.IdFrames.{retiring, next_id_taken, end_on_next_id}
 use Rattle.quic_machine.specs.End.{End, with_closing, with_numbers, with_ids, with_window, with_loss_timer, three_timeouts, closed_by}
-use Rattle.quic_machine.specs.Opens.{own_id_length, would_open}
-use Rattle.quic_machine.specs.Receive.{Fault, broke, too_many_pieces, closed_by_peer, reason_of, violation, is_empty, asks_in, is_urged, take_frame, take_items, take_payload, dropped, ends_as, by_state, opened_to, opened_as, opening, headed, received_in, is_read, drawn_if, unopened_in}
+use Rattle.quic_machine.specs.Opens.{head, would_open}
+use Rattle.quic_machine.specs.Calls.{is_open, closed_in}
+use Rattle.quic_machine.specs.Migration.{migrates, migrated}
+use Rattle.quic_machine.specs.Receive.{Fault, broke, too_many_pieces, closed_by_peer, reason_of, violation, is_empty, asks_in, is_urged, take_frame, take_items, take_payload, dropped, ends_as, by_state, opened_to, opened_as, opening, headed, received_in, is_read, drawn_if, with_ids_drawn, is_taken, migrated_if, items_taken, unopened_in}
 use Rattle.quic_machine.specs.Poll.{Polled, polled_in, polled, draft_as}
 use Rattle.quic_machine.specs.Timeouts.{expiry_at, loss_judged, close_expired, timed_out_in, timed_out}
-use Rattle.quic_machine.specs.Calls.{closed_in}
 use Rattle.quic_machine.specs.Machine.{World, Policies, HasStopped, IsLeft, IsStep, end_at, view_of, after_call, after_delivered, after_injected_if, end_left, says_last, fails, Follows}
 use Rattle.quic_machine.specs.FrameCases.{Settling, named, acked_keeps, losses_keep, frame_keeps, frame_leaves, items_keep, apart_leaves}
 use Rattle.quic_machine.specs.Steps as steps
@@ -63,6 +63,7 @@ use Rattle.quic_headline.specs.Views.{place}
 use Rattle.quic_headline.specs.Expiring.{timer_in, HasOnlyClose, ClosedTimers, moment_told, IsOfItself, CloseMomentsStay}
 use Rattle.quic_headline.proofs.Packets.Closes.{by_closes, closes_left}
 use Rattle.quic_headline.proofs.Packets.Heard.{by_taken}
+use Rattle.quic_headline.proofs.Packets.Moved.{by_migrated}
 use Rattle.quic_headline.proofs.Packets.Probes.{may_leave}
 use Rattle.quic_headline.proofs.Places.Moments.{last_view, last_seen, state_shown}
 use Rattle.quic_headline.proofs.Places.Placed.{start_is}
@@ -169,8 +170,10 @@ module _ (e : End) (arrival : Arrival) where
   state_goes : (s : State) (o : Opening) → e.closing.state ≡ s → Comes (by_state s o arrival (noted o)).end
   state_goes states.Open o here =
       let begins : End = with_closing (noted o) (ticked (noted o).closing arrival.now) in
-      let taken = take_payload o.first (items o.payload) begins in
-      ends_goes here taken.fault (asks_in (items o.payload)) (is_urged arrival.mark (items o.payload) begins) o.number arrival.mark taken.end (payload_reads o.first (items o.payload) begins refl)
+      let is = items_taken o arrival e in
+      let asking = asks_in (items o.payload) in
+      let taken = take_payload o.first is begins in
+      ends_goes here taken.fault asking (is_urged arrival.mark asking is begins) o.number arrival.mark taken.end (payload_reads o.first is begins refl)
   state_goes states.Closing o here = (clock_kept e.closing.clock (Some arrival.now), stays_so refl refl)
   state_goes states.Drained o here = (clock_kept e.closing.clock (Some arrival.now), stays_so refl refl)
   state_goes states.Failed o here = (clock_kept e.closing.clock (Some arrival.now), stays_so refl refl)
@@ -188,6 +191,30 @@ module _ (e : End) (arrival : Arrival) where
   drawn_goes true p x i = i
   drawn_goes false p x i = i
 
+  -- an end whose path changes stays open, and so does that clock
+  moved_open : (p : Policy) (o : Opening) (x : End) → Comes x → x.closing.state ≡ states.Open → Comes (migrated p o arrival.remote x)
+  moved_open p o x i opened = by_migrated (λ (y : End). Goes (Some arrival.now) e y) p o arrival.remote x (λ c. (i.0, stays_open (still_open i.1) opened)) (λ c most. (i.0, stays_open (still_open i.1) opened))
+    where
+      -- one that is open was so before
+      still_open : Turns (Some arrival.now) e.closing e.timers (three_timeouts e) x.closing x.timers → e.closing.state ≡ states.Open
+      still_open (stays_open was is) = was
+      still_open (stays_so same timers) = sym same ∙ opened
+      still_open (closes_now reason moment was is why timers own) = was
+      still_open (drained_now was is timers) = was
+      still_open (closed_long was is timers come) = (let clash : states.Drained ≡ states.Open = sym is ∙ opened in cc)
+
+  -- only that of an open end does
+  migrated_goes : (o : Opening) (p : Policy) (x : End) (taken : Bool) → Comes x → Comes (migrated_if (migrates o arrival.remote e && (taken && is_open x.closing.state)) p o arrival.remote x)
+  migrated_goes o p x taken i = go (migrates o arrival.remote e) taken x.closing.state refl
+    where
+      go : (a b : Bool) (s : State) → x.closing.state ≡ s → Comes (migrated_if (a && (b && is_open s)) p o arrival.remote x)
+      go true true states.Open opened = moved_open p o x i opened
+      go true true states.Closing is = i
+      go true true states.Drained is = i
+      go true true states.Failed is = i
+      go true false s is = i
+      go false b s is = i
+
   -- one that doesn't open may be the last that may not
   unopened_goes : (s : State) (b : Bool) → e.closing.state ≡ s → Comes (unopened_in s b arrival e).end
   unopened_goes states.Open true here = (le_self (max e.closing.clock arrival.now), closes_now reasons.KeyLimit (saturated (max e.closing.clock arrival.now + three_timeouts e)) here refl refl refl (λ own. refl))
@@ -198,17 +225,19 @@ module _ (e : End) (arrival : Arrival) where
 
   packet_goes : (o : Option Opening) (p : Policy) → Comes (opened_as o p arrival e).end
   packet_goes None p = unopened_goes e.closing.state arrival.last refl
-  packet_goes (Some o) p = drawn_goes (is_read (opened_to o arrival e).answer) p (opened_to o arrival e).end (opened_goes o)
+  packet_goes (Some o) p =
+      let out = with_ids_drawn p (opened_to o arrival e) in
+      migrated_goes o p out.end (is_taken out.answer) (drawn_goes (is_read (opened_to o arrival e).answer) p (opened_to o arrival e).end (opened_goes o))
 
-  headed_goes : (r : Result (List ℕ) HeaderError) (p : Policy) (d : List ℕ) → Comes (headed r p e arrival d).end
+  headed_goes : (r : Result (List ℕ) DropReason) (p : Policy) (d : List ℕ) → Comes (headed r p e arrival d).end
   headed_goes (Err error) p d = goes_same (Some arrival.now) e
   headed_goes (Ok id) p d = packet_goes (opening p e d) p
 
   received_goes : (s : State) (p : Policy) (d : List ℕ) → Comes (received_in s p e arrival d).end
   received_goes states.Failed p d = goes_same (Some arrival.now) e
   received_goes states.Drained p d = goes_same (Some arrival.now) e
-  received_goes states.Open p d = headed_goes (decoded (fixed_length_id own_id_length) (known e.ids) d) p d
-  received_goes states.Closing p d = headed_goes (decoded (fixed_length_id own_id_length) (known e.ids) d) p d
+  received_goes states.Open p d = headed_goes (head e arrival.remote d) p d
+  received_goes states.Closing p d = headed_goes (head e arrival.remote d) p d
 
   -- there is such a datagram or not
   delivered_goes : (o : Option (List ℕ)) (p : Policy) → Comes (after_delivered p e arrival o)

@@ -20,7 +20,7 @@ use Rattle.quic_machine.specs.declared.run.Call.TheVariants as calls
 use Rattle.quic_machine.specs.declared.run.Answer.{Answer}
 use Rattle.quic_machine.specs.declared.run.Answer.TheVariants as answers
 use Rattle.quic_machine.specs.Policy.{Policy}
-use Rattle.quic_machine.specs.Closing.{ticked}
+use Rattle.quic_machine.specs.Closing.{Closing, ticked}
 use Rattle.quic_machine.specs.Control.{paid, with_app_limited}
 use Rattle.quic_machine.specs.End.{End, words_drawn, three_timeouts, with_closing, with_ack_timer, with_loss_timer, with_number_given}
 use Rattle.quic_machine.specs.Idle.{lesser_timeout, timeout_of, agreed_timeout, idle_moment, keep_alive_reset, idle_reset_if, packet_given}
@@ -43,7 +43,12 @@ use Rattle.quic_headline.specs.Observer.{Sent, asks_of, lesser, latest, Watch, f
 use Rattle.quic_headline.specs.Headline.{IsHonest, IsRun}
 use Rattle.quic_headline.specs.Expiring.{moment_behind, three_waits, lesser_of, Silence, begins_anew, idle_from, silence_behind, silence_told, first_silence, IdleMoments}
 use Rattle.quic_headline.proofs.Packets.Apart.{by_waits, by_next_id}
-use Rattle.quic_headline.proofs.Packets.Delivered.{Arrivals, arrived}
+use Rattle.quic_headline.proofs.Packets.Delivered.{frames_at, Arrivals, arrived, with_taken}
+use Rattle.quic_headline.proofs.Packets.Moved.{by_migrated}
+use Rattle.quic_headline.proofs.Packets.Moving.{moved_asks}
+use Rattle.quic_recovery_core.specs.AckFrequency.{Frequency}
+use Rattle.quic_packet.specs.Datagram.{Opening}
+use Rattle.quic_machine.specs.Migration.{migrated}
 use Rattle.quic_headline.proofs.Packets.Flying.{Tells, held, asking_padded}
 use Rattle.quic_headline.proofs.Timers.Waits.{three_waited}
 use Rattle.quic_headline.proofs.Packets.Group.{meets}
@@ -239,6 +244,32 @@ frames_idling fs e = frames_keep Stays (frame_keeps Stays (record {
     settling (steps.known n) x i = i
     settling s x i = i
 
+-- a change of the path leaves when that is over, and how long is waited
+record IdlesOn (x y : End) : Type 0 where
+  idle : y.timers.idle ≡ x.timers.idle
+  armed : y.idle_armed ≡ x.idle_armed
+  closing : y.closing ≡ x.closing
+  three : three_timeouts y ≡ three_timeouts x
+
+moved_idle : (p : Policy) (o : Opening) (remote : ℕ) (x : End) → IdlesOn x (migrated p o remote x)
+moved_idle p o remote x = by_migrated (λ (y : End). y.frequency ≡ x.frequency → IdlesOn x y) p o remote x (λ c same. (let s = as_long c.frequency same in record { idle = s.idle; armed = s.armed; closing = s.closing; three = s.three })) (λ c most same. (let s = as_long c.frequency same in record { idle = s.idle; armed = s.armed; closing = s.closing; three = s.three })) (moved_asks p o remote x)
+  where
+    as_long : (f : Frequency) → f ≡ x.frequency → IdlesOn x (record x { frequency = f })
+    as_long f same = record { idle = refl; armed = refl; closing = refl; three = ap (λ (g : Frequency). three_timeouts (record x { frequency = g })) same }
+
+moved_restarts : (p : Policy) (o : Opening) (remote : ℕ) (x : End) (b : Idling) (came asked : Bool) → Restarts b came asked x → Restarts b came asked (migrated p o remote x)
+moved_restarts p o remote x b came asked r =
+    let y : End = migrated p o remote x in
+    let s = moved_idle p o remote x in
+    record {
+      over =
+          s.idle
+          ∙ r.over
+          ∙ ap (λ (c : Closing). if came || (asked && b.armed) then idle_again b.agreed c.clock (three_timeouts x) b.over else b.over) (sym s.closing)
+          ∙ ap (λ (n : ℕ). if came || (asked && b.armed) then idle_again b.agreed y.closing.clock n b.over else b.over) (sym s.three);
+      armed = s.armed ∙ r.armed;
+    }
+
 -- it begins anew where a packet came
 abbrev SetBy : End → Intake → End → Intake → Type 0
 SetBy e i f j = f.closing.state ≡ states.Open → Restarts (idling e) (nat_lt 0 (length (news i j))) false f
@@ -246,21 +277,22 @@ SetBy e i f j = f.closing.state ≡ states.Open → Restarts (idling e) (nat_lt 
 none_set : (e : End) (i : Intake) → SetBy e i e i
 none_set e i opened = subst (λ (ps : List Packet). Restarts (idling e) (nat_lt 0 (length ps)) false e) (sym (none_new i)) (unchanged (idling e) e refl)
 
-arrivals_set : (e : End) (now n : ℕ) (frames : List FrameValue) (i : Intake) → Arrivals e now n frames i (λ (o : Outcome) (j : Intake). SetBy e i o.end j)
-arrivals_set e now n frames i = record {
+arrivals_set : (e : End) (now n : ℕ) (frames taken : List FrameValue) (i : Intake) → Arrivals e now n frames taken i (λ (o : Outcome) (j : Intake). SetBy e i o.end j)
+arrivals_set e now n frames taken i = record {
   ignored = λ reason. none_set e i;
   noted = λ state reason opened. absurd (let clash : states.Closing ≡ states.Open = sym state ∙ opened in cc);
   takes = λ words state new none urged mark opened. (
-      let taken : End = after_taken n (asks_in (map Ok frames)) urged mark left in
-      let r : Restarts (idling e) true false taken = subst (λ (b : Idling). Restarts b true false taken) (frames_idling frames (begun e now n)) (taken_restarts n (asks_in (map Ok frames)) urged mark left) in
-      subst (λ (ps : List Packet). Restarts (idling e) (nat_lt 0 (length ps)) false (drawn words taken)) (sym (one_new i n frames)) (record { over = r.over; armed = r.armed }));
+      let after : End = after_taken n (asks_in (map Ok frames)) urged mark left in
+      let r : Restarts (idling e) true false after = subst (λ (b : Idling). Restarts b true false after) (frames_idling taken (begun e now n)) (taken_restarts n (asks_in (map Ok frames)) urged mark left) in
+      subst (λ (ps : List Packet). Restarts (idling e) (nat_lt 0 (length ps)) false (drawn words after)) (sym (one_new i n frames)) (record { over = r.over; armed = r.armed }));
+  moves = λ p o spells remote x opened h still. moved_restarts p o remote x (idling e) (nat_lt 0 (length (news i (with_taken i n frames)))) false (h opened);
   drains = λ words state new close is opened. absurd cc;
   refuses = λ words state new f is opened. absurd cc;
   exhausts = λ state opened. absurd cc;
 }
   where
     left : End
-    left = (arrived e now n frames).end
+    left = (arrived e now n taken).end
 
 -- ---- any call
 
@@ -311,7 +343,7 @@ module _ (x y : Party) (a : Answer) where
   call_restarts (calls.Deliver delivery) c = by_coming x y a c.joined c.served (meets y x c.takes.0) (SetBy x.end (came_to x y)) (calls.Deliver delivery) c.answer (record {
     apart = λ apart. cc;
     none = λ other same. none_set x.end (came_to x y);
-    comes = λ other same s among. arrivals_set x.end other.now s.number s.frames (came_to x y);
+    comes = λ other same s among here. arrivals_set x.end other.now s.number s.frames (frames_at here s.frames) (came_to x y);
   })
   call_restarts call c = apart_restarts call refl (λ still. unchanged (idling x.end) (called x y.given call a).end (quiet_idling x.policy x.end y.given call a refl refl still))
 
@@ -323,7 +355,7 @@ time_of x y = option_map nanos (lesser_of (told_timeout x.made.transport.max_idl
 
 -- what the observer of x knows of its silence
 abbrev silence_of : Party → Party → Silence
-silence_of x y = folded (silence_told (time_of x y) (lens x y)) x.told (first_silence (first_watch x.final x.began x.initial_rtt x.initial_delay))
+silence_of x y = folded (silence_told (time_of x y) (lens x y)) x.told (first_silence (first_watch x.final x.began x.made.path.remote x.initial_rtt x.initial_delay))
 
 -- the watch within it is the observer's
 same_watch : (time : Option ℕ) (l : Lens) (told : List Told) (s : Silence) → (folded (silence_told time l) told s).watch ≡ folded (watch_told l) told s.watch
@@ -331,7 +363,7 @@ same_watch time l [] s = refl
 same_watch time l (t ∷ told) s = same_watch time l told (silence_told time l t s)
 
 silence_watch : (x y : Party) → (silence_of x y).watch ≡ watch_of x y
-silence_watch x y = same_watch (time_of x y) (lens x y) x.told (first_silence (first_watch x.final x.began x.initial_rtt x.initial_delay))
+silence_watch x y = same_watch (time_of x y) (lens x y) x.told (first_silence (first_watch x.final x.began x.made.path.remote x.initial_rtt x.initial_delay))
 
 -- what both ends agree on, by what an end was set to and what its peer told
 abbrev agreed_at : End → Option ℕ
@@ -381,7 +413,7 @@ module _ (x y : Party) (call : Call) (a : Answer) (c : Calls Observed x y call a
   -- what the observer knows behind the call
   silence_next : silence_of next y ≡ silence_behind (time_of x y) sents came after s
   silence_next =
-      folded_more (silence_told (time_of x y) (lens x y)) x.told t (first_silence (first_watch x.final x.began x.initial_rtt x.initial_delay))
+      folded_more (silence_told (time_of x y) (lens x y)) x.told t (first_silence (first_watch x.final x.began x.made.path.remote x.initial_rtt x.initial_delay))
       ∙ ap (λ (ss : List Sent). silence_behind (time_of x y) ss (news s.watch.intake after.intake) after s) (went_behind x y call a c s.watch watched)
       ∙ ap (λ (j : Intake). silence_behind (time_of x y) sents (news j after.intake) after s) (came_before x y call a c s.watch watched)
       ∙ ap (λ (j : Intake). silence_behind (time_of x y) sents (news (came_to x y) j) after s) (came_behind x y call a c s.watch watched)

@@ -12,15 +12,14 @@ use Rattle.quic_time.specs.Clocks.{saturated}
 use Rattle.quic_time.specs.Rtt as rtt
 use Rattle.quic_recovery_core.specs.AckFrequency.{Frequency, longest_delay}
 use Rattle.quic_packet.specs.Header.{key_phase, reserved_bits}
-use Rattle.quic_packet.specs.Destination.{decoded, fixed_length_id}
 use Rattle.quic_packet.specs.Datagram.{Opening}
-use Rattle.quic_packet.specs.declared.packet.HeaderError.{HeaderError}
 use Rattle.quic_wire.specs.Value.{FrameValue, AckValue}
 use Rattle.quic_wire.specs.Items.{items}
 use Rattle.quic_wire.specs.declared.frame.InvalidFrame.{InvalidFrame}
 use Rattle.quic_machine.specs.Arrival.{Arrival}
 use Rattle.quic_machine.specs.declared.answers.State.{State}
 use Rattle.quic_machine.specs.declared.answers.State.TheVariants as states
+use Rattle.quic_machine.specs.declared.answers.DropReason.{DropReason}
 use Rattle.quic_machine.specs.declared.answers.DropReason.TheVariants as drops
 use Rattle.quic_machine.specs.declared.answers.LostReason.{LostReason}
 use Rattle.quic_machine.specs.declared.answers.LostReason.TheVariants as reasons
@@ -30,14 +29,14 @@ use Rattle.quic_machine.specs.declared.run.Answer.{Answer}
 use Rattle.quic_machine.specs.declared.run.View.{View}
 use Rattle.quic_streams_parts.specs.Table.{Table, added, put}
 use Rattle.quic_machine.specs.Policy.{Policy}
-use Rattle.quic_machine.specs.Ids.{known}
-use Rattle.quic_machine.specs.Opens.{own_id_length}
+use Rattle.quic_machine.specs.Opens.{head}
+use Rattle.quic_machine.specs.Migration.{migrated}
 use Rattle.quic_machine.specs.Closing.{Closing, ticked, close_asked}
 use Rattle.quic_spaces.specs.Numbers.{Numbers, number_opened}
 use Rattle.quic_machine.specs.Tracking.{after_answered, Tracking, TrackedPacket, asks_any, without_record, is_behind, tail_of, forgets, forgotten, oldest, without_packet, asking_sent, after_sent, Verdict, is_lost, kept_by, loss_moment, moment_or, probe_moment, after_detection, acked_by, not_acked_by, names}
 use Rattle.quic_machine.specs.End.{End, with_closing, closed_by, with_numbers, number_of, with_ping, with_immediate, probe_timeout, with_window}
 use Rattle.quic_machine.specs.Acked.{verdict, losses_detected, measured, sampled, without_acked, after_named, after_acked, losses_taken}
-use Rattle.quic_machine.specs.Receive.{Fault, broke, too_many_pieces, closed_by_peer, drained_at, exhausted, unopened_in, is_read, drawn_if, violation, reason_of, take_frame, take_items, take_payload, is_empty, asks_in, is_urged, after_taken, dropped, ends_as, by_state, opened_to, opened_as, opening, headed, received_in, received}
+use Rattle.quic_machine.specs.Receive.{Fault, broke, too_many_pieces, closed_by_peer, drained_at, exhausted, unopened_in, is_read, drawn_if, violation, reason_of, take_frame, take_items, take_payload, is_empty, asks_in, is_urged, after_taken, dropped, ends_as, by_state, opened_to, opened_as, opening, headed, received_in, with_ids_drawn, has_migrated, migrated_if, items_taken, received}
 use Rattle.quic_machine.specs.Poll.{Polled, Draft, packet_of, after_given, record_moved, draft_as, polled, Leaving, Ready}
 use Rattle.quic_machine.specs.Timeouts.{Expiry, loss_judged}
 use Rattle.quic_machine.specs.Machine.{World, Policies, after_call, Follows}
@@ -59,11 +58,15 @@ use Rattle.quic_headline.proofs.Timers.BothEnds.{AtBoth, run_keeps}
 use Rattle.quic_machine.specs.DraftLaws.{MayLeave}
 use Rattle.quic_machine.specs.LeaveCases as expiring
 use Rattle.quic_machine.specs.Validation.{with_blocked}
+use Rattle.quic_congestion.specs.Pacer.{Pacing}
+use Rattle.quic_machine.specs.Control.{with_pacing}
 use Rattle.quic_machine.specs.IdFrames.{drawn}
 use Rattle.quic_wire.specs.Close.{CloseValue}
 use Rattle.quic_headline.proofs.Packets.Closes.{by_closes}
 use Rattle.quic_headline.proofs.Packets.Apart.{AsksOn, longest_on, by_waits, by_next_id, next_frequency}
 use Rattle.quic_headline.proofs.Packets.Heard.{by_taken}
+use Rattle.quic_headline.proofs.Packets.Moved.{by_migrated}
+use Rattle.quic_headline.proofs.Packets.Moving.{moved_frequency}
 
 -- ---- a datagram, where frames keep less
 
@@ -79,6 +82,7 @@ pub record Hears (P Q : End → Type 0) : Type 0 where
   pub asks_close : (e : End) → P e → P (with_closing e (close_asked e.closing))
   pub exhausts : (now : ℕ) (e : End) → P e → P (exhausted now e)
   pub draws : (words : ℕ → ℕ) (e : End) → P e → P (drawn words e)
+  pub moves : (p : Policy) (o : Opening) (remote : ℕ) (e : End) → P e → P (migrated p o remote e)
 
 module _ (P Q : End → Type 0) (c : Hears P Q) where
   -- a payload
@@ -100,8 +104,10 @@ module _ (P Q : End → Type 0) (c : Hears P Q) where
   state_hears : (state : State) (o : Opening) (arrival : Arrival) (e : End) → P e → P (by_state state o arrival (with_numbers e (number_opened e.numbers o.number))).end
   state_hears states.Open o arrival e i =
       let begins = begun e arrival.now o.number in
-      let taken = take_payload o.first (items o.payload) begins in
-      ends_hear taken.fault (asks_in (items o.payload)) (is_urged arrival.mark (items o.payload) begins) o.number arrival.mark taken.end (payload_hears o.first (items o.payload) begins (c.begins arrival.now o.number e i))
+      let is = items_taken o arrival e in
+      let asks = asks_in (items o.payload) in
+      let taken = take_payload o.first is begins in
+      ends_hear taken.fault asks (is_urged arrival.mark asks is begins) o.number arrival.mark taken.end (payload_hears o.first is begins (c.begins arrival.now o.number e i))
   state_hears states.Closing o arrival e i = c.asks_close (with_numbers e (number_opened e.numbers o.number)) (c.notes o.number e i)
   state_hears states.Drained o arrival e i = c.notes o.number e i
   state_hears states.Failed o arrival e i = c.notes o.number e i
@@ -120,6 +126,11 @@ module _ (P Q : End → Type 0) (c : Hears P Q) where
   drawn_hears true p e i = c.draws p.words e i
   drawn_hears false p e i = i
 
+  -- and the peer has moved by it or hasn't
+  moved_hears : (b : Bool) (p : Policy) (o : Opening) (remote : ℕ) (e : End) → P e → P (migrated_if b p o remote e)
+  moved_hears true p o remote e i = c.moves p o remote e i
+  moved_hears false p o remote e i = i
+
   packet_hears : (o : Option Opening) (p : Policy) (arrival : Arrival) (e : End) → P e → P (opened_as o p arrival e).end
   packet_hears None p arrival e i = go e.closing.state arrival.last
     where
@@ -129,17 +140,19 @@ module _ (P Q : End → Type 0) (c : Hears P Q) where
       go states.Closing b = i
       go states.Drained b = i
       go states.Failed b = i
-  packet_hears (Some o) p arrival e i = drawn_hears (is_read (opened_to o arrival e).answer) p (opened_to o arrival e).end (opened_hears o arrival e i)
+  packet_hears (Some o) p arrival e i =
+      let out = with_ids_drawn p (opened_to o arrival e) in
+      moved_hears (has_migrated o arrival.remote e out) p o arrival.remote out.end (drawn_hears (is_read (opened_to o arrival e).answer) p (opened_to o arrival e).end (opened_hears o arrival e i))
 
-  headed_hears : (r : Result (List ℕ) HeaderError) (p : Policy) (e : End) (arrival : Arrival) (d : List ℕ) → P e → P (headed r p e arrival d).end
+  headed_hears : (r : Result (List ℕ) DropReason) (p : Policy) (e : End) (arrival : Arrival) (d : List ℕ) → P e → P (headed r p e arrival d).end
   headed_hears (Result.Err error) p e arrival d i = i
   headed_hears (Result.Ok id) p e arrival d i = packet_hears (opening p e d) p arrival e i
 
   received_hears : (state : State) (p : Policy) (e : End) (arrival : Arrival) (d : List ℕ) → P e → P (received_in state p e arrival d).end
   received_hears states.Failed p e arrival d i = i
   received_hears states.Drained p e arrival d i = i
-  received_hears states.Open p e arrival d i = headed_hears (decoded (fixed_length_id own_id_length) (known e.ids) d) p e arrival d i
-  received_hears states.Closing p e arrival d i = headed_hears (decoded (fixed_length_id own_id_length) (known e.ids) d) p e arrival d i
+  received_hears states.Open p e arrival d i = headed_hears (head e arrival.remote d) p e arrival d i
+  received_hears states.Closing p e arrival d i = headed_hears (head e arrival.remote d) p e arrival d i
 
   -- what holds after a datagram
   pub by_hearing : (p : Policy) (e : End) (arrival : Arrival) (d : List ℕ) → P e → P (received p e arrival d).end
@@ -295,6 +308,10 @@ ack_stands rises a e i opened =
     subst (λ (n : Numbers). Stands n.next (after_acked rises a (named a e)).tracking) (sym quiet.numbers)
     (stands_named e.numbers.next (acked_by a e.tracking.packets) rises a (named a e) (i (ap (λ (c : Closing). c.state) (sym quiet.closing) ∙ opened)))
 
+-- the moment is the same where an acknowledgement is waited for as long
+as_long : (e : End) (f : Frequency) → LossStands e → AsksOn e.frequency f → e.closing.state ≡ states.Open → StandsAt e × (e.timers.loss_detection ≡ loss_moment (saturated (rtt.probe_timeout e.path.rtt + longest_delay f)) e.tracking)
+as_long e f i on opened = (let s = i opened in (s.stands, s.set ∙ ap (λ (d : ℕ). loss_moment (saturated (rtt.probe_timeout e.path.rtt + d)) e.tracking) (sym (longest_on e.frequency f on))))
+
 -- an end that closes isn't open
 closed_stands : (reason : LostReason) (e : End) → LossStands (closed_by reason e)
 closed_stands reason e opened = cc
@@ -310,6 +327,8 @@ hears = record {
   asks_close = λ e i opened. (let s = i opened in record { stands = record { lies = s.stands.lies; asked = s.stands.asked; late = s.stands.late }; set = s.set });
   exhausts = λ now e i. closed_stands reasons.KeyLimit (with_closing e (ticked e.closing now));
   draws = λ words e i opened. (let s = i opened in record { stands = record { lies = s.stands.lies; asked = s.stands.asked; late = s.stands.late }; set = s.set });
+  moves = λ p o remote e i. by_migrated (λ (x : End). AsksOn e.frequency x.frequency → LossStands x) p o remote e (λ c on opened. (let s = as_long e c.frequency i on opened in record { stands = s.0; set = s.1 }))
+      (λ c most on opened. (let s = as_long e c.frequency i on opened in record { stands = s.0; set = s.1 })) (moved_frequency p o remote e);
 }
 
 -- ---- a poll
@@ -404,10 +423,6 @@ expired_stands words e now expiry i = by_timers words FrameStands LossStands (λ
 pub call_stands : (p : Policy) (e : End) (theirs : List (List ℕ)) (call : Call) (a : Answer) → LossStands e → LossStands (after_call p e theirs call a)
 call_stands p e theirs call a i = by_plain_call p e theirs LossStands call a cases_keep
   where
-    -- how long is waited for an acknowledgement is as it was
-    same : (f : Frequency) → AsksOn e.frequency f → loss_moment (probe_timeout e) e.tracking ≡ loss_moment (saturated (rtt.probe_timeout e.path.rtt + longest_delay f)) e.tracking
-    same f on = ap (λ (d : ℕ). loss_moment (saturated (rtt.probe_timeout e.path.rtt + d)) e.tracking) (sym (longest_on e.frequency f on))
-
     cases_keep : Plain p e call LossStands
     cases_keep cases.same may = i
     cases_keep (cases.times now expiry) may = expired_stands p.words e now expiry i
@@ -415,13 +430,17 @@ call_stands p e theirs call a i = by_plain_call p e theirs LossStands call a cas
     cases_keep (cases.hears arrival d) may = by_hearing LossStands FrameStands hears p e arrival d i
     cases_keep (cases.closes reason f now) may = λ opened. cc
     cases_keep (cases.waits now b) may = by_waits LossStands b (with_closing e (ticked e.closing now)) (λ opened. cc) (λ opened. (let s = i opened in record { stands = s.stands; set = s.set }))
-    cases_keep (cases.changes_id a) may = by_next_id (λ (x : End). AsksOn e.frequency x.frequency → LossStands x) e a (λ on. i) (λ c on opened. (let s = i opened in record { stands = s.stands; set = s.set ∙ same c.frequency on }))
-        (λ c most on opened. (let s = i opened in record { stands = s.stands; set = s.set ∙ same c.frequency on })) (next_frequency e a)
+    cases_keep (cases.changes_id a) may = by_next_id (λ (x : End). AsksOn e.frequency x.frequency → LossStands x) e a (λ on. i) (λ c on opened. (let s = as_long e c.frequency i on opened in record { stands = s.0; set = s.1 }))
+        (λ c most on opened. (let s = as_long e c.frequency i on opened in record { stands = s.0; set = s.1 })) (next_frequency e a)
     cases_keep c may = λ opened. (let s = i opened in record { stands = s.stands; set = s.set })
 
 -- whichever window is shown
 pub stands_shown : (window : ℕ) (blocked : Bool) (e : End) → LossStands e → LossStands (with_blocked (with_window e window) blocked)
 stands_shown window blocked e i opened = let s = i opened in record { stands = s.stands; set = s.set }
+
+-- and whichever pacer it has
+pub stands_paced : (pacing : Pacing) (e : End) → LossStands e → LossStands (with_pacing e pacing)
+stands_paced pacing e i opened = let s = i opened in record { stands = s.stands; set = s.set }
 
 -- ---- a run
 
@@ -442,6 +461,7 @@ pub losses_stand : (k : Policies) (w end : World) (events : List RunEvent) (told
 losses_stand k w end events told views f i = run_keeps LossStands (record {
   call = call_stands;
   shows = stands_shown;
+  paces = stands_paced;
   stops = λ e next is opened. let clash : states.Failed ≡ states.Open = sym is.0 ∙ opened in cc;
 }) k w end events told views f i
 

@@ -160,7 +160,7 @@ record Leaves (before after : Watch) : Type 0 where
 goes_leave : (taker : Policy) (ds : List (List ℕ)) (w v : Watch) → w.own ≡ v.own → ((s : Sent) → In s v.flight.flying → In s w.flight.flying × ((p : Packet) → In p (news w.intake v.intake) → NamedIn p.frames s.number → ⊥)) → Leaves w (watch_sent taker ds v)
 goes_leave taker [] w v own flying = record { more = []; own = sym own ∙ sym (append-nil w.own); flying = λ s i. inl (flying s i) }
 goes_leave taker (d ∷ ds) w v own flying =
-    let sent : List Sent = sent_as (opened_packet taker.header taker.packet (own_id_length + 1) (next_number v.own) d) (acknowledged v.intake.took) v.clock d in
+    let sent : List Sent = sent_as (opened_packet taker.header taker.packet (own_id_length + 1) (next_number v.own) d) (acknowledged v.intake.took) v.clock v.route.generation d in
     record {
       more = sent;
       own = ap (λ (ss : List Sent). ss ++ sent) (sym own);
@@ -285,7 +285,7 @@ quiet_step x y call a c before = record { quiet = subst (λ (v : Watch). IsQuiet
     ])
 
     came : after.intake ≡ came_to (called x y.given call a) y
-    came = ap (λ (v : Watch). v.intake) (sym (behind_is x y call a c w refl)) ∙ watched_intake (lens x y) (x.told ++ t ∷ []) (first_watch x.final x.began x.initial_rtt x.initial_delay)
+    came = ap (λ (v : Watch). v.intake) (sym (behind_is x y call a c w refl)) ∙ watched_intake (lens x y) (x.told ++ t ∷ []) (first_watch x.final x.began x.made.path.remote x.initial_rtt x.initial_delay)
 
     unnamed : (s : Sent) → In s after.flight.flying → IsNamed after.intake.took s.number → ⊥
     unnamed s i named = elim (leaves.flying s i) [

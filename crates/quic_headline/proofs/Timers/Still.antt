@@ -19,6 +19,7 @@ use Rattle.quic_headline.proofs.Packets.Closes.{by_closes}
 use Rattle.quic_headline.proofs.Packets.Probes.{may_leave}
 use Rattle.quic_headline.proofs.Packets.Stays.{settles_ack, settles_losses}
 use Rattle.quic_headline.proofs.Packets.Heard.{by_taken}
+use Rattle.quic_headline.proofs.Packets.Moved.{by_migrated}
 
 -- it was open before
 abbrev pub WasOpen : End → End → Type 0
@@ -40,6 +41,7 @@ opened_receives e = record {
   asks_close = λ f i. i;
   exhausts = λ now f i. λ opened. cc;
   draws = λ words f i. i;
+  moves = λ p o remote f i. by_migrated (WasOpen e) p o remote f (λ c. i) (λ c most. i);
 }
 
 opened_expired : (words : ℕ → ℕ) (e : End) (now : ℕ) (expiry : Expiry) → WasOpen e (at_expiry words e now expiry)

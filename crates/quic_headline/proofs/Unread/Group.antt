@@ -1,7 +1,7 @@
 -- What an end consumed of what the other wrote, and what is known of each of its halves that
 -- receive, at each place of a run: a group over what is written.
 use Rattle.std.proofs.Common.{◌≡◌, ℕ, Bool, true, false, List, [], None, refl, sym, subst, ◌⊎◌, inl, inr}
-use Rattle.quic_wire.specs.Value.{FrameValue, padding}
+use Rattle.quic_wire.specs.Value.{FrameValue, padding, path_challenge, path_response}
 use Rattle.quic_streams_parts.specs.RecvHalf.{RecvHalf, credit}
 use Rattle.quic_streams_halves.specs.Halves.{has_place, no_places}
 use Rattle.quic_streams_state.specs.declared.state.StreamsState.{StreamsState}
@@ -21,9 +21,9 @@ use Rattle.quic_machine.specs.DraftLaws.{Writing, by_writing, IsClose}
 use Rattle.quic_machine.specs.Puts as puts
 use Rattle.quic_machine.specs.FrameCases.{begun, passed}
 use Rattle.quic_headline.specs.Runs.{Packet, Intake, In}
-use Rattle.quic_headline.proofs.Packets.Delivered.{Arrivals, with_taken}
+use Rattle.quic_headline.proofs.Packets.Delivered.{Arrivals, with_taken, frames_at, among_at}
 use Rattle.quic_headline.proofs.Packets.Group.{meets}
-use Rattle.quic_headline.proofs.Packets.Owing.{IsAlone, closed_alone, closes_fine}
+use Rattle.quic_headline.proofs.Packets.Owing.{IsAlone, closes_fine}
 use Rattle.quic_headline.proofs.Packets.Probes.{poll_state}
 use Rattle.quic_headline.proofs.Places.Parties.{Party, called, came_to, Beginning, begun_as}
 use Rattle.quic_headline.proofs.Places.Groups.{Way, Calls, Group}
@@ -39,6 +39,8 @@ use Rattle.quic_headline.proofs.Unread.Walk.{Of, call_left, frames_left}
 use Rattle.quic_headline.proofs.Unread.Half.{Brings, IsTold, IsUntold, IsWhole}
 use Rattle.quic_headline.proofs.Unread.Consumed.{Consumes, consumed_steps, limit_consumes, consumes_grow, consumes_fewer, known_calls, known_opened}
 use Rattle.quic_headline.proofs.Unread.Taken.{frames_take}
+use Rattle.quic_headline.proofs.Packets.Strays.{IsPath, in_at, closed_at}
+use Rattle.quic_headline.proofs.Halves.Moved.{streams_stay}
 
 -- x writes, and y reads
 pub record Consumed (x y : Party) : Type 0 where
@@ -66,6 +68,12 @@ module _ (done : ℕ → Wrote) (before : StreamsState) (taken : FrameValue → 
 
 -- ---- a call
 
+-- a frame of path validation brings nothing
+path_brings_not : (f : FrameValue) (id end : ℕ) → IsPath f → Brings f id end → ⊥
+path_brings_not (path_challenge token) id end path brings = brings
+path_brings_not (path_response token) id end path brings = brings
+path_brings_not f id end path brings = path
+
 -- a close brings nothing, nor does what goes beside it
 close_brings_not : (f : FrameValue) → IsClose f ⊎ (f ≡ padding) → (id end : ℕ) → Brings f id end → ⊥
 close_brings_not = closes_fine (λ f. (id end : ℕ) → Brings f id end → ⊥) (λ c id end none. none) (λ c id end none. none) (λ id end none. none)
@@ -84,21 +92,32 @@ module _ (B : Way) (w : IsWriting B) (within : (x y : Party) → B x y → Withi
   After e j = Of (Consumes done (WasIn j.took)) e.streams
 
   -- the cases of a delivery
-  arrivals : (now n : ℕ) (frames : List FrameValue) → ((f : FrameValue) → In f frames → SaysOf done f) → IsAlone frames → Arrivals x.end now n frames (came_to x y) (λ (o : Outcome) (j : Intake). After o.end j)
-  arrivals now n frames says alone = record {
+  arrivals : (now n : ℕ) (frames : List FrameValue) (from : Bool) → ((f : FrameValue) → In f frames → SaysOf done f) → IsAlone frames → Arrivals x.end now n frames (frames_at from frames) (came_to x y) (λ (o : Outcome) (j : Intake). After o.end j)
+  arrivals now n frames from says alone = record {
     ignored = λ reason. i.known;
     noted = λ state reason. i.known;
-    takes = λ words state new none urged mark. frames_take done before (WasIn (came_to x y).took) (WasIn (with_taken (came_to x y) n frames).took) frames (begun x.end now n) among says none here i.known;
+    takes = λ words state new none urged mark. (
+        let s : StreamsState = (passed taken (begun x.end now n)).end.streams in
+        consumes_fewer done (λ g. WasIn (came_to x y).took g ⊎ In g taken) (WasIn (with_taken (came_to x y) n frames).took) s.side s.receiving s.opening.announced s.opening.configured
+        (λ g id end brings v. elim (among_taken g v) [ inl one ↦ one | inr path ↦ absurd (path_brings_not g id end path brings) ])
+        (frames_take done before (WasIn (came_to x y).took) (λ g. WasIn (came_to x y).took g ⊎ In g taken) taken (begun x.end now n) (λ g v. v) said none here i.known));
+    moves = λ p o same remote z opened j. streams_stay (λ (v : StreamsState). Of (Consumes done (WasIn (with_taken (came_to x y) n frames).took)) v) p o remote z j;
     drains = λ words state new close is. (
-        let s : StreamsState = (passed frames (begun x.end now n)).end.streams in
+        let s : StreamsState = (passed taken (begun x.end now n)).end.streams in
         consumes_fewer done (WasIn (came_to x y).took) (WasIn (with_taken (came_to x y) n frames).took) s.side s.receiving s.opening.announced s.opening.configured
-        (λ g id end brings v. elim (among g v) [ inl was ↦ was | inr there ↦ absurd (close_brings_not g (closed_alone frames (begun x.end now n) close alone is g there) id end brings) ]) left);
+        (λ g id end brings v. elim (among g v) [ inl was ↦ was | inr there ↦ absurd (close_brings_not g (closed_at from frames (begun x.end now n) close alone is g there) id end brings) ]) left);
     refuses = λ words state new f is. left;
     exhausts = λ state. i.known;
   }
     where
-      left : Of (Consumes done (WasIn (came_to x y).took)) (passed frames (begun x.end now n)).end.streams
-      left = frames_left (SaysOf done) (Stays before) (known_calls before) (Consumes done (WasIn (came_to x y).took)) (consumed_steps done before (WasIn (came_to x y).took)) (known_opened before) (stays_frame before) frames (begun x.end now n) says here i.known
+      taken : List FrameValue
+      taken = frames_at from frames
+
+      said : (f : FrameValue) → In f taken → SaysOf done f
+      said = among_at (SaysOf done) tt from frames says
+
+      left : Of (Consumes done (WasIn (came_to x y).took)) (passed taken (begun x.end now n)).end.streams
+      left = frames_left (SaysOf done) (Stays before) (known_calls before) (Consumes done (WasIn (came_to x y).took)) (consumed_steps done before (WasIn (came_to x y).took)) (known_opened before) (stays_frame before) taken (begun x.end now n) said here i.known
 
       among : (g : FrameValue) → WasIn (with_taken (came_to x y) n frames).took g → WasIn (came_to x y).took g ⊎ In g frames
       among g v = go v.was_taken
@@ -107,13 +126,16 @@ module _ (B : Way) (w : IsWriting B) (within : (x y : Party) → B x y → Withi
           go (inl is) = inr (subst (λ (p : Packet). In g p.frames) is v.carried)
           go (inr there) = inl (record { packet = v.packet; was_taken = there; carried = v.carried })
 
+      among_taken : (g : FrameValue) → WasIn (with_taken (came_to x y) n frames).took g → (WasIn (came_to x y).took g ⊎ In g taken) ⊎ IsPath g
+      among_taken g v = elim (among g v) [ inl was ↦ inl (inl was) | inr there ↦ elim (in_at from frames g there) [ inl one ↦ inl (inr one) | inr path ↦ inr path ] ]
+
   reads_call : Consumed y (called x y.given call a)
   reads_call = record {
     known = by_coming x y a c.joined c.served (meets y x (w.packets y x c.takes)) After call c.answer (record {
       apart = λ apart. call_left (SaysOf done) (Stays before) (known_calls before) (Consumes done (WasIn (came_to x y).took)) (consumed_steps done before (WasIn (came_to x y).took)) x.policy x.end y.given here i.known call a apart c.answer
           (λ now polls. (polled_consumes done before (WasIn (came_to x y).took) x.policy x.end now (here, i.known)).1);
       none = λ delivery is. i.known;
-      comes = λ delivery is s among. arrivals delivery.now s.number s.frames (w.says y x c.takes s among) ((w.packets y x c.takes).alone s among);
+      comes = λ delivery is s among from. arrivals delivery.now s.number s.frames from (w.says y x c.takes s among) ((w.packets y x c.takes).alone s among);
     });
   }
 

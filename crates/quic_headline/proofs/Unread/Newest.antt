@@ -51,13 +51,15 @@ use Rattle.quic_headline.proofs.Packets.Probes.{by_going, ready_state}
 use Rattle.quic_headline.proofs.Packets.Sends.{by_sends}
 use Rattle.quic_headline.proofs.Places.Told.{in_left, in_right}
 use Rattle.quic_headline.proofs.Places.Steps.{poll_answer}
-use Rattle.quic_headline.proofs.Places.Parties.{Party, called, sent_as, sent_by, sent_if, sents_by, Beginning, begun_as}
+use Rattle.quic_headline.proofs.Places.Parties.{Party, called, came_to, sent_as, sent_by, sent_if, sents_by, Beginning, begun_as}
 use Rattle.quic_headline.proofs.Places.Groups.{Way, Calls, Group}
 use Rattle.quic_headline.proofs.Places.Coming.{by_coming}
 use Rattle.quic_headline.proofs.Halves.Ghosts.{IsWriting}
 use Rattle.quic_headline.proofs.Halves.QuietSteps.{frame_quiet}
 use Rattle.quic_headline.proofs.Halves.ReadCalls.{IsKept, any_kept}
 use Rattle.quic_headline.proofs.Unread.Walk.{Of, Change, begins, reads, stops, takes, resets, IsLast, Steps, call_left, frames_left}
+use Rattle.quic_headline.proofs.Packets.Delivered.{frames_at}
+use Rattle.quic_headline.proofs.Halves.Moved.{in_arrivals}
 use Rattle.quic_streams_laws.specs.Keeping as changes
 
 -- ---- each half that is in use
@@ -346,17 +348,11 @@ module _ (B : Way) (w : IsWriting B) (x y : Party) (call : Call) (a : Answer) (c
     says = by_coming x y a c.joined c.served (meets y x (w.packets y x c.takes)) (λ (e : End) (j : Intake). Now (x.sents ++ sents_by x.policy x.end call a) e.streams) call c.answer (record {
       apart = λ apart. apart_says call apart c.answer;
       none = λ delivery is. still_says window stream_window counts x.sents (sents_by x.policy x.end call a) x.end.streams i.says;
-      comes = λ delivery is s among. (
+      comes = λ delivery is s among here. (
+          let taken : List FrameValue = frames_at here s.frames in
           let more : (t : StreamsState) → Now x.sents t → Now (x.sents ++ sents_by x.policy x.end call a) t = λ t j. still_says window stream_window counts x.sents (sents_by x.policy x.end call a) t j in
-          let after : Now x.sents (passed s.frames (begun x.end delivery.now s.number)).end.streams = frames_say s.frames (begun x.end delivery.now s.number) shape i.says in
-          record {
-            ignored = λ reason. more x.end.streams i.says;
-            noted = λ state reason. more x.end.streams i.says;
-            takes = λ words state new none urged mark. more (passed s.frames (begun x.end delivery.now s.number)).end.streams after;
-            drains = λ words state new close fault. more (passed s.frames (begun x.end delivery.now s.number)).end.streams after;
-            refuses = λ words state new f fault. more (passed s.frames (begun x.end delivery.now s.number)).end.streams after;
-            exhausts = λ state. more x.end.streams i.says;
-          });
+          let after : Now x.sents (passed taken (begun x.end delivery.now s.number)).end.streams = frames_say taken (begun x.end delivery.now s.number) shape i.says in
+          in_arrivals (Now (x.sents ++ sents_by x.policy x.end call a)) x.end delivery.now s.number s.frames taken (came_to x y) (more x.end.streams i.says) (more (passed taken (begun x.end delivery.now s.number)).end.streams after));
     });
   }
 

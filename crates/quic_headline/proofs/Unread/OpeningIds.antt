@@ -29,13 +29,15 @@ use Rattle.quic_headline.specs.Runs.{Told, Intake, In, and_id}
 use Rattle.quic_headline.specs.Undone.{same_dir, opened_by, opens}
 use Rattle.quic_headline.proofs.Packets.Group.{meets}
 use Rattle.quic_headline.proofs.Places.Told.{in_left, in_right}
-use Rattle.quic_headline.proofs.Places.Parties.{told_of, Party, called, Beginning, begun_as}
+use Rattle.quic_headline.proofs.Places.Parties.{told_of, Party, called, Beginning, begun_as, came_to}
 use Rattle.quic_headline.proofs.Places.Groups.{Way, Calls, Group}
 use Rattle.quic_headline.proofs.Places.Coming.{by_coming}
 use Rattle.quic_headline.proofs.Halves.Ghosts.{IsWriting}
 use Rattle.quic_headline.proofs.Halves.Opened.{IsOf, side_stays}
 use Rattle.quic_headline.proofs.Unread.OpeningLasts.{lasts_any, lasts_call}
 use Rattle.quic_headline.proofs.Unread.OpeningOwn.{opens_one, Own, call_own, frame_own}
+use Rattle.quic_headline.proofs.Packets.Delivered.{frames_at}
+use Rattle.quic_headline.proofs.Halves.Moved.{in_arrivals}
 
 -- ---- what was told
 
@@ -157,17 +159,11 @@ module _ (B : Way) (w : IsWriting B) (x y : Party) (call : Call) (a : Answer) (c
     are = by_coming x y a c.joined c.served (meets y x (w.packets y x c.takes)) (λ (e : End) (j : Intake). Now call a e.streams) call c.answer (record {
       apart = λ apart. apart_opens call apart c.answer;
       none = λ delivery is. quiet call x.end.streams (ap opens_one is) refl;
-      comes = λ delivery is s among. (
+      comes = λ delivery is s among here. (
+          let taken : List FrameValue = frames_at here s.frames in
           let before : End = begun x.end delivery.now s.number in
-          let after : Own (OfSame x.end.streams.opening.own) (passed s.frames before).end.streams = frames_keep (λ (e : End). Own (OfSame x.end.streams.opening.own) e.streams) (same_frame x.end.streams.opening.own) s.frames before refl in
-          record {
-            ignored = λ reason. quiet call x.end.streams (ap opens_one is) refl;
-            noted = λ closing reason. quiet call x.end.streams (ap opens_one is) refl;
-            takes = λ words open_there new fine urged mark. quiet call (passed s.frames before).end.streams (ap opens_one is) after;
-            drains = λ words open_there new close fault. quiet call (passed s.frames before).end.streams (ap opens_one is) after;
-            refuses = λ words open_there new f fault. quiet call (passed s.frames before).end.streams (ap opens_one is) after;
-            exhausts = λ open_there. quiet call x.end.streams (ap opens_one is) refl;
-          });
+          let after : Own (OfSame x.end.streams.opening.own) (passed taken before).end.streams = frames_keep (λ (e : End). Own (OfSame x.end.streams.opening.own) e.streams) (same_frame x.end.streams.opening.own) taken before refl in
+          in_arrivals (Now call a) x.end delivery.now s.number s.frames taken (came_to x y) (quiet call x.end.streams (ap opens_one is) refl) (quiet call (passed taken before).end.streams (ap opens_one is) after));
     });
   }
 

@@ -1,6 +1,6 @@
 -- Facts of an end's streams that every word about them keeps: such a fact holds at each place of a
 -- run, and one of each frame that was taken.
-use Rattle.std.proofs.Common.{◌≡◌, ℕ, List, [], ◌∷◌, None, sym, subst, ◌⊎◌, inl, inr}
+use Rattle.std.proofs.Common.{◌≡◌, ℕ, List, [], ◌∷◌, None, sym, subst, ◌⊎◌, inl, inr, Bool}
 use Rattle.quic_wire_core.specs.declared.stream_id.Dir.{Dir}
 use Rattle.quic_wire.specs.Value.{FrameValue, padding}
 use Rattle.quic_streams_state.specs.declared.state.StreamsState.{StreamsState}
@@ -14,10 +14,10 @@ use Rattle.quic_machine.specs.End.{End}
 use Rattle.quic_machine.specs.Receive.{Outcome, take_frame}
 use Rattle.quic_machine.specs.FrameCases.{begun, passed, frames_keep, frames_taken}
 use Rattle.quic_headline.specs.Runs.{Packet, Intake, In}
-use Rattle.quic_headline.proofs.Packets.Delivered.{Arrivals, with_taken}
+use Rattle.quic_headline.proofs.Packets.Delivered.{Arrivals, with_taken, frames_at}
 use Rattle.quic_machine.specs.DraftLaws.{IsClose}
 use Rattle.quic_headline.proofs.Packets.Group.{meets}
-use Rattle.quic_headline.proofs.Packets.Owing.{IsAlone, AreCloses, closed_alone}
+use Rattle.quic_headline.proofs.Packets.Owing.{IsAlone, AreCloses}
 use Rattle.quic_headline.proofs.Places.Parties.{Party, called, came_to, Beginning, begun_as}
 use Rattle.quic_headline.proofs.Places.Groups.{Way, Calls, Group}
 use Rattle.quic_headline.proofs.Places.Coming.{by_coming}
@@ -25,6 +25,9 @@ use Rattle.quic_headline.proofs.Halves.Ghosts.{wrote, IsWriting}
 use Rattle.quic_headline.proofs.Halves.QuietSteps.{frame_quiet, sent_within}
 use Rattle.quic_headline.proofs.Halves.ReadCalls.{IsKept, any_kept, call_kept}
 use Rattle.quic_headline.proofs.Halves.ReadGroup.{WasIn}
+use Rattle.quic_headline.proofs.Packets.Strays.{IsPath, in_at, closed_at}
+use Rattle.quic_headline.proofs.Packets.Moved.{by_migrated}
+use Rattle.quic_headline.proofs.Halves.Moved.{in_arrivals}
 
 -- ---- a fact that stays
 
@@ -48,9 +51,7 @@ module _ (B : Way) (w : IsWriting B) (x y : Party) (call : Call) (a : Answer) (c
   lasts_call here = by_coming x y a c.joined c.served (meets y x (w.packets y x c.takes)) (λ (e : End) (j : Intake). P e.streams) call c.answer (record {
     apart = λ apart. call_kept P l.calls x.policy x.end y.given (sent_within (wrote x.told) x.end.streams (w.written x y c.gives)) here call a c.answer apart (λ dir same. l.accepts dir x.end.streams here);
     none = λ delivery is. here;
-    comes = λ delivery is s among. (
-        let all : P (passed s.frames (begun x.end delivery.now s.number)).end.streams = frames_keep (λ (e : End). P e.streams) l.frame s.frames (begun x.end delivery.now s.number) here in
-        record { ignored = λ reason. here; noted = λ state reason. here; takes = λ words state new none urged mark. all; drains = λ words state new close fault. all; refuses = λ words state new f fault. all; exhausts = λ state. here });
+    comes = λ delivery is s among from. in_arrivals P x.end delivery.now s.number s.frames (frames_at from s.frames) (came_to x y) here (frames_keep (λ (e : End). P e.streams) l.frame (frames_at from s.frames) (begun x.end delivery.now s.number) here);
   })
 
 -- ---- it holds always
@@ -78,6 +79,8 @@ module _ (I : StreamsState → Type 0) (E : FrameValue → StreamsState → Type
     pub takes : (f : FrameValue) (e : End) → I e.streams → (take_frame f e).fault ≡ None → E f (take_frame f e).end.streams
     -- a close has none, nor has what goes beside it
     pub closes : (f : FrameValue) (s : StreamsState) → IsClose f ⊎ (f ≡ padding) → E f s
+    -- nor has a frame of path validation
+    pub strays : (f : FrameValue) (s : StreamsState) → IsPath f → E f s
 
   -- the facts of the frames that x took
   pub record AreLeft (x y : Party) : Type 0 where
@@ -111,25 +114,36 @@ module _ (I : StreamsState → Type 0) (E : FrameValue → StreamsState → Type
       After e j = (f : FrameValue) → WasIn j.took f → E f e.streams
 
       -- each case of a delivery
-      arrivals : (now n : ℕ) (frames : List FrameValue) → IsAlone frames → Arrivals x.end now n frames (came_to x y) (λ (o : Outcome) (j : Intake). After o.end j)
-      arrivals now n frames alone = record {
+      arrivals : (now n : ℕ) (frames : List FrameValue) (here : Bool) → IsAlone frames → Arrivals x.end now n frames (frames_at here frames) (came_to x y) (λ (o : Outcome) (j : Intake). After o.end j)
+      arrivals now n frames here alone = record {
         ignored = λ reason. i.each;
         noted = λ state reason. i.each;
         takes = λ words state new none urged mark f was. go none f was.packet was.was_taken was.carried;
-        drains = λ words state new close fault f was. shut (closed_alone frames (begun x.end now n) close alone fault) f was.packet was.was_taken was.carried;
+        moves = λ p o same remote z opened j. by_migrated (λ (e : End). After e (with_taken (came_to x y) n frames)) p o remote z (λ c. j) (λ c most. j);
+        drains = λ words state new close fault f was. shut (closed_at here frames (begun x.end now n) close alone fault) f was.packet was.was_taken was.carried;
         refuses = λ words state new g fault f was. still f (i.each f was);
         exhausts = λ state. i.each;
       }
         where
-          still : (f : FrameValue) → E f x.end.streams → E f (passed frames (begun x.end now n)).end.streams
-          still f is = frames_keep (λ (e : End). E f e.streams) (λ g e j. (l.stays f).frame g e j) frames (begun x.end now n) is
+          taken : List FrameValue
+          taken = frames_at here frames
 
-          go : (passed frames (begun x.end now n)).fault ≡ None → (f : FrameValue) → (p : Packet) → In p (with_taken (came_to x y) n frames).took → In f p.frames → E f (passed frames (begun x.end now n)).end.streams
-          go none f p (inl is) carried = all_left frames (begun x.end now n) none i.known f (subst (λ (q : Packet). In f q.frames) is carried)
+          left : End
+          left = (passed taken (begun x.end now n)).end
+
+          still : (f : FrameValue) → E f x.end.streams → E f left.streams
+          still f is = frames_keep (λ (e : End). E f e.streams) (λ g e j. (l.stays f).frame g e j) taken (begun x.end now n) is
+
+          -- of the packet each frame is taken, or is one of path validation
+          one : (passed taken (begun x.end now n)).fault ≡ None → (f : FrameValue) → In f frames → E f left.streams
+          one none f there = elim (in_at here frames f there) [ inl among ↦ all_left taken (begun x.end now n) none i.known f among | inr path ↦ l.strays f left.streams path ]
+
+          go : (passed taken (begun x.end now n)).fault ≡ None → (f : FrameValue) → (p : Packet) → In p (with_taken (came_to x y) n frames).took → In f p.frames → E f left.streams
+          go none f p (inl is) carried = one none f (subst (λ (q : Packet). In f q.frames) is carried)
           go none f p (inr there) carried = still f (i.each f (record { packet = p; was_taken = there; carried = carried }))
 
-          shut : AreCloses frames → (f : FrameValue) → (p : Packet) → In p (with_taken (came_to x y) n frames).took → In f p.frames → E f (passed frames (begun x.end now n)).end.streams
-          shut all f p (inl is) carried = l.closes f (passed frames (begun x.end now n)).end.streams (all f (subst (λ (q : Packet). In f q.frames) is carried))
+          shut : AreCloses frames → (f : FrameValue) → (p : Packet) → In p (with_taken (came_to x y) n frames).took → In f p.frames → E f left.streams
+          shut all f p (inl is) carried = l.closes f left.streams (all f (subst (λ (q : Packet). In f q.frames) is carried))
           shut all f p (inr there) carried = still f (i.each f (record { packet = p; was_taken = there; carried = carried }))
 
       left_call : AreLeft (called x y.given call a) y
@@ -138,7 +152,7 @@ module _ (I : StreamsState → Type 0) (E : FrameValue → StreamsState → Type
         each = by_coming x y a c.joined c.served (meets y x (w.packets y x c.takes)) After call c.answer (record {
           apart = λ apart f was. call_kept (E f) (l.stays f).calls x.policy x.end y.given (sent_within (wrote x.told) x.end.streams (w.written x y c.gives)) (i.each f was) call a c.answer apart (λ dir same. (l.stays f).accepts dir x.end.streams (i.each f was));
           none = λ delivery is. i.each;
-          comes = λ delivery is s among. arrivals delivery.now s.number s.frames ((w.packets y x c.takes).alone s among);
+          comes = λ delivery is s among here. arrivals delivery.now s.number s.frames here ((w.packets y x c.takes).alone s among);
         });
       }
 

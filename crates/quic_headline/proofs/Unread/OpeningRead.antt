@@ -218,7 +218,7 @@ module _ (B : Way) (w : IsWriting B) (x y : Party) (call : Call) (a : Answer) (c
   new_one id heard = by_coming x y a c.joined c.served (meets y x (w.packets y x c.takes)) (λ (e : End) (j : Intake). ReceivesNoMore id e.streams) call c.answer (record {
     apart = λ apart. call_done x.policy x.end y.given id call a (w.written x y c.gives).shape c.answer heard;
     none = λ delivery is. absurd (delivery_hears id call a (ap is_delivery is) heard);
-    comes = λ delivery is s among. absurd (delivery_hears id call a (ap is_delivery is) heard);
+    comes = λ delivery is s among here. absurd (delivery_hears id call a (ap is_delivery is) heard);
   })
 
   heard_call : Heard (called x y.given call a) y

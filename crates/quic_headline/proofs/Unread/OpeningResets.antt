@@ -60,6 +60,8 @@ use Rattle.quic_headline.proofs.Duties.Carrier.{any_either, IsNew}
 use Rattle.quic_headline.proofs.Duties.Tail.{AskBefore, next_new}
 use Rattle.quic_headline.proofs.Duties.Listed.{ResetOf, listed_in, ListedStands, call_resets, call_stands}
 use Rattle.quic_headline.proofs.Unread.OpeningLasts.{Lasts, lasts_any}
+use Rattle.quic_headline.proofs.Packets.Delivered.{frames_at}
+use Rattle.quic_headline.proofs.Packets.Moved.{by_migrated}
 
 -- ---- lists of resets
 
@@ -442,11 +444,12 @@ module _ (B : Way) (b : IsResetting B) (x y : Party) (call : Call) (a : Answer) 
   old_one id now = by_coming x y a c.joined c.served (meets y x (w.packets y x c.takes)) (λ (e : End) (j : Intake). Now id e) call c.answer (record {
     apart = λ apart. other apart now;
     none = λ delivery is. now;
-    comes = λ delivery is s among. (
+    comes = λ delivery is s among here. (
+        let taken : List FrameValue = frames_at here s.frames in
         let before : End = begun x.end delivery.now s.number in
         let first : Goes id before = goes_same id x.end before refl refl refl (goes_first id now) in
-        let after : Now id (passed s.frames before).end = goes_last id (passed s.frames before).end (frames_keep (Goes id) (frame_goes id) s.frames before first) in
-        record { ignored = λ reason. now; noted = λ state reason. now; takes = λ words state fresh none urged mark. after; drains = λ words state fresh close fault. after; refuses = λ words state fresh f fault. after; exhausts = λ state. now });
+        let after : Now id (passed taken before).end = goes_last id (passed taken before).end (frames_keep (Goes id) (frame_goes id) taken before first) in
+        record { ignored = λ reason. now; noted = λ state reason. now; takes = λ words state fresh none urged mark. after; moves = λ p o same remote z opened j. by_migrated (Now id) p o remote z (λ c. j) (λ c most. j); drains = λ words state fresh close fault. after; refuses = λ words state fresh f fault. after; exhausts = λ state. now });
   })
     where
       other : is_delivery call ≡ false → Now id x.end → Now id (after_call x.policy x.end y.given call a)

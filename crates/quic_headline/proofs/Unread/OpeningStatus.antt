@@ -8,7 +8,7 @@ use Rattle.std.proofs.lemmas.Bool.{cond_both, cases_eq, ltb-false, le-leb}
 use Rattle.quic_wire_core.specs.declared.stream_id.Dir.{Dir}
 use Rattle.quic_wire_core.specs.declared.stream_id.Dir.TheVariants.{Bi, Uni}
 use Rattle.quic_wire_core.specs.StreamId.{dir_of, index_of}
-use Rattle.quic_wire.specs.Value.{FrameValue, StreamValue, ResetStreamValue, stream, reset_stream, max_streams}
+use Rattle.quic_wire.specs.Value.{FrameValue, StreamValue, ResetStreamValue, stream, reset_stream, max_streams, path_challenge, path_response}
 use Rattle.quic_streams_parts.specs.declared.answers.Breach.TheVariants.{FrameEncoding}
 use Rattle.quic_streams_parts.specs.Table.{at}
 use Rattle.quic_streams_parts.specs.Dirs.{Counts, of, with_of, is_own, is_two_way}
@@ -36,6 +36,7 @@ use Rattle.quic_headline.proofs.Halves.QuietSteps.{frame_quiet}
 use Rattle.quic_headline.proofs.Unread.Taken.{gone_there, no_fault, kept_before, unbroken_none}
 use Rattle.quic_headline.proofs.Packets.Owing.{closes_fine}
 use Rattle.quic_headline.proofs.Unread.OpeningLasts.{Lasts, lasts_any, Leaves}
+use Rattle.quic_headline.proofs.Packets.Strays.{IsPath}
 
 -- ---- facts of halves that receive
 
@@ -372,5 +373,10 @@ frame_leaves (reset_stream f) e i none = reset_leaves f e i none
 frame_leaves (max_streams f) e i none = count_leaves (dir_named f.one_way) f.count e.streams (no_fault _ none)
 frame_leaves f e i none = tt
 
+strays_leave : (f : FrameValue) (s : StreamsState) → IsPath f → Leaving f s
+strays_leave (path_challenge token) s path = tt
+strays_leave (path_response token) s path = tt
+strays_leave f s path = absurd path
+
 pub leaves : Leaves ResetsAreKnown Leaving
-leaves = record { known = resets_last; stays = leaving_lasts; takes = frame_leaves; closes = λ f s is. closes_fine (λ g. Leaving g s) (λ c. tt) (λ c. tt) tt f is }
+leaves = record { known = resets_last; stays = leaving_lasts; takes = frame_leaves; closes = λ f s is. closes_fine (λ g. Leaving g s) (λ c. tt) (λ c. tt) tt f is; strays = strays_leave }

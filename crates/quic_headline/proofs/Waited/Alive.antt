@@ -39,10 +39,11 @@ use Rattle.quic_headline.specs.Waited.{alive_from}
 use Rattle.quic_headline.proofs.Packets.Apart.{by_next_id}
 use Rattle.quic_headline.proofs.Packets.Probes.{by_going}
 use Rattle.quic_headline.proofs.Packets.Sends.{by_sends}
-use Rattle.quic_headline.proofs.Packets.Delivered.{Arrivals, arrived}
+use Rattle.quic_headline.proofs.Packets.Delivered.{Arrivals, arrived, with_taken}
 use Rattle.quic_headline.proofs.Packets.Stays.{keeps_frames}
 use Rattle.quic_headline.proofs.Packets.Watching.{none_new, one_new}
 use Rattle.quic_headline.proofs.Places.Parties.{sent_by, sent_if}
+use Rattle.quic_headline.proofs.Packets.Moved.{by_migrated}
 
 -- ---- the timer is set anew
 
@@ -231,25 +232,26 @@ SetBy e i f j = f.closing.state ≡ states.Open → f.timers.keep_alive ≡ (if 
 pub none_set : (e : End) (i : Intake) (f : End) → f.timers.keep_alive ≡ e.timers.keep_alive → SetBy e i f i
 none_set e i f same opened = same ∙ ap (λ (ps : List Packet). if nat_lt 0 (length ps) then alive_again e.transport.keep_alive_interval f.closing.clock e.timers.keep_alive else e.timers.keep_alive) (sym (none_new i))
 
-pub arrivals_set : (e : End) (now n : ℕ) (frames : List FrameValue) (i : Intake) → Arrivals e now n frames i (λ (o : Outcome) (j : Intake). SetBy e i o.end j)
-arrivals_set e now n frames i = record {
+pub arrivals_set : (e : End) (now n : ℕ) (frames taken : List FrameValue) (i : Intake) → Arrivals e now n frames taken i (λ (o : Outcome) (j : Intake). SetBy e i o.end j)
+arrivals_set e now n frames taken i = record {
   ignored = λ reason. none_set e i e refl;
   noted = λ state reason opened. absurd (let clash : states.Closing ≡ states.Open = sym state ∙ opened in cc);
   takes = λ words state new none urged mark opened.
       taken_alive n (asks_in (map Ok frames)) urged mark left
-      ∙ ap (λ (t : TransportSettings). alive_again t.keep_alive_interval left.closing.clock left.timers.keep_alive) (keeps_frames frames (begun e now n)).transport
+      ∙ ap (λ (t : TransportSettings). alive_again t.keep_alive_interval left.closing.clock left.timers.keep_alive) (keeps_frames taken (begun e now n)).transport
       ∙ ap (λ (o : Option ℕ). alive_again e.transport.keep_alive_interval left.closing.clock o) left_alive
       ∙ ap (λ (ps : List Packet). if nat_lt 0 (length ps) then alive_again e.transport.keep_alive_interval left.closing.clock e.timers.keep_alive else e.timers.keep_alive) (sym (one_new i n frames));
+  moves = λ p o same remote x opened j. by_migrated (λ (f : End). SetBy e i f (with_taken i n frames)) p o remote x (λ c. j) (λ c most. j);
   drains = λ words state new close is opened. absurd cc;
   refuses = λ words state new f is opened. absurd cc;
   exhausts = λ state opened. absurd cc;
 }
   where
     left : End
-    left = (arrived e now n frames).end
+    left = (arrived e now n taken).end
 
     left_alive : left.timers.keep_alive ≡ e.timers.keep_alive
-    left_alive = items_keep (λ (x : End). x.timers.keep_alive ≡ e.timers.keep_alive) (frame_alive e) (map Ok frames) (begun e now n) refl
+    left_alive = items_keep (λ (x : End). x.timers.keep_alive ≡ e.timers.keep_alive) (frame_alive e) (map Ok taken) (begun e now n) refl
 
 -- ---- any other call
 

@@ -37,7 +37,7 @@ use Rattle.quic_headline.specs.Requests.{requests_in}
 use Rattle.quic_headline.specs.Waited.{count_silent, stands, is_ping, asks_ping, Wants, since_behind, wakes, alive_from, alive_behind, probes_in_vain, wants_behind, wants_told, no_wants}
 use Rattle.quic_machine.specs.Closing.{Closing, ticked}
 use Rattle.quic_headline.proofs.Packets.Intakes.{folded_more, none_handed}
-use Rattle.quic_headline.proofs.Packets.Delivered.{Arrivals, arrived, with_taken}
+use Rattle.quic_headline.proofs.Packets.Delivered.{Arrivals, arrived, with_taken, frames_at as taken_at}
 use Rattle.quic_headline.proofs.Packets.Stays.{placed_call}
 use Rattle.quic_headline.proofs.Packets.Watching.{untimely, none_new, one_new}
 use Rattle.quic_headline.proofs.Packets.Probes.{by_going}
@@ -57,6 +57,7 @@ use Rattle.quic_headline.proofs.Packets.Sends.{by_sends}
 use Rattle.quic_headline.proofs.Steps.Probes.{begun as begun_at}
 use Rattle.quic_headline.proofs.Requests.Asks.{by_of, is_anew, anew_is}
 use Rattle.quic_headline.proofs.Requests.Drafts.{Goes, goes_none, goes_one, polled_requests, requests_any}
+use Rattle.quic_headline.proofs.Packets.Moving.{moved_acks}
 
 -- ---- packets that don't ask
 
@@ -87,18 +88,19 @@ packet_counts false p now n s packets q is silent =
     omega arith
 
 -- each case of a delivery
-arrivals_count : (e : End) (now n : ℕ) (frames : List FrameValue) (i : Intake) (packets : List Packet) → (e.closing.state ≡ states.Open → e.acknowledging.silent ≤ count_silent packets) → Arrivals e now n frames i (λ (o : Outcome) (j : Intake). Counts packets i o.end j)
-arrivals_count e now n frames i packets was = record {
+arrivals_count : (e : End) (now n : ℕ) (frames taken : List FrameValue) (i : Intake) (packets : List Packet) → (e.closing.state ≡ states.Open → e.acknowledging.silent ≤ count_silent packets) → Arrivals e now n frames taken i (λ (o : Outcome) (j : Intake). Counts packets i o.end j)
+arrivals_count e now n frames taken i packets was = record {
   ignored = λ reason opened. none_counts packets i e (was opened) opened;
   noted = λ state reason opened. absurd (let clash : states.Closing ≡ states.Open = sym state ∙ opened in cc);
   takes = λ words state new none urged mark opened. takes urged mark (was state);
+  moves = λ p o same remote x opened j still. subst (λ (q : Pending). q.silent ≤ count_silent (news i (with_taken i n frames) ++ packets)) (sym (moved_acks p o remote x)) (j opened);
   drains = λ words state new close is opened. absurd cc;
   refuses = λ words state new f is opened. absurd cc;
   exhausts = λ state opened. absurd cc;
 }
   where
     left : End
-    left = (arrived e now n frames).end
+    left = (arrived e now n taken).end
 
     after : Bool → Option EcnCodepoint → Pending
     after urged mark = (after_taken n (asks_in (map Ok frames)) urged mark left).acknowledging
@@ -107,7 +109,7 @@ arrivals_count e now n frames i packets was = record {
     takes urged mark old =
         subst (λ (qs : List Packet). (after urged mark).silent ≤ count_silent (qs ++ packets)) (sym (one_new i n frames))
         (packet_counts (asks_in (map Ok frames)) (with_due urged (after_insert left.acknowledging n left.closing.clock)) left.closing.clock n left.numbers.opened packets (record { number = n; frames = frames }) (sym (asks_same frames))
-        (subst (λ (k : ℕ). k ≤ count_silent packets) (sym (frames_acks frames (begun e now n)).silent) old))
+        (subst (λ (k : ℕ). k ≤ count_silent packets) (sym (frames_acks taken (begun e now n)).silent) old))
 
 -- ---- a poll
 
@@ -140,7 +142,7 @@ module _ (p : Policy) (e : End) (now : ℕ) (k : Flag) where
 
 -- what the observer of x knows to be wanted
 abbrev pub wants_of : Party → Party → Wants
-wants_of x y = folded (wants_told (lens x y)) x.told (no_wants (first_watch x.final x.began x.initial_rtt x.initial_delay))
+wants_of x y = folded (wants_told (lens x y)) x.told (no_wants (first_watch x.final x.began x.made.path.remote x.initial_rtt x.initial_delay))
 
 -- the watch within it is the observer's
 same_watch : (l : Lens) (told : List Told) (w : Wants) → (folded (wants_told l) told w).watch ≡ folded (watch_told l) told w.watch
@@ -148,7 +150,7 @@ same_watch l [] w = refl
 same_watch l (t ∷ told) w = same_watch l told (wants_told l t w)
 
 pub wants_watch : (x y : Party) → (wants_of x y).watch ≡ watch_of x y
-wants_watch x y = same_watch (lens x y) x.told (no_wants (first_watch x.final x.began x.initial_rtt x.initial_delay))
+wants_watch x y = same_watch (lens x y) x.told (no_wants (first_watch x.final x.began x.made.path.remote x.initial_rtt x.initial_delay))
 
 -- what an open end wants, by what is known to be wanted
 pub record IsWanted (w : Wants) (e : End) : Type 0 where
@@ -194,7 +196,7 @@ module _ (x y : Party) (call : Call) (a : Answer) (c : Calls Observed x y call a
   -- what is wanted behind the call
   pub wants_next : wants_of next y ≡ wants_behind x.terms.keep_alive t sents came after w
   wants_next =
-      folded_more (wants_told (lens x y)) x.told t (no_wants (first_watch x.final x.began x.initial_rtt x.initial_delay))
+      folded_more (wants_told (lens x y)) x.told t (no_wants (first_watch x.final x.began x.made.path.remote x.initial_rtt x.initial_delay))
       ∙ ap (λ (ss : List Sent). wants_behind x.terms.keep_alive t ss (news w.watch.intake after.intake) after w) (went_behind x y call a c w.watch watched)
       ∙ ap (λ (j : Intake). wants_behind x.terms.keep_alive t sents (news j after.intake) after w) (came_before x y call a c w.watch watched)
       ∙ ap (λ (j : Intake). wants_behind x.terms.keep_alive t sents (news (came_to x y) j) after w) (came_behind x y call a c w.watch watched)
@@ -207,7 +209,7 @@ module _ (x y : Party) (call : Call) (a : Answer) (c : Calls Observed x y call a
     apart = λ apart. none_counts w.packets (came_to x y) (after_call x.policy x.end y.given call a)
         (call_leaves (λ (q : Pending). q.silent ≤ count_silent w.packets) x.end i.silent i.silent i.silent x.policy y.given call a apart c.answer c.served none);
     none = λ delivery is. none_counts w.packets (came_to x y) x.end i.silent;
-    comes = λ delivery is s among. arrivals_count x.end delivery.now s.number s.frames (came_to x y) w.packets (λ still. i.silent);
+    comes = λ delivery is s among here. arrivals_count x.end delivery.now s.number s.frames (taken_at here s.frames) (came_to x y) w.packets (λ still. i.silent);
   })
 
   silent_next : (b : Bool) → acknowledges sents ≡ b → next.end.acknowledging.silent ≤ count_silent (if b then [] else came ++ w.packets)
@@ -339,7 +341,7 @@ module _ (x y : Party) (a : Answer) where
       (by_coming x y a c.joined c.served (meets y x c.takes.0) (SetBy x.end (came_to x y)) (calls.Deliver delivery) c.answer (record {
         apart = λ apart. cc;
         none = λ other same. none_set x.end (came_to x y) x.end refl;
-        comes = λ other same s among. arrivals_set x.end other.now s.number s.frames (came_to x y);
+        comes = λ other same s among here. arrivals_set x.end other.now s.number s.frames (taken_at here s.frames) (came_to x y);
       }) still)
   living_next call c still i = living_set call c still i refl (
       quiet_alive x.policy x.end y.given call a refl refl refl still

@@ -39,6 +39,9 @@ use Rattle.quic_headline.proofs.Held.Silent.{ready_whole}
 use Rattle.quic_headline.proofs.Steps.Probes.{begun}
 use Rattle.quic_headline.proofs.Steps.Probing.{IsProbing, unprobed, probe_goes}
 use Rattle.quic_headline.proofs.Packets.Heard.{by_taken}
+use Rattle.quic_headline.proofs.Packets.Moved.{by_migrated}
+use Rattle.quic_packet.specs.Datagram.{Opening}
+use Rattle.quic_machine.specs.Migration.{migrated}
 use Rattle.quic_headline.proofs.Packets.Sends.{by_sends}
 use Rattle.quic_headline.specs.Observer.{Sent, asks_of}
 use Rattle.quic_headline.proofs.Packets.Flying.{asking_padded}
@@ -243,6 +246,11 @@ apart_same : (b : Bare) (f : FrameValue) (e x : End) → IsApart f → SameBare 
 apart_same of_ping f e x is i = apart_leaves (SameBare of_ping e) f x is (λ c. i) (λ c most. i)
 apart_same of_immediate f e x is i = apart_leaves (SameBare of_immediate e) f x is (λ c. i) (λ c most. i)
 
+-- and so does a change of the path
+moved_same : (b : Bare) (p : Policy) (o : Opening) (remote : ℕ) (e x : End) → SameBare b e x → SameBare b e (migrated p o remote x)
+moved_same of_ping p o remote e x i = by_migrated (SameBare of_ping e) p o remote x (λ c. i) (λ c most. i)
+moved_same of_immediate p o remote e x i = by_migrated (SameBare of_immediate e) p o remote x (λ c. i) (λ c most. i)
+
 receives_same : (b : Bare) (e : End) → Receives (SameBare b e)
 receives_same b e = record {
   notes = λ n x i. i;
@@ -259,6 +267,7 @@ receives_same b e = record {
   asks_close = λ x i. i;
   exhausts = λ now x i. i;
   draws = λ words x i. i;
+  moves = λ p o remote x i. moved_same b p o remote e x i;
 }
 
 -- it waits where the call asks for it, where the time without a packet is over, and as before

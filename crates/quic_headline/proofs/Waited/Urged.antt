@@ -166,7 +166,7 @@ delivered_urges x y call a c none comes opened due = elim (caused opened due) [
     caused = by_coming_with x y a c.joined c.served (meets y x c.takes.0.0) Caused call c.answer (record {
       apart = λ apart. absurd (both_ways (is_delivery call) apart comes);
       none = λ delivery is opened due. inl due;
-      comes = λ delivery is s among. arrivals_due x.end delivery s.number s.frames i ps acked (pressing x y (c.gives.0, c.gives.1.0.0) (c.takes.0, c.takes.1.0.0) c.gives.1.0.1) (urged_by x y call) (λ state none. urged_taken x y call c.gives.0.1 delivery is state s.number s.frames none);
+      comes = λ delivery is s among here. arrivals_due x.end delivery s.number s.frames here i ps acked (pressing x y (c.gives.0, c.gives.1.0.0) (c.takes.0, c.takes.1.0.0) c.gives.1.0.1) (urged_by x y call) (λ state none. urged_taken x y call c.gives.0.1 delivery is state s.number s.frames here none);
     })
 
 -- no packet has a deadline where none came

@@ -175,7 +175,7 @@ pub enum Dropped {
     Duplicate,
     Closing,
     Drained,
-    /// It came from another address than that of [`Connection::new`].
+    /// It came to a client from another address than that of [`Connection::new`].
     Address,
     Unknown,
 }

@@ -229,8 +229,9 @@ fn what_is_wrong_is_refused() {
         end.receive(0, 7, 0, &mut [0x40]),
         dropped(Dropped::TooShort)
     );
+    let mut client = endpoint(Side::Client, &settings).unwrap();
     assert_eq!(
-        end.receive(0, 8, 0, &mut [0x40; 99]),
+        client.receive(0, 8, 0, &mut [0x40; 99]),
         dropped(Dropped::Address)
     );
     assert!(!Error::Stopped(9).to_string().is_empty());

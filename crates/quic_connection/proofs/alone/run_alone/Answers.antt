@@ -1,11 +1,10 @@
 -- What the machine keeps at one end alone, of the calls that were made.
-use Rattle.std.proofs.Common.{◌≡◌, ℕ, List, [], length, take, drop, refl, sym, ap, ◌∙◌, subst, arith}
-use Rattle.std.specs.Prelude.{sum_by}
+use Rattle.std.proofs.Common.{◌≡◌, ℕ, List, [], length, take, drop, refl, sym, ap, ◌∙◌, subst}
 use Rattle.std.proofs.lemmas.List.{drop_at}
-use Rattle.std.proofs.lemmas.List.Sums.{sum_by-append}
 use Rattle.quic_machine.specs.Policy.{Policy}
 use Rattle.quic_machine.specs.End.{policy_of}
 use Rattle.quic_headline.specs.Alone.{Lone}
+use Rattle.quic_headline.specs.Amplification.{IsThreefold}
 use Rattle.quic_headline.specs.Nonces.{SealedOnce}
 use Rattle.quic_headline.specs.LoneAcks.{AcksTaken, CodesAreSmall}
 use Rattle.quic_connection_parts.specs.Telling.{windows_of}
@@ -54,16 +53,16 @@ returns-clause-few_events g c = λ new.
     (returns-clause-follows g c)
 
 pub returns-clause-threefold : goal.returns-clause-threefold
-returns-clause-threefold g c = λ begins served unvalidated.
+returns-clause-threefold g c = λ begins.
     let given = c.make_calls.ensures.given in
     let p : Policy = policy_of g.H.HeaderKey.protection g.K.PacketKey.aead g.K.PacketKey.seal_limit g.K.PacketKey.refusal_limit (words_of g.R.Rng.stream) c.args.end.now in
     let keys = c.args.end.now.keys in
     let from : Lone = lone_of (windows_of g.C.Controller.steps g.C.Controller.window_of) c.args.end.now in
     let to : Lone = lone_of (windows_of g.C.Controller.steps g.C.Controller.window_of) c.make_calls.new.end in
-    let most = c.stays_threefold.ensures p c.args.theirs.now from to (take (length c.make_calls.result.answers.items) c.args.calls.now) c.make_calls.result.answers.items given.more begins (g.met.H.HeaderKey.keeps_length keys.header.local) (g.met.K.PacketKey.adds_tag keys.packet.local)
-    given.gives served unvalidated in
-    let sum = ap (sum_by length) given.behind ∙ sum_by-append length c.args.given.now.items given.more in
-    omega (arith, most, sum)
+    let made = take (length c.make_calls.result.answers.items) c.args.calls.now in
+    let added : drop (length c.args.given.now.items) c.make_calls.new.given.items ≡ given.more = ap (λ (ds : List (List ℕ)). drop (length c.args.given.now.items) ds) given.behind ∙ drop_at c.args.given.now.items given.more (length c.args.given.now.items) refl in
+    subst (λ (ds : List (List ℕ)). IsThreefold p c.args.theirs.now begins.new.side begins.new.remote made c.make_calls.result.answers.items ds c.make_calls.new.end.end) (sym added)
+    (c.stays_threefold.ensures p c.args.theirs.now from to made c.make_calls.result.answers.items given.more begins (g.met.H.HeaderKey.keeps_length keys.header.local) (g.met.K.PacketKey.adds_tag keys.packet.local) given.gives)
 
 pub returns-clause-closed_for_cause : goal.returns-clause-closed_for_cause
 returns-clause-closed_for_cause g c = λ new.

@@ -92,4 +92,4 @@ returns-in_ok-copy-in-Some-clause-draws g c =
     let limit : ℕ = g.K.PacketKey.refusal_limit old.keys.packet.remote in
     let last : Bool = is_last limit old.heard in
     let r = c.receive in
-    delivered_goes g.R.Rng.stream p g.C.Controller.steps old r.new.self (arriving c.args.delivery.now.now c.args.delivery.now.remote c.args.delivery.now.ecn last) c.deref_mut.result.now r.result r.ensures.end r.ensures.random r.ensures.failed
+    delivered_goes g.R.Rng.stream p g.C.Controller.steps g.C.Controller.window_of old r.new.self (arriving c.args.delivery.now.now c.args.delivery.now.remote c.args.delivery.now.ecn last) c.deref_mut.result.now r.result r.ensures.end r.ensures.random r.ensures.failed

@@ -93,4 +93,4 @@ returns-clause-draws g c =
     let limit : ℕ = g.K.PacketKey.refusal_limit old.keys.packet.remote in
     let last : Bool = is_last limit old.heard in
     let r = c.receive in
-    delivered_goes g.R.Rng.stream p g.C.Controller.steps old r.new.self (arriving i.now i.remote i.ecn last) d r.result r.ensures.end r.ensures.random r.ensures.failed
+    delivered_goes g.R.Rng.stream p g.C.Controller.steps g.C.Controller.window_of old r.new.self (arriving i.now i.remote i.ecn last) d r.result r.ensures.end r.ensures.random r.ensures.failed

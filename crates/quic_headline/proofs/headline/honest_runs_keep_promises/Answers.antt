@@ -23,6 +23,7 @@ use Rattle.quic_headline.proofs.Channel.Clauses.{no_blame, taken_or_too_many}
 use Rattle.quic_headline.proofs.Credit.Clause.{credit_is_bounded}
 use Rattle.quic_headline.proofs.Credit.Counts.{counts_are_bounded}
 use Rattle.quic_headline.proofs.Destined.InUse.{ids_are_in_use}
+use Rattle.quic_headline.proofs.Duties.Clause.{duties_stand}
 use Rattle.quic_headline.proofs.Events.Mail.{messages_are_told}
 use Rattle.quic_headline.proofs.Events.Openings.{openings_are_told}
 use Rattle.quic_headline.proofs.Events.Readables.{readables_are_told}
@@ -31,9 +32,12 @@ use Rattle.quic_headline.proofs.Held.Clause.{polls_send_messages, polls_send_wha
 use Rattle.quic_headline.proofs.Held.Threefold.{threefold}
 use Rattle.quic_headline.proofs.Messages.Lists.{messages_go}
 use Rattle.quic_headline.proofs.Messages.Order.{messages_go_in_order}
+use Rattle.quic_headline.proofs.Moves.Changes.{path_changes_exactly}
+use Rattle.quic_headline.proofs.Moves.Clause.{drops_other_addresses, goes_to_path}
 use Rattle.quic_headline.proofs.NextIds.Clause.{no_id_is_exact, too_many_is_exact}
+use Rattle.quic_headline.proofs.NextIds.Stays.{stays_for_a_reason}
 use Rattle.quic_headline.proofs.Packets.Quiet.{heard_nothing}
-use Rattle.quic_headline.proofs.Places.Theorems.{accepted_were_opened, accepts_all, ack_moments, acknowledged_were_taken, asking_goes_where_let, blocked_only_without_bytes, datagrams_are_sized, duties_stand, end_after_all, finished_means_arrived, grown_limits_wait, ids_are_issued, ids_are_new, keys_last, loss_moments, loss_timer_quiet, messages_at_most_once, names_were_taken, newest_opens, newest_opens_at_end, number_limit, numbers_rise, once, opens_exactly, ordered_prefix, pacer_sets_its_timer, resets_are_told, size_is_of_history, sizes_move, slices, told_ids_are_known, tracks_in_flight, unknown_only_where_retired, window_is_of_history}
+use Rattle.quic_headline.proofs.Places.Theorems.{accepted_were_opened, accepts_all, ack_moments, acknowledged_were_taken, asking_goes_where_let, blocked_only_without_bytes, datagrams_are_sized, end_after_all, finished_means_arrived, grown_limits_wait, ids_are_issued, ids_are_new, keys_last, loss_moments, loss_timer_quiet, messages_at_most_once, names_were_taken, newest_opens, newest_opens_at_end, number_limit, numbers_rise, once, opens_exactly, ordered_prefix, pacer_sets_its_timer, resets_are_told, size_is_of_history, sizes_move, slices, told_ids_are_known, tracks_in_flight, unknown_only_where_retired, window_is_of_history}
 use Rattle.quic_headline.proofs.Requests.Clause.{requests_say}
 use Rattle.quic_headline.proofs.Rest.Delivered.{delivered_at_rest}
 use Rattle.quic_headline.proofs.Rest.Owed.{nothing_owed_at_rest}
@@ -147,11 +151,15 @@ returns c = λ r end honest is. (let heard = heard_nothing r honest in record {
     told_ids_are_known = told_ids_are_known r end honest is;
     no_id_is_exact = no_id_is_exact r end honest is;
     too_many_is_exact = too_many_is_exact r end honest is;
+    stays_for_a_reason = stays_for_a_reason r end honest is;
   };
   validates = record {
     threefold = threefold r end honest is;
     validated_by_answer = validated_by_answer r end honest is;
     answers_validate = answers_validate r end honest is;
+    goes_to_path = goes_to_path r end honest is;
+    path_changes_exactly = path_changes_exactly r end honest is;
+    drops_other_addresses = drops_other_addresses r end honest is;
   };
   causes = record {
     no_blame = no_blame r end honest is;

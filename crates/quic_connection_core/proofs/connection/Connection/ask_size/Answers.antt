@@ -9,4 +9,4 @@ invariant_of-self g c =
     let limit = x.peer_params.max_udp_payload_size in
     let sized = sized_asked 1200 limit c.clock-now.result x.path.discovery i.2.sized in
     let sizes = rw c.path_asked.ensures.told at c.path_asked.ensures.sizes in
-    rw c.path_asked.ensures.told (i.0, i.1, sized_told _ _ _ _ limit x.path.discovery _ _ sized sizes i.2, i.3, i.4, i.5)
+    rw c.path_asked.ensures.told (i.0, i.1, sized_told _ _ _ _ limit x.path.discovery _ _ sized sizes i.2, i.3, i.4, i.5, i.6)

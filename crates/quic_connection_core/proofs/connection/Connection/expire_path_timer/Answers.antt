@@ -1,10 +1,6 @@
-use Rattle.std.proofs.Common.{◌≡◌, ◌+◌, ℕ, true, false, sym, ap, ◌∙◌, arith}
-use Rattle.std.specs.Prelude.{nat_lt}
-use Rattle.std.proofs.lemmas.Bool.{lt-ltb, le-ltb}
+use Rattle.std.proofs.Common.{◌≡◌, ℕ, true, false, sym, ap, ◌∙◌}
 use Rattle.quic_time.specs.Timers.{has_come}
-use Rattle.quic_machine.specs.Validation.{most_challenges}
-use Rattle.quic_machine.specs.End.{challenged, words_drawn}
-use Rattle.quic_connection_parts.proofs.Drawing.{path_waits_on, path_asks, path_gives_up, draws_one}
+use Rattle.quic_connection_parts.proofs.Drawing.{path_waits_on, path_expires}
 use Rattle.quic_connection_core.proofs.connection.Connection.expire_path_timer.Goals as goal
 
 pub returns-then-not-is_expired-clause-end : goal.returns-then-not-is_expired-clause-end
@@ -13,24 +9,8 @@ returns-then-not-is_expired-clause-end g c =
     let not_yet : has_come w.end.timers.path_validation w.end.closing.clock ≡ false = sym (ap (λ x. has_come x.end.timers.path_validation x.end.closing.clock) c.self.view_is) ∙ ap (λ (k : ℕ). has_come c.self.inside.timers.path_validation k) (sym c.clock.ensures) ∙ sym c.is_expired.ensures ∙ c.if-not-is_expired.true in
     path_waits_on g.R.Rng.stream w (has_come w.end.timers.path_validation w.end.closing.clock) not_yet
 
-pub returns-then-self-lt18446744073709551615-clause-end : goal.returns-then-self-lt18446744073709551615-clause-end
-returns-then-self-lt18446744073709551615-clause-end g c =
+pub returns-clause-end : goal.returns-clause-end
+returns-clause-end g c =
     let w = c.args.self.now in
     let come : has_come w.end.timers.path_validation w.end.closing.clock ≡ true = sym (ap (λ x. has_come x.end.timers.path_validation x.end.closing.clock) c.self.view_is) ∙ ap (λ (k : ℕ). has_come c.self.inside.timers.path_validation k) (sym c.clock.ensures) ∙ sym c.is_expired.ensures ∙ c.if-not-is_expired.false in
-    let same = ap (λ x. x.end.validation.drawn) c.self.view_is in
-    let few : nat_lt w.end.validation.drawn most_challenges ≡ true = lt-ltb w.end.validation.drawn most_challenges (omega (arith, same)) in
-    path_asks g.R.Rng.stream w (has_come w.end.timers.path_validation w.end.closing.clock) come few c.challenge_path.new.self c.challenge_path.ensures.end
-
-pub returns-then-self-lt18446744073709551615-clause-random : goal.returns-then-self-lt18446744073709551615-clause-random
-returns-then-self-lt18446744073709551615-clause-random g c =
-    let w = c.args.self.now in
-    let more : words_drawn c.challenge_path.new.self.end ≡ words_drawn w.end + 1 = ap (λ x. words_drawn x.end) c.challenge_path.ensures.end ∙ (let same : words_drawn (challenged 0 w.end) ≡ words_drawn w.end + 1 = omega arith in same) in
-    draws_one g.R.Rng.stream w c.challenge_path.new.self c.challenge_path.ensures.random more
-
-pub returns-else-self-lt18446744073709551615-clause-end : goal.returns-else-self-lt18446744073709551615-clause-end
-returns-else-self-lt18446744073709551615-clause-end g c =
-    let w = c.args.self.now in
-    let come : has_come w.end.timers.path_validation w.end.closing.clock ≡ true = sym (ap (λ x. has_come x.end.timers.path_validation x.end.closing.clock) c.self.view_is) ∙ ap (λ (k : ℕ). has_come c.self.inside.timers.path_validation k) (sym c.clock.ensures) ∙ sym c.is_expired.ensures ∙ c.if-not-is_expired.false in
-    let same = ap (λ x. x.end.validation.drawn) c.self.view_is in
-    let many : nat_lt w.end.validation.drawn most_challenges ≡ false = le-ltb w.end.validation.drawn most_challenges (omega (arith, same)) in
-    path_gives_up g.R.Rng.stream w (has_come w.end.timers.path_validation w.end.closing.clock) come many _ c.self.view_is c.stop.new.self c.stop.ensures
+    path_expires g.R.Rng.stream w (has_come w.end.timers.path_validation w.end.closing.clock) come c.challenge_anew.new.self c.challenge_anew.ensures.end

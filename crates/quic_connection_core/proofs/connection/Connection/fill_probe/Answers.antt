@@ -1,12 +1,13 @@
-use Rattle.std.proofs.Common.{sym, ap, subst, ◌∙◌}
+use Rattle.std.proofs.Common.{◌≤◌, sym, ap, subst, ◌∙◌}
 use Rattle.quic_streams_parts.specs.Table.{Table}
 use Rattle.quic_sent_packets.specs.Packets.{Ascends}
 use Rattle.quic_machine.specs.Tracking.{TrackedPacket}
+use Rattle.quic_spaces.specs.Numbers.{Numbers, expected}
 use Rattle.quic_spaces.specs.Space.{Probed}
 use Rattle.quic_machine.specs.End.{End, with_end}
 use Rattle.quic_machine.specs.Poll.{probed}
 use Rattle.quic_machine.specs.Lacking.{MovesRecord}
-use Rattle.quic_connection_core.proofs.Probing.{with_space, as_is, probe_fills, probe_flies, where_ok, where_lacking, either_way}
+use Rattle.quic_connection_core.proofs.Probing.{with_space, as_is, probe_fills, probe_flies, probe_numbers, where_ok, where_lacking, either_way}
 use Rattle.quic_connection_core.proofs.connection.Connection.fill_probe.Goals as goal
 
 pub invariant_of-self : goal.invariant_of-self
@@ -22,8 +23,12 @@ invariant_of-self g c =
           (λ is. (let space = ap (λ (q : Probed). q.space) is in rw space (probe_flies x.path.generation x.path.in_flight c.takes_immediate_ack-immediate.result x.space x.streams.pending x.streams.state up i.3)))
           (λ is. (rw is i.3))
           queued.ok queued.err,
-      i.4,
+      either_way c.maybe_queue_probe.result _ _ _
+          (λ is. (let numbers = ap (λ (q : Probed). q.space.numbers) is ∙ probe_numbers c.takes_immediate_ack-immediate.result x.space x.streams.pending x.streams.state in subst (λ (n : Numbers). x.path.generation ≤ expected n) (sym numbers) i.4))
+          (λ is. (rw is i.4))
+          queued.ok queued.err,
       i.5,
+      i.6,
     )
 
 pub returns-clause-ok : goal.returns-clause-ok

@@ -51,7 +51,7 @@ invariant_of-self-2 g c =
     let same : c.args.packet.generation ≡ i.path.generation = c.requires.generation ∙ sym (ap (λ w. w.end.path.generation) c.self.view_is) in
     let flies = sent_flies i.path.generation i.space.numbers.next number i.space.tracking i.path.in_flight c.args.packet inv.3 above same fits in
     rw (c.leave_forgotten.ensures, c.enter_flight.ensures.path, c.in_ok-forgotten.ensures.forgotten, c.allocate-number.ensures.numbers, c.in_ok-forgotten.ensures.ok, is, size, asks)
-    (rw (sent_packets i.space.tracking number c.args.packet) (inv.0, inv.1, inv.2, flies, inv.4, inv.5))
+    (rw (sent_packets i.space.tracking number c.args.packet) (inv.0, inv.1, inv.2, flies, inv.4, inv.5, inv.6))
 
 pub returns-clause-random : goal.returns-clause-random
 returns-clause-random g c =

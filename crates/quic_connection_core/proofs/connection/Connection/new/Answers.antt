@@ -54,7 +54,7 @@ invariant_of-connection g c =
       size = omega (arith, size, shown);
       room = subst (λ (k : ℕ). HasRoom k (g.C.Controller.window_of c.path.inside.congestion)) (sym shown) shows;
     } in
-    (c.negotiate_max_idle_timeout.ensures, search rules, record { sized = sized; told = told; window = window }, rw (flight, c.new-3.ensures) (none_in_flight _ _), ap (λ f. f.next) c.new-4.ensures, omega arith)
+    (c.negotiate_max_idle_timeout.ensures, search rules, record { sized = sized; told = told; window = window }, rw (flight, c.new-3.ensures) (none_in_flight _ _), omega (arith, ap (λ p. p.generation) made), ap (λ f. f.next) c.new-4.ensures, omega arith)
 
 pub returns-clause-roomy : goal.returns-clause-roomy
 returns-clause-roomy g c =

@@ -13,7 +13,7 @@ pub invariant_of-self : goal.invariant_of-self
 invariant_of-self g c =
     let i = c.self.invariant in
     let f = c.self.inside.ack_frequency in
-    rw c.on_acked.ensures (i.0, i.1, i.2, i.3, numbered_still f.in_flight c.in-Some.number f ∙ i.4, i.5)
+    rw c.on_acked.ensures (i.0, i.1, i.2, i.3, i.4, numbered_still f.in_flight c.in-Some.number f ∙ i.5, i.6)
 
 pub loop-number-init : goal.loop-number-init
 loop-number-init g c = acks_begin g.C.Controller.steps c.args.self.now c.args.acked.items

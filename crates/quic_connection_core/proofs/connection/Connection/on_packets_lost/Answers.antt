@@ -38,6 +38,7 @@ invariant_of-self g c =
       lost_leaves i.path.generation i.space.numbers.next c.args.verdict.now (c.in-Some.number, c.in-Some.packet) i.space.tracking c.take_lost.new.tracking i.path.in_flight inv.3 c.in-Some.ensures.taken,
       inv.4,
       inv.5,
+      inv.6,
     )
 
 pub loop-number-init : goal.loop-number-init

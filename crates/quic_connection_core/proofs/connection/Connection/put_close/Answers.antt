@@ -89,7 +89,7 @@ pub invariant_of-self : goal.invariant_of-self
 invariant_of-self g c =
     let i = c.self.inside in
     let inv = c.self.invariant in
-    rw c.allocate-number.ensures.numbers (inv.0, inv.1, inv.2, later_flies i.path.generation i.space.numbers.next i.filter i.space.tracking.packets i.path.in_flight inv.3, inv.4, inv.5)
+    rw c.allocate-number.ensures.numbers (inv.0, inv.1, inv.2, later_flies i.path.generation i.space.numbers.next i.filter i.space.tracking.packets i.path.in_flight inv.3, inv.4, inv.5, inv.6)
 
 pub returns-clause-items : goal.returns-clause-items
 returns-clause-items g c =

@@ -9,4 +9,4 @@ invariant_of-self g c =
     let limit = x.peer_params.max_udp_payload_size in
     let sized = (sized_acked 1200 limit c.args.number c.args.size x.path.discovery i.2.sized).0 in
     let sizes = rw c.path_acked.ensures.told at c.path_acked.ensures.sizes in
-    rw c.path_acked.ensures.told (i.0, i.1, sized_told _ _ _ _ limit x.path.discovery _ _ sized sizes i.2, i.3, i.4, i.5)
+    rw c.path_acked.ensures.told (i.0, i.1, sized_told _ _ _ _ limit x.path.discovery _ _ sized sizes i.2, i.3, i.4, i.5, i.6)

@@ -1,56 +1,7 @@
-use Rattle.std.proofs.Common.{rules, ◌≡◌, ℕ, List, Err, refl, sym, ap, ◌∙◌}
-use Rattle.quic_wire.specs.Items.{items, without_padding}
-use Rattle.quic_wire.specs.FrameView.{item_view}
-use Rattle.quic_congestion.specs.Congestion.{after_calls}
-use Rattle.quic_machine.specs.Receive.{take_items, told_items, asks_in, is_urged}
-use Rattle.quic_connection_core.proofs.Forms.{all_have_form}
-use Rattle.quic_connection_core.proofs.Items.{taken_step, told_step, told_stop, asks_step, asks_last, urged_step, urged_last, form_behind, takes_unpadded, told_unpadded, asks_unpadded, urged_unpadded, form_unpadded}
-use Rattle.quic_connection_parts.proofs.Told.{keys_step}
 use Rattle.quic_connection_core.proofs.connection.Connection.take_frames.Goals as goal
 
-pub loop-item-init : goal.loop-item-init
-loop-item-init g c =
-    let e = c.args.self.now.end in
-    let is = items c.args.payload.now in
-    let same : c.into_iter-item-iterator.result ≡ c.args.payload.now = search rules in
-    record {
-      takes = ap (λ (bytes : List ℕ). take_items (without_padding (items bytes)) e) same ∙ takes_unpadded is e;
-      told = ap (λ (bytes : List ℕ). after_calls g.C.Controller.steps c.args.self.now.control (told_items (without_padding (items bytes)) e)) same ∙ ap (after_calls g.C.Controller.steps c.args.self.now.control) (told_unpadded is e);
-      asks = ap (λ (bytes : List ℕ). asks_in (without_padding (items bytes))) same ∙ asks_unpadded is;
-      urged = ap (λ (bytes : List ℕ). is_urged c.args.ecn (without_padding (items bytes)) e) same ∙ urged_unpadded c.args.ecn is e;
-      form = form_unpadded (items c.into_iter-item-iterator.result) (all_have_form c.into_iter-item-iterator.result);
-      others = refl;
-    }
-
-pub returns-in_err-take_item-clause-told : goal.returns-in_err-take_item-clause-told
-returns-in_err-take_item-clause-told g c =
-    let e = c.loop-item.self.end in
-    let is : c.from_residual.result ≡ Err c.in_err-take_item.field-0.0 = search rules in
-    rw is (told_stop g.C.Controller.steps c.loop-item.self.control c.take_item.new.self.control (item_view c.in-Some.item) (without_padding (items c.next.new.self)) (without_padding (items c.loop-item.item-iterator)) e c.take_item.new.self.end _ _ c.in-Some.ensures.steps c.in_err-take_item.ensures.takes c.in_err-take_item.ensures.told c.loop-item.invariant.told)
-
-pub loop-item-preserved : goal.loop-item-preserved
-loop-item-preserved g c =
-    let i = item_view c.in-Some.item in
-    let all = without_padding (items c.loop-item.item-iterator) in
-    let others = without_padding (items c.next.new.self) in
-    let e = c.loop-item.self.end in
-    let v = c.loop-item.invariant in
-    let first = c.in-Some.ensures.steps in
-    let ok = c.in_ok-take_item.ensures in
-    record {
-      takes = taken_step i others all e c.take_item.new.self.end first ok.takes ∙ v.takes;
-      told = told_step g.C.Controller.steps c.loop-item.self.control c.take_item.new.self.control i others all e c.take_item.new.self.end first ok.takes ok.told ∙ v.told;
-      asks = asks_step c.loop-item.demand.asks c.demand_with-demand.result.asks _ i others all first c.demand_with-demand.ensures.asks v.asks;
-      urged = urged_step c.loop-item.demand.urged c.demand_with-demand.result.urged _ c.args.ecn i others all e c.take_item.new.self.end first ok.takes c.demand_with-demand.ensures.urged v.urged;
-      form = form_behind i others all first v.form;
-      others = keys_step c.args.self.now c.loop-item.self c.take_item.new.self v.others ok.others;
-    }
-
 pub returns-clause-takes : goal.returns-clause-takes
-returns-clause-takes g c =
-    let none = c.in-None.ensures.steps.0 in
-    let v = c.loop-item.invariant in
-    (asks_last c.loop-item.demand.asks _ _ none v.asks, urged_last c.loop-item.demand.urged _ c.args.ecn _ c.loop-item.self.end none v.urged, sym v.takes ∙ ap (λ is. take_items is c.loop-item.self.end) none)
+returns-clause-takes g c = rw c.is_at-here.ensures at c.take_frames_at.ensures.takes
 
 pub returns-clause-told : goal.returns-clause-told
-returns-clause-told g c = ap (λ is. after_calls g.C.Controller.steps c.loop-item.self.control (told_items is c.loop-item.self.end)) (sym c.in-None.ensures.steps.0) ∙ c.loop-item.invariant.told
+returns-clause-told g c = rw c.is_at-here.ensures at c.take_frames_at.ensures.told

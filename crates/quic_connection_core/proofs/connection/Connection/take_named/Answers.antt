@@ -16,4 +16,4 @@ invariant_of-self-2 g c =
     let path = c.self.inside.path in
     let named : reverse c.take_named.new.acked.items ≡ acked_by a c.self.inside.space.tracking.packets = rw c.new-acked.ensures.items at c.in_default.ensures.acked ∙ append-nil _ in
     let i = c.self.invariant in
-    rw (c.leave_all.ensures, c.in_default.ensures.left, c.deref.ensures.value) (i.0, i.1, i.2, named_leave path.generation c.self.inside.space.numbers.next a c.self.inside.space.tracking.packets c.take_named.new.acked.items path.in_flight i.3 named, i.4, i.5)
+    rw (c.leave_all.ensures, c.in_default.ensures.left, c.deref.ensures.value) (i.0, i.1, i.2, named_leave path.generation c.self.inside.space.numbers.next a c.self.inside.space.tracking.packets c.take_named.new.acked.items path.in_flight i.3 named, i.4, i.5, i.6)

@@ -15,7 +15,7 @@ pub returns-in_ok-boxed-clause-stage : goal.returns-in_ok-boxed-clause-stage
 returns-in_ok-boxed-clause-stage c =
     let s = c.in_ok-session.ensures in
     let before = c.args.self.now in
-    rw c.in_ok-boxed.ensures (begun (option_map (λ b. b.value) before.session) before.client before.server c.in_ok-session.session (none_mapped (λ b. b.value) before.session (c.is_none.ensures ∙ ap not c.if-is_none.true)) s.world s.client_options s.server_options)
+    rw c.in_ok-boxed.ensures (begun (option_map (λ b. b.value) before.session) before.client before.server before.client_hears before.server_hears c.in_ok-session.session (none_mapped (λ b. b.value) before.session (c.is_none.ensures ∙ ap not c.if-is_none.true)) s.world s.client_options s.server_options)
 
 pub returns-in_ok-boxed-clause-lasts : goal.returns-in_ok-boxed-clause-lasts
 returns-in_ok-boxed-clause-lasts c =
