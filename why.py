@@ -102,6 +102,7 @@ CALLS = {
     "ping": [],
     "close": [("T", natural), ("N", varint), ("H", octets)],
     "use_next_id": [],
+    "handshake_done": [],
     "poll": [("T", natural)],
     "timeout": [("T", natural)],
     "event": [],

@@ -26,6 +26,7 @@ BI, UNI = 0, 1
 NEVER = (1 << 64) - 1
 DATAGRAM_MAX = 65527
 PIECE = 65536  # The most bytes of a read.
+OWN_IDS_MAX = 8  # The most own connection IDs that live at once.
 
 
 class Missing(Exception):
@@ -57,6 +58,9 @@ class Code(enum.IntEnum):
     DISABLED = -20
     UNSUPPORTED = -21
     CLOSED = -22
+    CLIENT = -23
+    AGAIN = -24
+    NOT_OPEN = -25
 
 
 class Error(Exception):
@@ -83,6 +87,7 @@ class EventKind(enum.IntEnum):
     AVAILABLE = 6
     MESSAGE = 7
     LOST = 8
+    HANDSHAKE_CONFIRMED = 9
 
 
 class Lost(enum.IntEnum):
@@ -118,6 +123,14 @@ class Event(NamedTuple):
     text: str
 
 
+class OwnId(NamedTuple):
+    """An own connection ID, and the token by which a stateless reset of it is known, or None."""
+
+    sequence: int
+    id: bytes
+    reset_token: bytes
+
+
 def structure(name, fields):
     """A structure of unsigned numbers of 64 bits."""
     kinds = [(field, c_uint64) for field in fields.split()]
@@ -131,6 +144,7 @@ Numbers = structure(
     datagram_receive_buffer_size datagram_send_buffer_size initial_mtu min_mtu mtu_discovery
     mtu_upper_bound mtu_minimum_change mtu_interval mtu_black_hole_cooldown pad_to_mtu
     packet_threshold time_threshold_numerator time_threshold_denominator initial_rtt
+    first_rtt first_rtt_variation
     persistent_congestion_threshold initial_window loss_reduction_numerator
     loss_reduction_denominator ack_frequency_support ack_frequency ack_eliciting_threshold
     ack_max_delay ack_reordering_threshold address_validated confidentiality_limit
@@ -146,6 +160,17 @@ Stats = structure(
     dropped_failed""",
 )
 
+class RawId(ctypes.Structure):
+    """fh_own_id."""
+
+    _fields_ = [
+        ("sequence", c_uint64),
+        ("has_reset_token", c_uint64),
+        ("id", ctypes.c_uint8 * 8),
+        ("reset_token", ctypes.c_uint8 * 16),
+    ]
+
+
 # The calls of a connection: their answers, and what they take behind it.
 OUT_U64, OUT_U32 = POINTER(c_uint64), POINTER(c_uint32)
 CALLS = {
@@ -157,6 +182,8 @@ CALLS = {
     "fh_next_timeout": (c_uint64, []),
     "fh_would_open": (c_int, [c_uint64, c_void_p, c_size_t]),
     "fh_next_event": (c_int, [POINTER(RawEvent)]),
+    "fh_ids_changed": (c_int, []),
+    "fh_own_ids": (c_int64, [c_void_p, c_size_t]),
     "fh_lost_text": (c_int64, [c_void_p, c_size_t]),
     "fh_open": (c_int64, [c_uint32]),
     "fh_accept": (c_int64, [c_uint32]),
@@ -171,6 +198,8 @@ CALLS = {
     "fh_receive_message": (c_int64, [c_void_p, c_size_t]),
     "fh_max_message": (c_int64, []),
     "fh_ping": (None, []),
+    "fh_handshake_done": (c_int, []),
+    "fh_use_next_id": (c_int, []),
     "fh_close": (c_int, [c_uint64, c_uint64, c_char_p, c_size_t]),
     "fh_get_state": (c_int, []),
     "fh_get_stats": (c_int, [POINTER(Stats), c_size_t]),
@@ -371,6 +400,19 @@ class Connection(Handle):
         copy, came = room_of(bytearray(datagram)), self.peer_address if address is None else address
         return bool(self.library.fh_would_open(self.raw, came, copy, len(datagram)))
 
+    def ids_changed(self):
+        """Whether own connection IDs were issued or retired since this was asked last."""
+        return bool(self.library.fh_ids_changed(self.raw))
+
+    def own_ids(self):
+        """The own connection IDs that live: datagrams with these bytes behind the first are for
+        this endpoint. Of one that has failed they say nothing: take its IDs out."""
+        room = (RawId * OWN_IDS_MAX)()
+        count = taken(self.library.fh_own_ids(self.raw, room, len(room)))
+        own = room[:count]
+        tokens = [bytes(each.reset_token) if each.has_reset_token else None for each in own]
+        return [OwnId(each.sequence, bytes(each.id), token) for each, token in zip(own, tokens)]
+
     def next_timeout(self):
         """The earliest deadline, or None."""
         deadline = self.library.fh_next_timeout(self.raw)
@@ -457,6 +499,14 @@ class Connection(Handle):
     def ping(self):
         """Queues a PING."""
         self.library.fh_ping(self.raw)
+
+    def handshake_done(self):
+        """Says at a server that the handshake is done, and not before TLS is complete."""
+        taken(self.library.fh_handshake_done(self.raw))
+
+    def use_next_id(self):
+        """Sends to the next connection ID that the peer gave, and retires those before it."""
+        taken(self.library.fh_use_next_id(self.raw))
 
     def close(self, now, code, text=b""):
         """Closes the connection."""

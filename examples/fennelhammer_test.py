@@ -95,6 +95,51 @@ class Calls(unittest.TestCase):
             self.assertEqual(self.fails(Code.STOPPED, client.write, two, b"y").peers, 12)
             self.assertIn((EventKind.STOPPED, 12), [(it.kind, it.code) for it in client.events()])
 
+    def test_handshake_done(self):
+        with Pair() as pair:
+            client, server = pair.ends
+            server.handshake_done()
+            self.fails(Code.AGAIN, server.handshake_done)
+            self.fails(Code.CLIENT, client.handshake_done)
+            pair.settle()
+            confirmed = EventKind.HANDSHAKE_CONFIRMED
+            self.assertIn(confirmed, [event.kind for event in client.events()])
+            self.assertEqual(list(server.events()), [])
+        with Pair() as pair:
+            pair.ends[SERVER].close(0, 0)
+            self.fails(Code.NOT_OPEN, pair.ends[SERVER].handshake_done)
+
+    def test_own_ids(self):
+        with Pair() as pair:
+            client, server = pair.ends
+            own = client.own_ids()
+            self.assertEqual((own[0].sequence, own[0].id, own[0].reset_token), (0, IDS[0], None))
+            self.assertEqual([len(each.reset_token) for each in own[1:]], [16] * (len(own) - 1))
+            self.assertTrue(client.ids_changed())
+            self.assertFalse(client.ids_changed())
+            self.fails(Code.NONE, server.use_next_id)
+            pair.settle()
+            server.use_next_id()
+            pair.settle()
+            self.assertTrue(client.ids_changed())
+            later = client.own_ids()
+            self.assertEqual(later[:-1], own[1:])
+            self.assertEqual(later[-1].sequence, len(own))
+
+    def test_first_sample(self):
+        # RFC 9002, sections 5.3 and 6.2.1: the round trip, four variations and the peer's 25 ms.
+        with Pair(first_rtt=20_000_000, first_rtt_variation=10_000_000) as pair:
+            client = pair.ends[CLIENT]
+            client.ping()
+            self.assertIsNotNone(client.poll(0))
+            self.assertEqual(client.stats()["rtt"], 20_000_000)
+            self.assertEqual(client.stats()["min_rtt"], 20_000_000)
+            self.assertEqual(client.next_timeout(), 85_000_000)
+        minute = 60_000_000_000
+        self.assertEqual(Settings(first_rtt=1).wrong(), "first_rtt_variation")
+        self.assertEqual(Settings(first_rtt=minute + 1).wrong(), "first_rtt")
+        self.assertIsNone(Settings(first_rtt=minute, first_rtt_variation=minute).wrong())
+
     def test_unordered(self):
         with Pair() as pair:
             client, server = pair.ends

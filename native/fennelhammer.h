@@ -63,8 +63,12 @@ enum fh_error {
     FH_ERR_TOO_LARGE = -19,     /* the message is longer than the peer, or a packet, takes */
     FH_ERR_DISABLED = -20,      /* this endpoint takes no messages, so it sends none either */
     FH_ERR_UNSUPPORTED = -21,   /* the peer takes no messages */
-    FH_ERR_CLOSED = -22         /* the datagram broke a rule of QUIC: the endpoint is closing, and
+    FH_ERR_CLOSED = -22,        /* the datagram broke a rule of QUIC: the endpoint is closing, and
                                    the event FH_EVENT_LOST says why */
+    FH_ERR_CLIENT = -23,        /* the endpoint is a client, and only a server says that the
+                                   handshake is done */
+    FH_ERR_AGAIN = -24,         /* it was said before that the handshake is done */
+    FH_ERR_NOT_OPEN = -25       /* the endpoint isn't open */
 };
 
 /* What an fh_error means, in English: a text that ends with a zero byte and stays for ever.
@@ -155,6 +159,12 @@ typedef struct fh_settings {
     uint64_t time_threshold_denominator;
     /* Nanoseconds of a round trip before one was measured. Default 333000000 (333 ms). */
     uint64_t initial_rtt;
+    /* Nanoseconds of a round trip that was measured before, as by the handshake, and by how much it
+     * varies (RFC 9002, section 5): the endpoint begins with them as with its first sample, and
+     * `initial_rtt` counts for nothing. At most 60000000000 (60 s) each. 0: none was measured; else
+     * the variation isn't 0 either, and of one round trip alone it is half of it. Default 0. */
+    uint64_t first_rtt;
+    uint64_t first_rtt_variation;
     /* How many probe timeouts of losses mean persistent congestion; below 2^32. Default 3. */
     uint64_t persistent_congestion_threshold;
     /* Bytes of NewReno's first congestion window; it has to hold two datagrams. Default 12000. */
@@ -308,6 +318,32 @@ uint64_t fh_next_timeout(const fh_conn *conn);
  * bytes are changed, as `scratch` is opened in place: hand a copy in. */
 int fh_would_open(const fh_conn *conn, uint64_t peer_address, uint8_t *scratch, size_t len);
 
+/* ---- to which endpoint a datagram is */
+
+/* How many own connection IDs live at once, at most. */
+#define FH_OWN_IDS_MAX 8u
+
+/* An own connection ID: a datagram with these bytes behind its first byte is for its endpoint (RFC
+ * 9000, sections 5.1.1 and 5.2). */
+typedef struct fh_own_id {
+    uint64_t sequence;        /* under which number it was issued; 0 of the first */
+    uint64_t has_reset_token; /* 1, or 0 of the first, which has no token here */
+    uint8_t id[8];
+    uint8_t reset_token[16]; /* by which a stateless reset is known (section 10.3); else zeros */
+} fh_own_id;
+
+/* Whether own connection IDs were issued or retired since this was asked last, or since the
+ * endpoint was made: 1 or 0. A program with many endpoints on one socket asks it behind each call
+ * that hands something in, and where it is 1 reads the IDs anew. */
+int fh_ids_changed(fh_conn *conn);
+
+/* Writes the own connection IDs that live, by ascending number. They are there as soon as they are
+ * issued, before the peer is told. Of an endpoint that has failed they say nothing, and one that is
+ * drained drops all that comes: a program with many endpoints takes the IDs of both out.
+ *
+ * Answers how many they are, at most FH_OWN_IDS_MAX. FH_ERR_ROOM: they are more than `room`. */
+int64_t fh_own_ids(const fh_conn *conn, fh_own_id *out, size_t room);
+
 /* ---- events */
 
 /* Kinds of streams. */
@@ -324,7 +360,9 @@ enum fh_event_kind {
     FH_EVENT_MESSAGE = 7,   /* a message came while none was unread; one that fh_receive_message
                                kept for FH_ERR_ROOM doesn't count, so this may come though it is
                                there */
-    FH_EVENT_LOST = 8       /* the connection is lost, for `reason` */
+    FH_EVENT_LOST = 8,      /* the connection is lost, for `reason` */
+    FH_EVENT_HANDSHAKE_CONFIRMED = 9 /* at a client: the server says that the handshake is done
+                                        (RFC 9001, section 4.1.2) */
 };
 
 /* Why a connection is lost. */
@@ -472,6 +510,22 @@ int64_t fh_max_message(const fh_conn *conn);
 
 /* Queues a PING, so that the peer acknowledges (RFC 9000, section 19.2). */
 void fh_ping(fh_conn *conn);
+
+/* Says at a server that the handshake is done, as whoever makes it finds: HANDSHAKE_DONE goes until
+ * it is acknowledged, and the client gets FH_EVENT_HANDSHAKE_CONFIRMED. Not to be said before TLS
+ * is complete (RFC 9000, section 19.20).
+ *
+ * Answers 0. FH_ERR_CLIENT: the endpoint is a client. FH_ERR_AGAIN: it was said before.
+ * FH_ERR_NOT_OPEN. */
+int fh_handshake_done(fh_conn *conn);
+
+/* Sends to the next connection ID that the peer gave from now on, and retires those before it (RFC
+ * 9000, section 5.1.2). An ID never changes by itself, but where the peer asks for it, and at a
+ * server whose peer moved to another address.
+ *
+ * Answers 0. FH_ERR_NONE: the peer told of no later one. FH_ERR_BLOCKED: more than 80 retirements
+ * would wait. FH_ERR_MEMORY. */
+int fh_use_next_id(fh_conn *conn);
 
 /* Closes the connection at the time `now` with a code of the application and a text, of which as
  * much goes as fits one datagram (RFC 9000, section 10.2). What is still queued isn't sent any

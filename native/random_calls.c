@@ -94,7 +94,7 @@ static void hold(int is_so, const char *what, int64_t answer) {
 
 /* An answer is a number up to `most`, or an error. */
 static void in_range(const char *what, int64_t answer, int64_t most) {
-    hold(answer <= most && answer >= FH_ERR_CLOSED, what, answer);
+    hold(answer <= most && answer >= FH_ERR_NOT_OPEN, what, answer);
 }
 
 /* Bytes up to `room` may be written where the answer says how many, and none where it is
@@ -167,7 +167,9 @@ static void receive(struct pair *pair, fh_conn *conn, uint8_t *datagram, size_t 
     uint64_t address = below(30) ? 7 : number();
     memcpy(out, datagram, len);
     int opens = fh_would_open(conn, address, out, len);
-    hold(opens == 0 || (opens == 1 && address == 7), "would_open", opens);
+    /* A client takes nothing from elsewhere, and a server follows its peer. */
+    int follows = conn == pair->ends[FH_SERVER];
+    hold(opens == 0 || (opens == 1 && (follows || address == 7)), "would_open", opens);
     memset(out, MARK, len);
     uint32_t ecn = below(30) ? (uint32_t)below(4) : (uint32_t)number();
     int answer = fh_receive(conn, pair->now, address, ecn, datagram, len);
@@ -182,7 +184,8 @@ static size_t poll_one(struct pair *pair, fh_conn *conn) {
     size_t room = below(8) ? ROOM : length();
     int64_t len = fh_poll(conn, pair->now, out, room, &address, &ecn);
     hold((len == FH_ERR_ROOM) == (room < fh_max_datagram_size(conn)), "poll", len);
-    hold(len > 0 ? address == 7 && ecn < 4 : address == 1 && ecn == 99, "poll", len);
+    int there = conn == pair->ends[FH_SERVER] || address == 7;
+    hold(len > 0 ? there && ecn < 4 : address == 1 && ecn == 99, "poll", len);
     size_t given = len > 0 ? (size_t)len : 0;
     memcpy(data, out, given);
     wrote("poll", len, fh_max_datagram_size(conn));
@@ -297,7 +300,7 @@ static void call_message(fh_conn *conn) {
 static void ask(fh_conn *conn) {
     fh_stats stats;
     fh_event event = {0, 0, 0, 0, 0, 0};
-    while (fh_next_event(conn, &event)) hold(event.kind >= 1 && event.kind <= 8, "event", 0);
+    while (fh_next_event(conn, &event)) hold(event.kind >= 1 && event.kind <= 9, "event", 0);
     size_t room = length();
     wrote("lost_text", fh_lost_text(conn, out, room), room);
     in_range("stats", fh_get_stats(conn, &stats, below(9) ? sizeof stats : number()), 0);
@@ -321,6 +324,25 @@ static void pass(struct pair *pair, fh_conn *conn) {
     in_range("timeout", fh_timeout(conn, pair->now), 0);
 }
 
+/* Calls of a connection that name no stream. */
+static void call_connection(fh_conn *conn) {
+    fh_own_id ids[FH_OWN_IDS_MAX];
+    switch (below(5)) {
+    case 0:
+        in_range("handshake_done", fh_handshake_done(conn), 0);
+        break;
+    case 1:
+        in_range("use_next_id", fh_use_next_id(conn), 0);
+        break;
+    case 2:
+        in_range("ids_changed", fh_ids_changed(conn), 1);
+        in_range("own_ids", fh_own_ids(conn, ids, below(FH_OWN_IDS_MAX + 1)), FH_OWN_IDS_MAX);
+        break;
+    default:
+        fh_ping(conn);
+    }
+}
+
 static void call(struct pair *pair) {
     fh_conn *conn = pair->ends[below(2)];
     switch (below(16)) {
@@ -335,7 +357,7 @@ static void call(struct pair *pair) {
         call_message(conn);
         break;
     case 4:
-        fh_ping(conn);
+        call_connection(conn);
         break;
     case 5:
         if (below(pair->is_calm ? 200 : 20)) break;

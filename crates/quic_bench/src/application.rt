@@ -89,7 +89,7 @@ pub fn take_events(end: &mut impl Endpoint) -> Result<(), Fault> {
     for _ in 0..u64::MAX {
         match end.poll() {
             Some(Event::Lost(_)) => return Err(Fault::Lost),
-            Some(Event::Stream(_) | Event::Message) => {}
+            Some(Event::Stream(_) | Event::Message | Event::HandshakeConfirmed) => {}
             None => break,
         }
     }
@@ -154,7 +154,7 @@ impl Events {
             Event::Stream(StreamEvent::Finished { .. }) => {
                 self.finished = self.finished.wrapping_add(1);
             }
-            Event::Stream(_) | Event::Message => {}
+            Event::Stream(_) | Event::Message | Event::HandshakeConfirmed => {}
             Event::Lost(_) => return Err(Fault::Lost),
         }
         Ok(None)

@@ -2,8 +2,8 @@
 ghost use Rattle.std.specs.Prelude.{◌<◌, length};
 
 use quic_connection::{
-    ClosedStream, ConfigError, Failed, FinishError, ReadError, ReadableError, SendDatagramError,
-    UpdateError, VarInt, VarIntBoundsExceeded, WriteError,
+    ClosedStream, ConfigError, Failed, FinishError, HandshakeDoneError, NextIdError, ReadError,
+    ReadableError, SendDatagramError, UpdateError, VarInt, VarIntBoundsExceeded, WriteError,
 };
 use std::alloc::AllocError;
 use thiserror::Error;
@@ -77,10 +77,19 @@ pub enum CallError {
     /// The datagram broke a rule of QUIC, and the endpoint is closing.
     #[error("the datagram broke a rule of QUIC: the endpoint is closing")]
     Closed,
+    /// The endpoint is a client, and only a server says that the handshake is done.
+    #[error("only a server says that the handshake is done")]
+    Client,
+    /// It was said before that the handshake is done.
+    #[error("it was said before that the handshake is done")]
+    Again,
+    /// The endpoint isn't open.
+    #[error("the endpoint isn't open")]
+    NotOpen,
 }
 
 impl CallError {
-    /// The number of the error, as `fh_error` of the header has it: -1 to -22.
+    /// The number of the error, as `fh_error` of the header has it: -1 to -25.
     pub fn code(self) -> i32 {
         match self {
             CallError::Invalid => -1,
@@ -105,6 +114,9 @@ impl CallError {
             CallError::Disabled => -20,
             CallError::Unsupported => -21,
             CallError::Closed => -22,
+            CallError::Client => -23,
+            CallError::Again => -24,
+            CallError::NotOpen => -25,
         }
     }
 
@@ -146,6 +158,9 @@ pub fn error_text(code: i64) -> &'static [u8]
         -20 => b"this endpoint takes no messages, so it sends none\0",
         -21 => b"the peer takes no messages\0",
         -22 => b"the datagram broke a rule of QUIC: the endpoint is closing\0",
+        -23 => b"only a server says that the handshake is done\0",
+        -24 => b"it was said before that the handshake is done\0",
+        -25 => b"the endpoint isn't open\0",
         _ => b"no error of this library\0",
     }
 }
@@ -182,7 +197,28 @@ impl From<ConfigError> for CallError {
             ConfigError::Size => CallError::DatagramSize,
             ConfigError::Window => CallError::Window,
             ConfigError::KeyLimit => CallError::KeyLimit,
+            ConfigError::FirstSample => CallError::Setting,
             ConfigError::Memory => CallError::Memory,
+        }
+    }
+}
+
+impl From<HandshakeDoneError> for CallError {
+    fn from(error: HandshakeDoneError) -> Self {
+        match error {
+            HandshakeDoneError::Client => CallError::Client,
+            HandshakeDoneError::Again => CallError::Again,
+            HandshakeDoneError::NotOpen => CallError::NotOpen,
+        }
+    }
+}
+
+impl From<NextIdError> for CallError {
+    fn from(error: NextIdError) -> Self {
+        match error {
+            NextIdError::NoId => CallError::Absent,
+            NextIdError::TooManyPending => CallError::Blocked,
+            NextIdError::Memory => CallError::Memory,
         }
     }
 }

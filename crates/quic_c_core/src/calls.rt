@@ -4,6 +4,7 @@ use crate::call_error::CallError;
 use crate::endpoint::Peer;
 use crate::events::EventRecord;
 use crate::figures::Stats;
+use crate::own_ids::IdRecord;
 use crate::settings::Settings;
 use crate::streams::{Piece, dir_of, read_all, read_one, stream_of, write_each};
 use quic_connection::{RecvStream, SendStream, StreamId, Streams, VarInt};
@@ -81,6 +82,18 @@ pub trait Calls: Drop {
 
     /// Takes the next event; `None` where there is none.
     fn next_event(&mut self) -> Option<EventRecord>;
+
+    /// Whether own connection IDs were issued or retired since this was asked last, or since the
+    /// endpoint was made.
+    fn ids_changed(&mut self) -> bool;
+
+    /// Copies the own connection IDs that live to the front of a room, by ascending number: how
+    /// many they are.
+    ///
+    /// # Errors
+    ///
+    /// - [`CallError::Room`]: the room is smaller; nothing is copied.
+    fn put_own_ids(&self, out: &mut [IdRecord]) -> Result<usize, CallError>;
 
     /// Copies the text that says more of why the connection is lost to the front of a room: how
     /// many bytes it has. They are none where the connection isn't lost, or where there is no more
@@ -245,6 +258,22 @@ pub trait Calls: Drop {
 
     /// Queues a PING.
     fn ping(&mut self);
+
+    /// Says that the handshake is done: HANDSHAKE_DONE is queued.
+    ///
+    /// # Errors
+    ///
+    /// - [`CallError::Client`], [`CallError::Again`], [`CallError::NotOpen`]: as
+    ///   `HandshakeDoneError` says; nothing has changed.
+    fn handshake_done(&mut self) -> Result<(), CallError>;
+
+    /// Sends to the next connection ID that the peer gave, and retires those before it.
+    ///
+    /// # Errors
+    ///
+    /// - [`CallError::Absent`], [`CallError::Blocked`], [`CallError::Memory`]: as `NextIdError`
+    ///   says; nothing has changed.
+    fn use_next_id(&mut self) -> Result<(), CallError>;
 
     /// Closes the connection at this time, with this code and a copy of this text.
     ///

@@ -4,6 +4,7 @@ use crate::call_error::CallError;
 use crate::calls::Calls;
 use crate::events::{EventRecord, text_of};
 use crate::figures::Stats;
+use crate::own_ids::IdRecord;
 use crate::settings::Settings;
 use quic_connection::{
     Address, Bytes, Config, Connection, ConnectionId, DropReason, EcnCodepoint, Instant, Making,
@@ -265,6 +266,21 @@ impl Calls for Endpoint {
         Some(EventRecord::of(&event))
     }
 
+    fn ids_changed(&mut self) -> bool {
+        self.conn.poll_endpoint_events().is_some()
+    }
+
+    fn put_own_ids(&self, out: &mut [IdRecord]) -> Result<usize, CallError> {
+        let own = self.conn.own_ids();
+        if own.len() > out.len() {
+            return Err(CallError::Room);
+        }
+        for (record, id) in out.iter_mut().zip(own) {
+            *record = IdRecord::of(id);
+        }
+        Ok(own.len())
+    }
+
     fn put_lost_text(&self, out: &mut [u8]) -> Result<usize, CallError> {
         put(out, self.conn.lost().map_or(&[], text_of))
     }
@@ -308,6 +324,14 @@ impl Calls for Endpoint {
 
     fn ping(&mut self) {
         self.conn.ping();
+    }
+
+    fn handshake_done(&mut self) -> Result<(), CallError> {
+        Ok(self.conn.handshake_done()?)
+    }
+
+    fn use_next_id(&mut self) -> Result<(), CallError> {
+        Ok(self.conn.use_next_id()?)
     }
 
     fn close(&mut self, now: u64, code: u64, text: &[u8]) -> Result<(), CallError> {

@@ -7,7 +7,7 @@ use quic_connection::{Close, Dir, Event, LostReason, StreamEvent, StreamId, VarI
 #[derive(Clone, Copy, Debug, Default, PartialEq, Eq)]
 #[repr(C)]
 pub struct EventRecord {
-    /// What happened, from 1 to 8.
+    /// What happened, from 1 to 9.
     pub kind: u64,
     /// The stream to which it happened.
     pub stream: u64,
@@ -27,6 +27,7 @@ impl EventRecord {
         match event {
             Event::Stream(event) => EventRecord::of_stream(*event),
             Event::Message => EventRecord::of_kind(7),
+            Event::HandshakeConfirmed => EventRecord::of_kind(9),
             Event::Lost(reason) => EventRecord::of_loss(reason),
         }
     }

@@ -8,6 +8,7 @@ mod calls;
 mod endpoint;
 mod events;
 mod figures;
+mod own_ids;
 mod settings;
 mod streams;
 
@@ -16,5 +17,6 @@ pub use calls::Calls;
 pub use endpoint::{Endpoint, FirstIds, NEVER, Peer, parameters};
 pub use events::EventRecord;
 pub use figures::{DropFigures, PathFigures, STATS_SIZE, Stats, UdpFigures};
+pub use own_ids::IdRecord;
 pub use settings::{SETTINGS_SIZE, Settings};
 pub use streams::Piece;

@@ -2,13 +2,13 @@
 
 use crate::call_error::CallError;
 use quic_connection::{
-    AckFrequencyConfig, Config, Duration, IdleTimeout, Keys, MtuDiscoveryConfig, NewRenoConfig,
-    Side, TransportConfig, VarInt,
+    AckFrequencyConfig, Config, Duration, FirstSample, IdleTimeout, Keys, MAX_FIRST_SAMPLE_NANOS,
+    MtuDiscoveryConfig, NewRenoConfig, Side, TransportConfig, VarInt,
 };
 use quic_keys::{KEY_LIMIT, PlainHeaderKey, PlainKey, keys_within};
 
 /// How many bytes [`Settings`] have.
-pub const SETTINGS_SIZE: u64 = 280;
+pub const SETTINGS_SIZE: u64 = 296;
 
 /// One below 2^62: the greatest number that QUIC writes.
 const VAR_INT_MAX: u64 = (1 << 62) - 1;
@@ -68,6 +68,11 @@ pub struct Settings {
     pub time_threshold_denominator: u64,
     /// Nanoseconds of a round trip before one was measured.
     pub initial_rtt: u64,
+    /// Nanoseconds of a round trip that was measured before, which counts as the first sample; 0
+    /// where none was.
+    pub first_rtt: u64,
+    /// Nanoseconds by which it varies.
+    pub first_rtt_variation: u64,
     /// How many probe timeouts of losses mean persistent congestion.
     pub persistent_congestion_threshold: u64,
     /// Bytes of the first congestion window.
@@ -122,6 +127,8 @@ impl Default for Settings {
             time_threshold_numerator: 9,
             time_threshold_denominator: 8,
             initial_rtt: 333_000_000,
+            first_rtt: 0,
+            first_rtt_variation: 0,
             persistent_congestion_threshold: 3,
             initial_window: 12000,
             loss_reduction_numerator: 1,
@@ -216,13 +223,24 @@ impl Settings {
         ]
     }
 
+    /// The range of the variation: it isn't 0 where there is a first sample.
+    fn variation_range(&self) -> Ranged {
+        Ranged {
+            value: self.first_rtt_variation,
+            least: self.first_rtt.min(1),
+            most: MAX_FIRST_SAMPLE_NANOS,
+        }
+    }
+
     /// Those behind them.
-    fn last_ranges(&self) -> [Ranged; 16] {
+    fn last_ranges(&self) -> [Ranged; 18] {
         [
             up_to(self.packet_threshold, U32_MAX),
             up_to(self.time_threshold_numerator, U32_MAX),
             below(self.time_threshold_denominator, U32_MAX),
             from(self.initial_rtt, 0),
+            up_to(self.first_rtt, MAX_FIRST_SAMPLE_NANOS),
+            self.variation_range(),
             up_to(self.persistent_congestion_threshold, U32_MAX),
             from(self.initial_window, 0),
             up_to(
@@ -322,6 +340,10 @@ impl Settings {
         let denominator = to_u32(self.time_threshold_denominator).max(1);
         transport.time_threshold(to_u32(self.time_threshold_numerator), denominator);
         transport.initial_rtt(Duration::from_nanos(self.initial_rtt));
+        transport.first_sample(positive(self.first_rtt).map(|rtt| FirstSample {
+            rtt: Duration::from_nanos(rtt),
+            variation: Duration::from_nanos(self.first_rtt_variation),
+        }));
         let threshold = to_u32(self.persistent_congestion_threshold);
         transport.persistent_congestion_threshold(threshold);
         let frequency = (self.ack_frequency == 1).then(|| self.frequency());

@@ -3,8 +3,8 @@
 //! to any that answers [`Calls`], or a box of one where it is made or let go.
 
 use quic_c_core::{
-    CallError, Calls, EventRecord, FirstIds, Peer, Piece, SETTINGS_SIZE, STATS_SIZE, Settings,
-    Stats, error_text, parameters,
+    CallError, Calls, EventRecord, FirstIds, IdRecord, Peer, Piece, SETTINGS_SIZE, STATS_SIZE,
+    Settings, Stats, error_text, parameters,
 };
 use std::alloc::Global;
 use std::mem::ManuallyDrop;
@@ -154,6 +154,14 @@ pub(crate) fn fh_next_event(conn: &mut impl Calls, event: &mut EventRecord) -> i
     }
 }
 
+pub(crate) fn fh_ids_changed(conn: &mut impl Calls) -> i32 {
+    if conn.ids_changed() { 1 } else { 0 }
+}
+
+pub(crate) fn fh_own_ids(conn: &impl Calls, out: &mut [IdRecord]) -> i64 {
+    counted(conn.put_own_ids(out).map(|count| count as u64))
+}
+
 pub(crate) fn fh_lost_text(conn: &impl Calls, out: &mut [u8]) -> i64 {
     counted(conn.put_lost_text(out).map(|length| length as u64))
 }
@@ -258,6 +266,14 @@ pub(crate) fn fh_max_message(conn: &impl Calls) -> i64 {
 
 pub(crate) fn fh_ping(conn: &mut impl Calls) {
     conn.ping();
+}
+
+pub(crate) fn fh_handshake_done(conn: &mut impl Calls) -> i32 {
+    done(conn.handshake_done())
+}
+
+pub(crate) fn fh_use_next_id(conn: &mut impl Calls) -> i32 {
+    done(conn.use_next_id())
 }
 
 pub(crate) fn fh_close(conn: &mut impl Calls, now: u64, error_code: u64, text: &[u8]) -> i32 {

@@ -2,13 +2,13 @@
 
 use crate::exports::{
     fh_accept, fh_close, fh_congestion_window, fh_current_mtu, fh_error_text, fh_finish,
-    fh_get_state, fh_get_stats, fh_is_validated, fh_lost_text, fh_max_datagram_size,
-    fh_max_message, fh_new, fh_next_event, fh_next_timeout, fh_open, fh_parameters, fh_ping,
-    fh_poll, fh_read, fh_read_unordered, fh_receive, fh_receive_message, fh_reset, fh_rtt,
-    fh_send_message, fh_set_priority, fh_settings_default, fh_stop, fh_timeout, fh_would_open,
-    fh_write, fh_writev, fh_wrong_setting,
+    fh_get_state, fh_get_stats, fh_handshake_done, fh_ids_changed, fh_is_validated, fh_lost_text,
+    fh_max_datagram_size, fh_max_message, fh_new, fh_next_event, fh_next_timeout, fh_open,
+    fh_own_ids, fh_parameters, fh_ping, fh_poll, fh_read, fh_read_unordered, fh_receive,
+    fh_receive_message, fh_reset, fh_rtt, fh_send_message, fh_set_priority, fh_settings_default,
+    fh_stop, fh_timeout, fh_use_next_id, fh_would_open, fh_write, fh_writev, fh_wrong_setting,
 };
-use quic_c_core::{Calls, EventRecord, Settings, Stats};
+use quic_c_core::{Calls, EventRecord, IdRecord, Settings, Stats};
 use std::io;
 use std::mem::ManuallyDrop;
 
@@ -48,7 +48,27 @@ pub(crate) fn call_rest(rt: &impl Print, conn: &mut impl Calls) -> io::Result<()
     println!(rt; "rtt {} {}", fh_rtt(conn), fh_congestion_window(conn))?;
     let mut stats = Stats::default();
     let answer = fh_get_stats(conn, &mut stats, 200);
-    println!(rt; "stats {answer} {}", stats.path.sent_packets)
+    println!(rt; "stats {answer} {}", stats.path.sent_packets)?;
+    println!(rt;
+        "done {} next id {}",
+        fh_handshake_done(conn),
+        fh_use_next_id(conn)
+    )?;
+    call_ids(rt, conn)
+}
+
+/// Calls about own connection IDs, each once, and one that finds too little room.
+fn call_ids(rt: &impl Print, conn: &mut impl Calls) -> io::Result<()> {
+    let mut ids = [IdRecord::default(); 8];
+    let short = fh_own_ids(conn, &mut ids[..1]);
+    let count = fh_own_ids(conn, &mut ids);
+    let (first, second) = (ids[0], ids[1]);
+    println!(rt; "own_ids {short} {count} {}", fh_ids_changed(conn))?;
+    println!(rt;
+        "first {} {} {:?}",
+        first.sequence, first.has_reset_token, first.id
+    )?;
+    println!(rt; "second {} {}", second.sequence, second.has_reset_token)
 }
 
 /// Lets a datagram go from one endpoint to another.
@@ -90,7 +110,7 @@ pub(crate) fn call_first<E: Calls>(
     settings: &mut Settings,
     conn: &mut ManuallyDrop<Box<E>>,
 ) -> io::Result<()> {
-    println!(rt; "default {}", fh_settings_default(settings, 280))?;
+    println!(rt; "default {}", fh_settings_default(settings, 296))?;
     println!(rt; "wrong {}", fh_wrong_setting(settings))?;
     let mut bytes = [0u8; 256];
     let length = fh_parameters(rt.alloc(), settings, &mut bytes);

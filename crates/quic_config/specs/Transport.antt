@@ -1,6 +1,8 @@
 -- The settings of an end's transport, and what its peer is told of them.
-use Rattle.std.specs.Prelude.{ℕ, ◌/◌, ◌^◌, ◌<◌, ◌≤◌, ◌≡◌, Bool, true, false, min, max, Option, Some, None, IfSome, if◌then◌else◌}
+use Rattle.std.specs.Prelude.{ℕ, ◌/◌, ◌^◌, ◌<◌, ◌≤◌, Bool, true, false, min, max, Option, Some, None, IfSome, option_map, if◌then◌else◌}
 use Rattle.quic_parameters.specs.Parameters.{ParameterValues}
+use Rattle.quic_time.specs.Rtt.{Rtt, assumed_rtt, told_rtt}
+use Rattle.quic_config.specs.declared.first_sample.FirstSample.{FirstSample}
 use Rattle.quic_config.specs.Configs.{SearchSettings, FrequencySettings, default_search, max_udp_payload, ids_kept}
 
 -- the whole milliseconds of a time in nanoseconds
@@ -31,8 +33,10 @@ pub record TransportSettings : Type 0 where
   pub packet_threshold : ℕ
   -- after what part of a round trip a packet is lost: numerator and denominator
   pub time_threshold : ℕ × ℕ
-  -- the round trip before one is measured
+  -- the round trip before one is measured, and one that was measured before the connection begins,
+  -- where one was
   pub initial_rtt : ℕ
+  pub first_sample : Option FirstSample
   -- bytes of a datagram at first, and those that each path carries
   pub initial_mtu : ℕ
   pub min_mtu : ℕ
@@ -71,6 +75,7 @@ pub record Settings : Type 0 where
   pub packet_threshold : ℕ
   pub time_threshold : ℕ × ℕ
   pub initial_rtt : ℕ
+  pub first_sample : Option FirstSample
   pub initial_mtu : ℕ
   pub min_mtu : ℕ
   pub mtu_discovery_config : Option SearchSettings
@@ -95,6 +100,7 @@ settings_with t support = record {
   packet_threshold = t.packet_threshold;
   time_threshold = t.time_threshold;
   initial_rtt = t.initial_rtt;
+  first_sample = t.first_sample;
   initial_mtu = t.initial_mtu;
   min_mtu = t.min_mtu;
   mtu_discovery_config = t.mtu_discovery_config;
@@ -120,6 +126,7 @@ transport_of s = record {
   packet_threshold = s.packet_threshold;
   time_threshold = s.time_threshold;
   initial_rtt = s.initial_rtt;
+  first_sample = s.first_sample;
   initial_mtu = s.initial_mtu;
   min_mtu = s.min_mtu;
   mtu_discovery_config = s.mtu_discovery_config;
@@ -144,6 +151,7 @@ default_transport = record {
   packet_threshold = 3;
   time_threshold = (9, 8);
   initial_rtt = 333000000;
+  first_sample = None;
   initial_mtu = 1200;
   min_mtu = 1200;
   mtu_discovery_config = Some default_search;
@@ -160,6 +168,21 @@ default_settings = settings_with default_transport true
 -- the size of a path's first datagrams: what is set for it, but no less than each path carries
 abbrev pub first_mtu : TransportSettings → ℕ
 first_mtu t = max t.initial_mtu t.min_mtu
+
+-- what is known of the round trip of the path with which the connection begins (RFC 9002, section
+-- 5): a sample that was taken before, or else it is assumed
+abbrev pub estimate_with : Option FirstSample → ℕ → Rtt
+estimate_with None initial = assumed_rtt initial
+estimate_with (Some s) initial = told_rtt s.rtt s.variation
+
+-- so it is by these settings
+abbrev pub first_estimate : TransportSettings → Rtt
+first_estimate t = estimate_with t.first_sample t.initial_rtt
+
+-- which number was next as a round trip was first measured, where one was before the first packet
+-- went (RFC 9002, section 7.6.2)
+abbrev pub first_behind_sample : TransportSettings → Option ℕ
+first_behind_sample t = option_map (λ s. 0) t.first_sample
 
 -- what the peer is told of an idle timeout: 0 where there is none (RFC 9000, section 18.2)
 abbrev pub told_timeout : Option ℕ → ℕ

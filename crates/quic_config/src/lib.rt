@@ -3,10 +3,12 @@
 #![tactic(auto)]
 
 mod ack_frequency;
+mod first_sample;
 pub mod laws;
 mod mtu_discovery;
 mod transport;
 
 pub use ack_frequency::AckFrequencyConfig;
+pub use first_sample::{FirstSample, MAX_FIRST_SAMPLE_NANOS};
 pub use mtu_discovery::{MAX_UDP_PAYLOAD, MtuDiscoveryConfig};
 pub use transport::{IDS_KEPT, IdleTimeout, TransportConfig};

@@ -4,6 +4,7 @@ ghost use Rattle.std.specs.Prelude.{◌≡◌, ◌<◌, ◌≤◌, min, max, ◌
 ghost use Rattle.quic_config.specs.Transport.{default_transport, told_timeout, told_frame_size, first_mtu};
 
 use crate::ack_frequency::AckFrequencyConfig;
+use crate::first_sample::FirstSample;
 use crate::mtu_discovery::{MAX_UDP_PAYLOAD, MtuDiscoveryConfig};
 use quic_parameters::TransportParameters;
 use quic_time::Duration;
@@ -78,6 +79,7 @@ pub struct TransportConfig {
     packet_threshold: u32,
     time_threshold: (u32, u32),
     initial_rtt: Duration,
+    first_sample: Option<FirstSample>,
     initial_mtu: u16,
     min_mtu: u16,
     mtu_discovery_config: Option<MtuDiscoveryConfig>,
@@ -106,6 +108,7 @@ impl Model for TransportConfig {
       packet_threshold = c.packet_threshold;
       time_threshold = c.time_threshold;
       initial_rtt = c.initial_rtt;
+      first_sample = c.first_sample;
       initial_mtu = c.initial_mtu;
       min_mtu = c.min_mtu;
       mtu_discovery_config = c.mtu_discovery_config;
@@ -132,6 +135,7 @@ impl Model for TransportConfig {
       packet_threshold = s.packet_threshold;
       time_threshold = s.time_threshold;
       initial_rtt = s.initial_rtt;
+      first_sample = s.first_sample;
       initial_mtu = s.initial_mtu;
       min_mtu = s.min_mtu;
       mtu_discovery_config = s.mtu_discovery_config;
@@ -266,6 +270,18 @@ impl TransportConfig {
         ensures value { result.now ≡ record self.old { initial_rtt = value } }
     {
         self.initial_rtt = value;
+        self
+    }
+
+    /// A round trip that was measured before the connection begins, as by the handshake: it counts
+    /// as the first sample, and [`initial_rtt`](Self::initial_rtt) for nothing (RFC 9002, section
+    /// 5). Where its time or its variation is 0 or above 60 s no connection is made
+    /// (`ConfigError::FirstSample`). The default is `None`.
+    pub fn first_sample(&mut self, value: Option<FirstSample>) -> &mut Self
+        ensures same_reference { result.ghost_name ≡ self.entry.ghost_name }
+        ensures value { result.now ≡ record self.old { first_sample = value } }
+    {
+        self.first_sample = value;
         self
     }
 
@@ -434,6 +450,13 @@ impl TransportConfig {
         self.initial_rtt
     }
 
+    /// The round trip that was measured before the connection begins.
+    pub fn get_first_sample(&self) -> Option<FirstSample>
+        ensures { result ≡ self.now.first_sample }
+    {
+        self.first_sample
+    }
+
     /// The bytes of the greatest datagram at first: as set, but no fewer than every path carries.
     pub fn get_initial_mtu(&self) -> u16
         ensures value { result ≡ first_mtu self.now }
@@ -577,6 +600,7 @@ impl Default for TransportConfig {
             packet_threshold: 3,
             time_threshold: (9, 8),
             initial_rtt: Duration::from_millis(333),
+            first_sample: None,
             initial_mtu: INITIAL_MTU,
             min_mtu: INITIAL_MTU,
             mtu_discovery_config: Some(MtuDiscoveryConfig::default()),

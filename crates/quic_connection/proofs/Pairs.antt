@@ -9,7 +9,7 @@ use Rattle.quic_congestion.specs.Congestion.{Told, Steps, HasRoom, AreSized, las
 use Rattle.quic_machine.specs.declared.answers.ConfigError.{ConfigError}
 use Rattle.quic_machine.specs.declared.answers.ConfigError.TheVariants as config_errors
 use Rattle.quic_config.specs.Transport.{Settings, parameters_of, IsInRange}
-use Rattle.quic_machine.specs.End.{End, IsMade, are_sizes_wrong, is_window_small, KeyLimits, are_keys_short, refusal_of, most_payload}
+use Rattle.quic_machine.specs.End.{End, IsMade, are_sizes_wrong, is_window_small, KeyLimits, are_keys_short, is_sample_wrong, refusal_of, most_payload}
 use Rattle.quic_machine.specs.Parts.{Windows}
 use Rattle.quic_machine.specs.Start.{Making, IsMaking, IsController}
 use Rattle.quic_connection_parts.specs.Telling.{IsRoomy, windows_of}
@@ -38,7 +38,7 @@ id_length : {E : Type 0} (settings : Settings) (window : ℕ) (limits : KeyLimit
 id_length settings window limits (Err error) own peer none = cc
 id_length settings window limits (Ok theirs) own peer none = go (length own == 8) (length peer == 0) refl none
   where
-    go : (a b : Bool) → (length own == 8) ≡ a → cond (not a || b) (Some config_errors.IdLength) (cond (are_sizes_wrong settings theirs) (Some config_errors.Size) (cond (is_window_small settings window) (Some config_errors.Window) (cond (are_keys_short limits) (Some config_errors.KeyLimit) None))) ≡ None → length own ≡ 8
+    go : (a b : Bool) → (length own == 8) ≡ a → cond (not a || b) (Some config_errors.IdLength) (cond (are_sizes_wrong settings theirs) (Some config_errors.Size) (cond (is_window_small settings window) (Some config_errors.Window) (cond (are_keys_short limits) (Some config_errors.KeyLimit) (cond (is_sample_wrong settings.first_sample) (Some config_errors.FirstSample) None)))) ≡ None → length own ≡ 8
     go true b q h = eqb-true (length own) 8 q
     go false b q h = cc
 
@@ -48,7 +48,7 @@ fits_payload settings window limits (Err error) own peer none = cc
 fits_payload settings window limits (Ok theirs) own peer none = go (not (length own == 8) || (length peer == 0)) (nat_lt most_payload settings.initial_mtu) (nat_lt most_payload settings.min_mtu) refl none
   where
     go : (a b c : Bool) → nat_lt most_payload settings.min_mtu ≡ c
-        → cond a (Some config_errors.IdLength) (cond ((b || c) || nat_lt theirs.max_udp_payload_size settings.min_mtu) (Some config_errors.Size) (cond (is_window_small settings window) (Some config_errors.Window) (cond (are_keys_short limits) (Some config_errors.KeyLimit) None))) ≡ None → settings.min_mtu ≤ most_payload
+        → cond a (Some config_errors.IdLength) (cond ((b || c) || nat_lt theirs.max_udp_payload_size settings.min_mtu) (Some config_errors.Size) (cond (is_window_small settings window) (Some config_errors.Window) (cond (are_keys_short limits) (Some config_errors.KeyLimit) (cond (is_sample_wrong settings.first_sample) (Some config_errors.FirstSample) None)))) ≡ None → settings.min_mtu ≤ most_payload
     go true b c q h = cc
     go false true c q h = cc
     go false false true q h = cc

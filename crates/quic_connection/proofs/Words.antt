@@ -42,6 +42,7 @@ use Rattle.quic_machine.specs.Policy.{Policy}
 use Rattle.quic_machine.specs.Parts.{Validation}
 use Rattle.quic_machine.specs.Ids.{Ids, Drawing, destination, drawn_places, ids_drawn, next_used, retires_for_next}
 use Rattle.quic_machine.specs.IdFrames.{drawn, retiring, next_id_taken, end_on_next_id}
+use Rattle.quic_machine.specs.Handshake.{end_on_done}
 use Rattle.quic_machine.specs.MessageCalls.{most_message}
 use Rattle.quic_machine.specs.Sizes.{without_longer_if, shortened}
 use Rattle.quic_machine.specs.Calls.{closed_in}
@@ -132,14 +133,19 @@ failed_next e (answers.UseNextId (Ok done)) is = taken (retires_for_next e.ids)
     taken (Some r) = short (nat_lt (length (destination e.ids)) (length (destination (next_used e.ids)))) (retiring r (with_ids e (next_used e.ids))) is
 failed_next e a is = is
 
+failed_done : (e : End) (a : Answer) → e.closing.state ≡ states.Failed → (end_on_done e a).closing.state ≡ states.Failed
+failed_done e (answers.HandshakeDone (Ok done)) is = is
+failed_done e a is = is
+
 failed_stays : (p : Policy) (e : End) (theirs : List (List ℕ)) (call : Call) (a : Answer) → e.closing.state ≡ states.Failed → (after_call p e theirs call a).closing.state ≡ states.Failed
 failed_stays p e theirs (calls.Close close) a is = ap (λ (s : State). (closed_in s close.now close.error_code close.reason e).closing.state) is ∙ is
 failed_stays p e theirs calls.UseNextId a is = failed_next e a is
+failed_stays p e theirs calls.HandshakeDone a is = failed_done e a is
 failed_stays p e theirs (calls.Poll now) a is = ap (λ (s : State). (polled_in s p e now).end.closing.state) is ∙ is
 failed_stays p e theirs (calls.Timeout now) a is = ap (λ (s : State). (timed_out_in s p e now).end.closing.state) is ∙ is
 failed_stays p e theirs (calls.Deliver delivery) a is = failed_delivered p e (delivered_by (says_last a) delivery) (slice_get theirs delivery.index) is
 failed_stays p e theirs (calls.Inject injection) a is = failed_injected (would_open p e injection.remote injection.bytes) (says_last a) p e injection is
-failed_stays p e theirs calls.Event a is = by_event e (λ x. x.closing.state ≡ states.Failed) is (λ told. is)
+failed_stays p e theirs calls.Event a is = by_event e (λ x. x.closing.state ≡ states.Failed) is is (λ told. is)
 failed_stays p e theirs call a is = is
 
 -- a call but a poll reads nothing

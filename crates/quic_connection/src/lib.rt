@@ -21,22 +21,27 @@ pub use alone::{Alone, run_alone};
 pub use bytes::Bytes;
 pub use pair::Making;
 pub use quic_assembler::Chunk;
-pub use quic_config::{AckFrequencyConfig, MtuDiscoveryConfig};
+pub use quic_config::{
+    AckFrequencyConfig, FirstSample, MAX_FIRST_SAMPLE_NANOS, MtuDiscoveryConfig,
+};
 pub use quic_congestion::{
     Controller, ControllerFactory, ControllerMetrics, NewReno, NewRenoConfig,
 };
-pub use quic_connection_core::{Config, Connection};
+pub use quic_connection_core::{Config, Connection, OwnId};
 pub use quic_copies::Copies;
 pub use quic_machine::{
-    Address, Answer, Call, CloseCall, ConfigError, Datagram, Delivery, DropReason, EndView, Event,
-    Failed, IdleTimeout, Injection, Instant, LostReason, NextIdError, Nexts, PeerClose, ReadCall,
-    Received, RunEvent, State, Timer, Transmit, TransportConfig, View,
+    Address, Answer, Call, CloseCall, ConfigError, Datagram, Delivery, DropReason, EndView,
+    EndpointEvent, Event, Failed, HandshakeDoneError, IdleTimeout, Injection, Instant, LostReason,
+    NextIdError, Nexts, PeerClose, ReadCall, Received, RunEvent, State, Timer, Transmit,
+    TransportConfig, View,
 };
 pub use quic_messages::{DatagramLimits, DatagramState, Datagrams, SendDatagramError};
 pub use quic_packet::crypto::{
     HeaderKey, KeyPair, Keys, NotOpened, PacketKey, SAMPLE_SIZE, TAG_LEN,
 };
 pub use quic_packet::width_in;
+
+// parameters, streams, counts, time and the wire
 pub use quic_parameters::{TransportParameters, TransportParametersError};
 pub use quic_send_buffer::{BytesSource, ShouldTransmit};
 pub use quic_stats::{ConnectionStats, DropStats, FrameStats, PathStats, UdpStats};

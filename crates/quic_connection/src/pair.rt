@@ -82,6 +82,8 @@ impl<
     ///   the size that the path begins with. No endpoint is made.
     /// - [`ConfigError::KeyLimit`]: the own key may seal fewer than 16 packets, or the peer's may
     ///   refuse fewer. No endpoint is made.
+    /// - [`ConfigError::FirstSample`]: the time or the variation of the first sample is 0 or above
+    ///   60 s. No endpoint is made.
     /// - [`ConfigError::Memory`]: an allocation fails. No endpoint is made.
     pub fn connection(
         self,
@@ -145,6 +147,8 @@ impl<H: HeaderKey + Drop, K: PacketKey + Drop, R: Rng + Drop, C: Controller> End
     ///   the size that the path begins with. No endpoint is made.
     /// - [`ConfigError::KeyLimit`]: the own key may seal fewer than 16 packets, or the peer's may
     ///   refuse fewer. No endpoint is made.
+    /// - [`ConfigError::FirstSample`]: the time or the variation of the first sample is 0 or above
+    ///   60 s. No endpoint is made.
     /// - [`ConfigError::Memory`]: an allocation fails, of room for the parameters, before all
     ///   others are tested, or for the IDs. No endpoint is made.
     pub fn new<F: ControllerFactory<Controller = C> + Drop>(

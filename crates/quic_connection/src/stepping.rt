@@ -196,6 +196,7 @@ pub(crate) fn at_end<H: HeaderKey + Drop, K: PacketKey + Drop, R: Rng + Drop, C:
         Call::Ping => Ok(ping_at(end)),
         Call::Close(close) => close_at(alloc, end, close),
         Call::UseNextId => Ok(use_next_id_at(end)),
+        Call::HandshakeDone => Ok(handshake_done_at(end)),
         Call::Poll(now) => poll_at(alloc, end, mine, *now),
         Call::Timeout(now) => Ok(timeout_at(end, *now)),
         Call::Deliver(delivery) => deliver_at(alloc, end, theirs, delivery),
@@ -344,6 +345,30 @@ fn use_next_id_at<H: HeaderKey + Drop, K: PacketKey + Drop, R: Rng + Drop, C: Co
     ensures keys { KeepsKeys end.old end.new }
 {
     Answer::UseNextId(end.use_next_id())
+}
+
+/// Says that the handshake is done.
+fn handshake_done_at<H: HeaderKey + Drop, K: PacketKey + Drop, R: Rng + Drop, C: Controller>(
+    end: &mut Connection<H, K, R, C>,
+) -> Answer
+    ensures answer { IsAnswer (policy_of H.protection K.aead K.seal_limit K.refusal_limit (words_of R.stream) end.old)
+        (reads_window (windows_of C.steps C.window_of end.old.control) end.old.heard Call.HandshakeDone end.old.end) [] Call.HandshakeDone
+        result }
+    ensures lacking { LacksWhere (policy_of H.protection K.aead K.seal_limit K.refusal_limit (words_of R.stream) end.old)
+        (reads_window (windows_of C.steps C.window_of end.old.control) end.old.heard Call.HandshakeDone end.old.end) [] Call.HandshakeDone
+        result }
+    ensures end { IsLeft (fails result) (policy_of H.protection K.aead K.seal_limit K.refusal_limit (words_of R.stream) end.old)
+        (windows_of C.steps C.window_of end.old.control) end.old.heard end.old.end [] Call.HandshakeDone result end.new.end }
+    ensures control { IsTold (fails result) (policy_of H.protection K.aead K.seal_limit K.refusal_limit (words_of R.stream) end.old)
+        (windows_of C.steps C.window_of end.old.control) end.old.heard end.old.end [] Call.HandshakeDone
+        (windows_of C.steps C.window_of end.new.control) }
+    ensures heard { IsHeard (fails result) end.old.end end.new.end [] Call.HandshakeDone result end.old.heard end.new.heard }
+    ensures given { gives (policy_of H.protection K.aead K.seal_limit K.refusal_limit (words_of R.stream) end.old)
+        (reads_window (windows_of C.steps C.window_of end.old.control) end.old.heard Call.HandshakeDone end.old.end) Call.HandshakeDone result
+        ≡ [] }
+    ensures keys { KeepsKeys end.old end.new }
+{
+    Answer::HandshakeDone(end.handshake_done())
 }
 
 /// Polls, and keeps the datagram.

@@ -40,7 +40,7 @@ use Rattle.quic_machine.specs.Ids.{frame_of, retires_for}
 use Rattle.quic_machine.specs.End.{End, side_of, with_closing, with_numbers}
 use Rattle.quic_recovery_core.specs.AckFrequency.{is_stale}
 use Rattle.quic_machine.specs.FrameCases.{ack_taken}
-use Rattle.quic_machine.specs.Receive.{Fault, broke, too_many_pieces, closed_by_peer, violation, error_of, fault_of, fault_at, names_ungiven, message_judged, retired_for, id_judged, retirement_judged, asks_too_soon, frequency_judged, take_frame, take_item, take_items, take_payload, unless_fault, is_empty, asks_in, is_urged, ends_as, dropped, items_taken, by_state, opened_to}
+use Rattle.quic_machine.specs.Receive.{Fault, broke, too_many_pieces, closed_by_peer, violation, error_of, fault_of, fault_at, names_ungiven, message_judged, retired_for, id_judged, retirement_judged, asks_too_soon, frequency_judged, done_taken, take_frame, take_item, take_items, take_payload, unless_fault, is_empty, asks_in, is_urged, ends_as, dropped, items_taken, by_state, opened_to}
 
 -- a header that can't be read is none
 header_kept : (error : HeaderError) (h : Heard) → heard_answer (receives.Dropped (drop_of error)) h ≡ h
@@ -97,7 +97,11 @@ frame_apart (application_close c) e = refl
 frame_apart (path_challenge token) e = tt
 frame_apart (path_response token) e = tt
 frame_apart (new_token t) e = side_apart (side_of e)
-frame_apart handshake_done e = side_apart (side_of e)
+frame_apart handshake_done e = go (side_of e)
+  where
+    go : (side : Side) → Apart (done_taken side e).fault
+    go Client = tt
+    go Server = refl
 frame_apart (new_connection_id f) e = judged_apart (retires_for (insert_answer e.ids.peer (frame_of f)))
   where
     retires : (b : Bool) (r : Range ℕ) → Apart (retired_for b r f e).fault

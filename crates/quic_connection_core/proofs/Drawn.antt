@@ -5,8 +5,10 @@ use Rattle.std.specs.declared.ops.Range.{Range}
 use Rattle.std.proofs.lemmas.Bool.{and_parts, ltb-true}
 use Rattle.std.proofs.lemmas.List.{length-append}
 use Rattle.quic_wire_core.specs.declared.shared.EcnCodepoint.{EcnCodepoint}
+use Rattle.quic_wire_core.specs.declared.stream_id.Side.{Side}
+use Rattle.quic_wire_core.specs.declared.stream_id.Side.TheVariants.{Client, Server}
 use Rattle.quic_wire_core.specs.TransportError.{ErrorValue}
-use Rattle.quic_wire.specs.Value.{FrameValue, NewConnectionIdValue, ack, datagram, new_connection_id, retire_connection_id, path_response, ack_frequency}
+use Rattle.quic_wire.specs.Value.{FrameValue, NewConnectionIdValue, ack, datagram, new_connection_id, retire_connection_id, path_response, handshake_done, ack_frequency}
 use Rattle.quic_wire.specs.declared.frame.InvalidFrame.{InvalidFrame}
 use Rattle.quic_packet.specs.Header.{key_phase, reserved_bits}
 use Rattle.quic_packet.specs.Datagram.{Opening}
@@ -27,12 +29,12 @@ use Rattle.quic_machine.specs.Policy.{Policy}
 use Rattle.quic_machine.specs.Ids.{destination, frame_of, retires_for, retired, is_more}
 use Rattle.quic_machine.specs.IdFrames.{retiring, with_taken_up, issued_if, issues_for, drawn}
 use Rattle.quic_machine.specs.Opens.{head}
-use Rattle.quic_machine.specs.End.{End, with_numbers, with_ids, words_drawn}
+use Rattle.quic_machine.specs.End.{End, side_of, with_numbers, with_ids, words_drawn}
 use Rattle.quic_machine.specs.MessageCalls.{most_message}
 use Rattle.quic_machine.specs.Sizes.{without_longer_if, shortened}
 use Rattle.quic_machine.specs.Validation.{word_of, validated_if}
 use Rattle.quic_machine.specs.Steps as steps
-use Rattle.quic_machine.specs.Receive.{Fault, closed_by_peer, violation, is_empty, dropped, retired_for, id_judged, retirement_judged, asks_too_soon, frequency_judged, take_frame, is_read, take_payload, take_items, ends_as, items_taken, by_state, opened_to, unopened_in, drawn_if, with_ids_drawn, has_migrated, migrated_if, opened_as, opening, headed, received_in, received}
+use Rattle.quic_machine.specs.Receive.{Fault, closed_by_peer, violation, is_empty, dropped, retired_for, id_judged, retirement_judged, asks_too_soon, frequency_judged, done_taken, take_frame, is_read, take_payload, take_items, ends_as, items_taken, by_state, opened_to, unopened_in, drawn_if, with_ids_drawn, has_migrated, migrated_if, opened_as, opening, headed, received_in, received}
 use Rattle.quic_recovery_core.specs.AckFrequency.{is_stale}
 use Rattle.quic_connection_core.proofs.Migrated.{migrated_more}
 use Rattle.quic_machine.specs.FrameCases.{Settling, IsApart, acked_keeps, frame_keeps, frame_leaves, items_keep, issues_may}
@@ -104,6 +106,11 @@ module _ (e : End) where
       go : (b : Bool) → Same (validated_if b x)
       go true = i
       go false = i
+  apart handshake_done x may i = go (side_of x)
+    where
+      go : (side : Side) → Same (done_taken side x).end
+      go Client = i
+      go Server = i
   apart (ack_frequency f) x may i = go (is_stale x.frequency.last f.sequence) (asks_too_soon f)
     where
       go : (stale soon : Bool) → Same (frequency_judged stale soon f x).end

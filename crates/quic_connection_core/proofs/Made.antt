@@ -19,7 +19,7 @@ use Rattle.quic_paths.specs.Paths.{PathValue, new_path, challenge_to_send}
 use Rattle.quic_paths.specs.Responses.{Response}
 use Rattle.quic_machine.specs.declared.answers.State.TheVariants as states
 use Rattle.quic_machine.specs.Closing.{Closing}
-use Rattle.quic_machine.specs.Parts.{Windows}
+use Rattle.quic_machine.specs.Parts.{Windows, unconfirmed}
 use Rattle.quic_machine.specs.Ids.{Ids, first_ids, most_ids, drawn_ids, later_numbers, words_behind, words_of_id}
 use Rattle.quic_machine.specs.End.{End, ConnectionValue, with_end, drawing, words_drawn, challenged_unless, first_streams, silent_end, new_end}
 use Rattle.quic_connection_parts.specs.Telling.{path_limited, windows_at}
@@ -65,6 +65,7 @@ of_parts closing ids space filter frequency timers validated path window transpo
   streams = streams;
   messages = record { queues = queues; to_tell = 0 };
   waiting = record { signals = record { challenge = challenge_to_send path; response = response; ping = space.ping_pending; immediate = space.immediate_ack_pending }; frames = frames };
+  confirmation = unconfirmed;
 }
 
 -- of those with which it is made, it is as it is before it asks its peer for anything

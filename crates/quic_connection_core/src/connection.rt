@@ -23,6 +23,7 @@ ghost use Rattle.quic_time.specs.Timers.{no_timers};
 mod ack_frequency;
 mod acked;
 mod closes;
+mod handshake;
 mod id_frames;
 mod idle;
 mod limits;
@@ -30,6 +31,7 @@ mod messages;
 mod migration;
 mod packet;
 mod polling;
+mod printing;
 mod receiving;
 mod searching;
 mod sent;
@@ -43,7 +45,8 @@ use quic_connection_parts::closing::Closing;
 use quic_connection_parts::idle::negotiate_max_idle_timeout;
 use quic_connection_parts::ids::{Ids, OWN_ID_LENGTH};
 use quic_connection_parts::making::{
-    are_keys_short, are_sizes_wrong, first_filter, first_path, first_streams, told_ack_delay,
+    are_keys_short, are_sizes_wrong, first_filter, first_path, first_streams, is_sample_wrong,
+    told_ack_delay,
 };
 use quic_connection_parts::receiving::AckDemand;
 use quic_machine::{ConfigError, Instant, LostReason, State, TransportConfig};
@@ -104,6 +107,9 @@ pub struct Connection<H, K, R, C: Controller> {
     // All messages, and how often the application has still to be told that one came.
     datagrams: DatagramState,
     messages_to_tell: u64,
+    // Whether the handshake is confirmed, and whether the application has still to be told.
+    handshake_confirmed: bool,
+    confirmation_to_tell: bool,
     // How many packets didn't open under its keys.
     authentication_failures: u64,
     // What was counted. Contracts don't see it.
@@ -164,6 +170,7 @@ impl<H, K, R, C: Controller> Model for Connection<H, K, R, C> {
           signals = record { challenge = challenge_to_send c.path; response = c.path_responses; ping = c.space.ping_pending; immediate = c.space.immediate_ack_pending };
           frames = c.streams.pending;
         };
+        confirmation = record { confirmed = c.handshake_confirmed; to_tell = c.confirmation_to_tell };
       };
     } };
 
@@ -220,6 +227,8 @@ impl<H: HeaderKey + Drop, K: PacketKey + Drop, R: Rng + Drop, C: Controller> Con
     ///   the size that the path begins with. No endpoint is made.
     /// - [`ConfigError::KeyLimit`]: the own key may seal fewer than 16 packets, or the peer's may
     ///   refuse fewer. No endpoint is made.
+    /// - [`ConfigError::FirstSample`]: the time or the variation of the first sample is 0 or above
+    ///   60 s. No endpoint is made.
     /// - [`ConfigError::Memory`]: an allocation fails, of room for the IDs. No endpoint is made.
     pub fn new<F: ControllerFactory<Controller = C>>(
         alloc: Global,
@@ -277,6 +286,12 @@ impl<H: HeaderKey + Drop, K: PacketKey + Drop, R: Rng + Drop, C: Controller> Con
             drop(random);
             return Err(ConfigError::KeyLimit);
         }
+        if is_sample_wrong(&transport) {
+            drop(path);
+            drop(keys);
+            drop(random);
+            return Err(ConfigError::FirstSample);
+        }
         path.validated = validated;
         let mut random = random;
         let filter = first_filter(&mut random);
@@ -317,6 +332,8 @@ impl<H: HeaderKey + Drop, K: PacketKey + Drop, R: Rng + Drop, C: Controller> Con
             streams,
             datagrams: DatagramState::new(alloc),
             messages_to_tell: 0,
+            handshake_confirmed: false,
+            confirmation_to_tell: false,
             authentication_failures: 0,
             stats: ConnectionStats::default(),
             keys,

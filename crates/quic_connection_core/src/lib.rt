@@ -8,4 +8,4 @@
 mod connection;
 
 pub use connection::Connection;
-pub use quic_connection_parts::Config;
+pub use quic_connection_parts::{Config, OwnId};

@@ -1,17 +1,17 @@
 -- Ids that are issued one after another, and drawn so.
-use Rattle.std.proofs.Common.{Bool, true, false, cond, ltb, Result, Ok, Err, ◌≡◌, ℕ, zero, suc, ◌+◌, ◌-◌, ◌*◌, ◌≤◌, ◌<◌, List, [], ◌∷◌, ◌++◌, length, drop, map, None, refl, sym, ap, subst, ◌∙◌, arith}
+use Rattle.std.proofs.Common.{Bool, true, false, ◌||◌, cond, ltb, Result, Ok, Err, ◌≡◌, ℕ, zero, suc, ◌+◌, ◌-◌, ◌*◌, ◌≤◌, ◌<◌, List, [], ◌∷◌, ◌++◌, length, drop, map, Option, Some, None, refl, sym, ap, subst, ◌∙◌, arith}
 use Rattle.std.specs.Prelude.{replicate, slice_get, slice_index_or}
-use Rattle.std.proofs.lemmas.List.{drop_more}
+use Rattle.std.proofs.lemmas.List.{drop_more, map-append}
 use Rattle.std.specs.List.{range_with_len}
 use Rattle.rand_core.specs.Stream.{Stream, u64_call, after}
 use Rattle.quic_wire_core.specs.declared.shared.IssuedCid.{IssuedCid}
 use Rattle.quic_wire_core.specs.TransportError.{ErrorValue, plain_error, protocol_violation}
 use Rattle.quic_ids.specs.CidState.{OwnIds, initial_ids, after_new, is_wrong, without, after_retirement, retirement_answer}
 use Rattle.quic_ids.specs.CidQueue.{PeerIds}
-use Rattle.quic_machine.specs.Ids.{Ids, NumberedId, numbered, own_id_length, first_ids, words_behind, drawn_id, drawn_ids, later_numbers, undrawn_id, issued_one, AreAsMany, Drawing, drawn_one, drawn_places}
+use Rattle.quic_machine.specs.Ids.{Ids, NumberedId, with_number, own_id_length, first_ids, words_behind, words_of_id, drawn_id, drawn_ids, later_numbers, undrawn_id, issued_one, Drawing, drawn_one, drawn_places}
 use Rattle.quic_connection_parts.specs.Drawn.{words_of, after_words}
 use Rattle.quic_connection_parts.proofs.Words.{after_both}
-use Rattle.quic_connection_parts.proofs.Living.{range_more, words_three, numbered_drawn, numbered_more, inserted_last}
+use Rattle.quic_connection_parts.proofs.Living.{range_more, words_three, inserted_last, numbers_of, numbers_with}
 use Rattle.quic_connection_parts.specs.Living.{RiseBelow}
 
 -- what a source answers behind so many words
@@ -53,13 +53,6 @@ drawn_last w v (k ∷ ns) n is = ap (λ (l : List IssuedCid). drawn_id w k ∷ l
     all : words_behind (3 * length ns) (words_behind 3 w) ≡ words_behind (3 * suc (length ns)) w
     all = λ i m. ap w (sum (length ns) m) i
 
-ids_ap : (a b c : List IssuedCid) (d : IssuedCid) → c ≡ b ++ d ∷ [] → map (λ cid. cid.id) c ≡ map (λ cid. cid.id) b ++ d.id ∷ []
-ids_ap a b c d is = ap (λ (l : List IssuedCid). map (λ cid. cid.id) l) is ∙ go b
-  where
-    go : (b : List IssuedCid) → map (λ cid. cid.id) (b ++ d ∷ []) ≡ map (λ cid. cid.id) b ++ d.id ∷ []
-    go [] = refl
-    go (x ∷ b) = ap (λ (l : List (List ℕ)). x.id ∷ l) (go b)
-
 more_assoc : {A : Type 0} (xs ys : List A) (x : A) → (xs ++ ys) ++ x ∷ [] ≡ xs ++ (ys ++ x ∷ [])
 more_assoc [] ys x = refl
 more_assoc (y ∷ xs) ys x = ap (λ (l : List _). y ∷ l) (more_assoc xs ys x)
@@ -75,15 +68,13 @@ module _ {R : Type 0} (stream : R → Stream) (first r s : R) (n : ℕ) (some : 
       ∙ drawn_last words (words_of stream r) (later_numbers n) n
       (ap (λ (k : ℕ). words_behind (3 * k) words) (range_len 1 (n - 1)) ∙ words_after stream first r (3 * (n - 1)) drawn)
 
-  pub next_numbers : (xs ys zs : List ℕ) → ys ≡ xs ++ later_numbers n → zs ≡ ys ++ n ∷ [] → zs ≡ xs ++ later_numbers (n + 1)
-  next_numbers xs ys zs before put = put ∙ ap (λ (l : List ℕ). l ++ n ∷ []) before ∙ more_assoc xs (later_numbers n) n ∙ ap (λ (l : List ℕ). xs ++ l) (sym (later_more n some))
-
-  pub next_living : (xs ys zs : List (List ℕ)) → ys ≡ xs ++ map (λ cid. cid.id) (drawn_ids words (later_numbers n)) → zs ≡ ys ++ (drawn_id (words_of stream r) n).id ∷ [] → zs ≡ xs ++ map (λ cid. cid.id) (drawn_ids words (later_numbers (n + 1)))
+  pub next_living : (xs ys zs : List NumberedId) → ys ≡ xs ++ map with_number (drawn_ids words (later_numbers n)) → zs ≡ ys ++ with_number (drawn_id (words_of stream r) n) ∷ [] → zs ≡ xs ++ map with_number (drawn_ids words (later_numbers (n + 1)))
   next_living xs ys zs before put =
       let ids : List IssuedCid = drawn_ids words (later_numbers n) in
-      put ∙ ap (λ (l : List (List ℕ)). l ++ (drawn_id (words_of stream r) n).id ∷ []) before
-      ∙ more_assoc xs (map (λ cid. cid.id) ids) (drawn_id (words_of stream r) n).id
-      ∙ ap (λ (l : List (List ℕ)). xs ++ l) (sym (ids_ap ids ids (drawn_ids words (later_numbers (n + 1))) (drawn_id (words_of stream r) n) next_ids))
+      let cid : IssuedCid = drawn_id (words_of stream r) n in
+      put ∙ ap (λ (l : List NumberedId). l ++ with_number cid ∷ []) before
+      ∙ more_assoc xs (map with_number ids) (with_number cid)
+      ∙ ap (λ (l : List NumberedId). xs ++ l) (sym (ap (λ (l : List IssuedCid). map with_number l) next_ids ∙ map-append with_number ids (cid ∷ [])))
 
   pub next_waits : (xs : List IssuedCid) → (xs ++ drawn_ids words (later_numbers n)) ++ drawn_id (words_of stream r) n ∷ [] ≡ xs ++ drawn_ids words (later_numbers (n + 1))
   next_waits xs = more_assoc xs (drawn_ids words (later_numbers n)) (drawn_id (words_of stream r) n) ∙ ap (λ (l : List IssuedCid). xs ++ l) (sym next_ids)
@@ -108,14 +99,22 @@ places_random stream first r s i drawn more =
     more ∙ ap (λ (x : Stream). after_words 3 x) drawn ∙ after_both (3 * i) 3 (stream first)
     ∙ ap (λ (k : ℕ). after_words k (stream first)) (let sum : 3 * i + 3 ≡ 3 * (i + 1) = omega arith in sum)
 
+-- their numbers stay
+drawn_numbers : (o : Option IssuedCid) (place : ℕ) (w : ℕ → ℕ) (d : Drawing) → numbers_of (drawn_one o place w d).living ≡ numbers_of d.living
+drawn_numbers None place w d = refl
+drawn_numbers (Some cid) place w d = numbers_with (drawn_id w cid.sequence) d.living
+
+pub places_numbers : (places : List ℕ) (w : ℕ → ℕ) (d : Drawing) → numbers_of (drawn_places places w d).living ≡ numbers_of d.living
+places_numbers [] w d = refl
+places_numbers (place ∷ places) w d = places_numbers places (words_behind words_of_id w) (drawn_one (slice_get d.waiting place) place w d) ∙ drawn_numbers (slice_get d.waiting place) place w d
+
 -- ---- the first ids
 
-pub view_first : (own theirs : List ℕ) (limit most now : ℕ) (w : ℕ → ℕ) (o : OwnIds) (ns : List ℕ) (ids : List (List ℕ)) (u : List ℕ) (p : PeerIds)
-    → o ≡ initial_ids own_id_length None now limit → ns ≡ 0 ∷ later_numbers limit → ids ≡ own ∷ map (λ cid. cid.id) (drawn_ids w (later_numbers limit)) → u ≡ [] → p ≡ record { active = 0; id = theirs; later = [] } → limit ≡ most
-    → ◌≡◌ {A = Ids} (record { own = o; living = numbered ns ids; undrawn = u; limit = limit; peer = p }) (first_ids own theirs most now w)
-view_first own theirs limit most now w o ns ids u p eo en ei eu ep lim =
-    (λ i. record { own = eo i; living = numbered (en i) (ei i); undrawn = eu i; limit = limit; peer = ep i })
-    ∙ ap (λ (l : List NumberedId). record { own = initial_ids own_id_length None now limit; living = record { number = 0; id = own } ∷ l; undrawn = []; limit = limit; peer = record { active = 0; id = theirs; later = [] } }) (numbered_drawn w (later_numbers limit))
+pub view_first : (own theirs : List ℕ) (limit most now : ℕ) (w : ℕ → ℕ) (o : OwnIds) (ids : List NumberedId) (u : List ℕ) (p : PeerIds)
+    → o ≡ initial_ids own_id_length None now limit → ids ≡ record { number = 0; id = own; token = None } ∷ map with_number (drawn_ids w (later_numbers limit)) → u ≡ [] → p ≡ record { active = 0; id = theirs; later = [] } → limit ≡ most
+    → ◌≡◌ {A = Ids} (record { own = o; living = ids; changed = true; undrawn = u; limit = limit; peer = p }) (first_ids own theirs most now w)
+view_first own theirs limit most now w o ids u p eo ei eu ep lim =
+    (λ i. record { own = eo i; living = ei i; changed = true; undrawn = eu i; limit = limit; peer = ep i })
     ∙ ap (λ (k : ℕ). first_ids own theirs k now w) lim
 
 -- ---- one that the peer retires
@@ -126,6 +125,15 @@ retired_own s n limit fewer = go (is_wrong s n)
     go : (b : Bool) → ◌≡◌ {A = Result Bool ErrorValue} (Ok fewer) (cond b (Err (plain_error protocol_violation)) (Ok (ltb (length (without n s.living)) limit))) → cond b s (record s { living = without n s.living }) ≡ record s { living = without n s.living }
     go true is = absurd cc
     go false is = refl
+
+-- whether one was issued or retired since, where this one lives, or doesn't
+pub changed_by : (was lives : Bool) → lives ≡ true → true ≡ (was || lives)
+changed_by true lives is = refl
+changed_by false lives is = sym is
+
+pub changed_before : (was lives : Bool) → lives ≡ false → was ≡ (was || lives)
+changed_before true lives is = refl
+changed_before false lives is = sym is
 
 -- none is left at their end
 drop_end : {X : Type 0} (xs : List X) (n : ℕ) → length xs ≤ n → drop n xs ≡ []
@@ -145,9 +153,7 @@ issues_living s n now up is = inserted_last s.living 0 n (subst (λ (k : ℕ). R
 pub issues_one : (s : OwnIds) (n now : ℕ) → s.issued < 4611686018427387904 → (after_new s (undrawn_id n ∷ []) now).issued ≡ s.issued + 1
 issues_one s n now few = omega (arith, few)
 
-pub view_issued : (own : OwnIds) (ns : List ℕ) (ids : List (List ℕ)) (us : List ℕ) (limit : ℕ) (p : PeerIds) (behind now : ℕ) (o : OwnIds) (ms : List ℕ) (js : List (List ℕ)) (vs : List ℕ)
-    → AreAsMany ns ids → o ≡ after_new own (undrawn_id own.issued ∷ []) now → ms ≡ ns ++ own.issued ∷ [] → js ≡ ids ++ (undrawn_id own.issued).id ∷ [] → vs ≡ us ++ behind ∷ []
-    → ◌≡◌ {A = Ids} (record { own = o; living = numbered ms js; undrawn = vs; limit = limit; peer = p }) (issued_one behind now (record { own = own; living = numbered ns ids; undrawn = us; limit = limit; peer = p }))
-view_issued own ns ids us limit p behind now o ms js vs many eo em ej ev =
-    (λ k. record { own = eo k; living = numbered (em k) (ej k); undrawn = ev k; limit = limit; peer = p })
-    ∙ ap (λ (l : List NumberedId). record { own = after_new own (undrawn_id own.issued ∷ []) now; living = l; undrawn = us ++ behind ∷ []; limit = limit; peer = p }) (numbered_more ns ids own.issued (undrawn_id own.issued).id many)
+pub view_issued : (own : OwnIds) (ids : List NumberedId) (changed : Bool) (us : List ℕ) (limit : ℕ) (p : PeerIds) (behind now : ℕ) (o : OwnIds) (js : List NumberedId) (vs : List ℕ)
+    → o ≡ after_new own (undrawn_id own.issued ∷ []) now → js ≡ ids ++ with_number (undrawn_id own.issued) ∷ [] → vs ≡ us ++ behind ∷ []
+    → ◌≡◌ {A = Ids} (record { own = o; living = js; changed = true; undrawn = vs; limit = limit; peer = p }) (issued_one behind now (record { own = own; living = ids; changed = changed; undrawn = us; limit = limit; peer = p }))
+view_issued own ids changed us limit p behind now o js vs eo ej ev = λ k. record { own = eo k; living = ej k; changed = true; undrawn = ev k; limit = limit; peer = p }

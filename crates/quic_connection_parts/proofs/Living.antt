@@ -1,20 +1,21 @@
 -- Numbers of connection ids that live, and their ids.
 use Rattle.std.proofs.Common.{◌≡◌, ◌≢◌, ℕ, zero, suc, ◌+◌, ◌-◌, ◌≤◌, ◌<◌, ◌^◌, ◌||◌, ◌==◌, ◌⊎◌, inl, inr, Bool, true, false, not, cond, ltb, leb, List, [], ◌∷◌, ◌++◌, length, Option, Some, None, refl, sym, ap, subst, ◌∙◌, arith}
 use Rattle.std.specs.Prelude.{map, set, IfSome, IfOk, Ok, Err, nat_lt, replicate}
-use Rattle.std.specs.List.{filter, position, position_or_len, remove, range_with_len, AllByRecursion}
+use Rattle.std.specs.List.{filter, list_any, position, position_or_len, remove, range_with_len, AllByRecursion}
 use Rattle.std.specs.Ordering.{nat_cmp}
 use Rattle.std.specs.BTreeMap.{is_at}
 use Rattle.std.specs.BTreeSet.{insert_key}
 use Rattle.std.specs.Cmp.{unsigned_tied}
 use Rattle.std.proofs.lemmas.Bool.{le-ltb, lt-ltb, ltb-false, ne_eqb, eq-eqb}
 use Rattle.std.proofs.lemmas.Bool.Decides.{eqb_tells}
+use Rattle.std.proofs.lemmas.List.{map-append}
 use Rattle.rand_core.specs.Stream.{Stream, u64_call}
 use Rattle.quic_wire_core.specs.declared.shared.IssuedCid.{IssuedCid}
 use Rattle.quic_wire.specs.declared.frame.NewConnectionId.{NewConnectionId}
 use Rattle.quic_ids.specs.CidState.{Rise, below, without}
 use Rattle.quic_ids.specs.CidQueue.{PeerIds, with_cid, from, brought, first_used, known_with, after_insert, left_by, after_accepted, exceeds, retires_active, retired_for, accepted_answer, insert_answer}
 use Rattle.quic_ids.specs.declared.cid_queue.InsertError.TheVariants as inserts
-use Rattle.quic_machine.specs.Ids.{NumberedId, numbered, AreAsMany, with_number, with_id, words_behind, words_of_id, drawn_id, drawn_ids, later_numbers, retires_for}
+use Rattle.quic_machine.specs.Ids.{NumberedId, with_number, with_id, words_behind, words_of_id, drawn_ids, later_numbers, retires_for}
 use Rattle.quic_connection_parts.specs.Drawn.{words_of, after_words}
 use Rattle.quic_connection_parts.specs.Living.{RiseBelow, HaveNumbers}
 
@@ -61,101 +62,78 @@ pub first_numbers : (limit : ℕ) → 1 ≤ limit → 0 ∷ later_numbers limit 
 first_numbers zero some = absurd (omega (arith, some))
 first_numbers (suc n) some = ap (λ (k : ℕ). 0 ∷ range_with_len 1 k) (let same : suc n - 1 ≡ n = omega arith in same) ∙ range_below (suc n)
 
--- ---- numbers and their ids
+-- ---- ids and their numbers
 
-pub numbered_more : (ns : List ℕ) (ids : List (List ℕ)) (n : ℕ) (id : List ℕ) → AreAsMany ns ids → numbered (ns ++ n ∷ []) (ids ++ id ∷ []) ≡ numbered ns ids ++ record { number = n; id = id } ∷ []
-numbered_more [] [] n id many = refl
-numbered_more [] (i ∷ is) n id many = absurd cc
-numbered_more (k ∷ ns) [] n id many = absurd cc
-numbered_more (k ∷ ns) (i ∷ is) n id many = ap (λ (l : List NumberedId). record { number = k; id = i } ∷ l) (numbered_more ns is n id (let same : suc (length ns) ≡ suc (length is) = many in omega (arith, same)))
+abbrev pub numbers_of : List NumberedId → List ℕ
+numbers_of is = map (λ i. i.number) is
 
--- the ids of numbered ones
-pub known_numbered : (ns : List ℕ) (ids : List (List ℕ)) → AreAsMany ns ids → map (λ i. i.id) (numbered ns ids) ≡ ids
-known_numbered [] [] many = refl
-known_numbered [] (i ∷ is) many = absurd cc
-known_numbered (n ∷ ns) [] many = absurd cc
-known_numbered (n ∷ ns) (i ∷ is) many = ap (λ (l : List (List ℕ)). i ∷ l) (known_numbered ns is (let same : suc (length ns) ≡ suc (length is) = many in omega (arith, same)))
+pub numbers_more : (is : List NumberedId) (i : NumberedId) → numbers_of (is ++ i ∷ []) ≡ numbers_of is ++ i.number ∷ []
+numbers_more is i = map-append (λ (j : NumberedId). j.number) is (i ∷ [])
 
-pub many_more : (ns : List ℕ) (ids : List (List ℕ)) (n : ℕ) (id : List ℕ) → AreAsMany ns ids → AreAsMany (ns ++ n ∷ []) (ids ++ id ∷ [])
-many_more [] [] n id many = refl
-many_more [] (i ∷ is) n id many = absurd cc
-many_more (k ∷ ns) [] n id many = absurd cc
-many_more (k ∷ ns) (i ∷ is) n id many = let same : suc (length ns) ≡ suc (length is) = many in ap suc (many_more ns is n id (omega (arith, same)))
-
--- ids that are drawn, with their numbers
-pub numbered_drawn : (w : ℕ → ℕ) (ns : List ℕ) → numbered ns (map (λ c. c.id) (drawn_ids w ns)) ≡ map with_number (drawn_ids w ns)
-numbered_drawn w [] = refl
-numbered_drawn w (n ∷ ns) = ap (λ (l : List NumberedId). with_number (drawn_id w n) ∷ l) (numbered_drawn (words_behind words_of_id w) ns)
-
-pub drawn_many : (w : ℕ → ℕ) (ns : List ℕ) → AreAsMany ns (map (λ c. c.id) (drawn_ids w ns))
-drawn_many w [] = refl
-drawn_many w (n ∷ ns) = ap suc (drawn_many (words_behind words_of_id w) ns)
+-- those of ids that are drawn
+pub numbers_drawn : (w : ℕ → ℕ) (ns : List ℕ) → numbers_of (map with_number (drawn_ids w ns)) ≡ ns
+numbers_drawn w [] = refl
+numbers_drawn w (n ∷ ns) = ap (λ (l : List ℕ). n ∷ l) (numbers_drawn (words_behind words_of_id w) ns)
 
 -- ---- one of them goes
 
 -- a number below all others isn't among them
-none_lower : (ks : List ℕ) (first n : ℕ) → Rise ks first → n < first → (without n ks ≡ ks) × ((ids : List (List ℕ)) → filter (λ i. not (i.number == n)) (numbered ks ids) ≡ numbered ks ids)
-none_lower [] first n up lt = (refl, λ ids. refl)
-none_lower (k ∷ ks) first n up lt =
+none_lower : (is : List NumberedId) (first n : ℕ) → Rise (numbers_of is) first → n < first → (without n (numbers_of is) ≡ numbers_of is) × (filter (λ i. not (i.number == n)) is ≡ is)
+none_lower [] first n up lt = (refl, refl)
+none_lower (i ∷ is) first n up lt =
     let a = up.0 in
-    let other : n ≢ k = λ e. omega (arith, a, lt, e) in
-    let back : k ≢ n = λ e. omega (arith, a, lt, e) in
-    let rest = none_lower ks (k + 1) n up.1 (omega (arith, a, lt)) in
-    (rw (unsigned_tied n k ∙ ne_eqb n k other) (ap (λ (l : List ℕ). k ∷ l) rest.0), kept back rest.1)
+    let other : n ≢ i.number = λ e. omega (arith, a, lt, e) in
+    let back : i.number ≢ n = λ e. omega (arith, a, lt, e) in
+    let rest = none_lower is (i.number + 1) n up.1 (omega (arith, a, lt)) in
+    (rw (unsigned_tied n i.number ∙ ne_eqb n i.number other) (ap (λ (l : List ℕ). i.number ∷ l) rest.0), rw (ne_eqb i.number n back) (ap (λ (l : List NumberedId). i ∷ l) rest.1))
+
+-- what is left without a number, where its id is taken out at its place: the numbers and the ids;
+-- and whether it lived
+abbrev pub Goes : ℕ → List NumberedId → Option ℕ → Type 0
+Goes n is None = (numbers_of is ≡ without n (numbers_of is)) × (is ≡ filter (λ i. not (i.number == n)) is) × (list_any (λ i. i.number == n) is ≡ false)
+Goes n is (Some place) = (numbers_of (remove is place) ≡ without n (numbers_of is)) × (remove is place ≡ filter (λ i. not (i.number == n)) is) × (list_any (λ i. i.number == n) is ≡ true) × (place < length is)
+
+pub goes_at : (n first : ℕ) (is : List NumberedId) → Rise (numbers_of is) first → Goes n is (position (λ i. i.number == n) is)
+goes_at n first [] up = (refl, refl, refl)
+goes_at n first (i ∷ is) up = by (eqb_tells i.number n) (goes_at n (i.number + 1) is up.1)
   where
-    kept : k ≢ n → ((ids : List (List ℕ)) → filter (λ i. not (i.number == n)) (numbered ks ids) ≡ numbered ks ids) → (ids : List (List ℕ)) → filter (λ i. not (i.number == n)) (numbered (k ∷ ks) ids) ≡ numbered (k ∷ ks) ids
-    kept back others [] = refl
-    kept back others (id ∷ ids) = rw (ne_eqb k n back) (ap (λ (l : List NumberedId). record { number = k; id = id } ∷ l) (others ids))
-
--- what is left without a number: the numbers and the ids, where they are taken out at its place
-abbrev pub Goes : ℕ → List ℕ → List (List ℕ) → Option ℕ → Type 0
-Goes n ns ids None = (without n ns ≡ ns) × (filter (λ i. not (i.number == n)) (numbered ns ids) ≡ numbered ns ids)
-Goes n ns ids (Some place) = (remove ns place ≡ without n ns) × (numbered (remove ns place) (remove ids place) ≡ filter (λ i. not (i.number == n)) (numbered ns ids)) × AreAsMany (remove ns place) (remove ids place) × (place < length ns)
-
-pub goes_at : (n first : ℕ) (ns : List ℕ) (ids : List (List ℕ)) → Rise ns first → AreAsMany ns ids → Goes n ns ids (position (λ m. m == n) ns)
-goes_at n first [] [] up many = (refl, refl)
-goes_at n first [] (id ∷ ids) up many = absurd cc
-goes_at n first (k ∷ ns) [] up many = absurd cc
-goes_at n first (k ∷ ns) (id ∷ ids) up many = by (eqb_tells k n) (goes_at n (k + 1) ns ids up.1 (let same : suc (length ns) ≡ suc (length ids) = many in omega (arith, same)))
-  where
-    here : NumberedId
-    here = record { number = k; id = id }
-
     p : ℕ
-    p = position_or_len (λ m. m == n) ns
+    p = position_or_len (λ (i : NumberedId). i.number == n) is
 
-    later : (b : Bool) → k ≢ n → nat_lt p (length ns) ≡ b → Goes n ns ids (cond b (Some p) None) → Goes n (k ∷ ns) (id ∷ ids) (cond (nat_lt (1 + p) (suc (length ns))) (Some (1 + p)) None)
-    later true other is g =
-        let back : n ≢ k = λ e. other (sym e) in
-        let lt : p < length ns = g.3 in
+    later : (b : Bool) → (i.number == n) ≡ false → i.number ≢ n → nat_lt p (length is) ≡ b → Goes n is (cond b (Some p) None) → Goes n (i ∷ is) (cond (nat_lt (1 + p) (suc (length is))) (Some (1 + p)) None)
+    later true differs other is_less g =
+        let back : n ≢ i.number = λ e. other (sym e) in
+        let lt : p < length is = g.3 in
         let next : 1 + p ≡ suc p = omega arith in
-        let some : nat_lt (1 + p) (suc (length ns)) ≡ true = lt-ltb (1 + p) (suc (length ns)) (omega (arith, lt)) in
+        let some : nat_lt (1 + p) (suc (length is)) ≡ true = lt-ltb (1 + p) (suc (length is)) (omega (arith, lt)) in
         rw some (rw next (
-          rw (unsigned_tied n k ∙ ne_eqb n k back) (ap (λ (l : List ℕ). k ∷ l) g.0),
-          rw (ne_eqb k n other) (ap (λ (l : List NumberedId). here ∷ l) g.1),
-          ap suc g.2,
+          rw (unsigned_tied n i.number ∙ ne_eqb n i.number back) (ap (λ (l : List ℕ). i.number ∷ l) g.0),
+          rw differs (ap (λ (l : List NumberedId). i ∷ l) g.1),
+          rw differs g.2,
           omega (arith, lt),
         ))
-    later false other is g =
-        let back : n ≢ k = λ e. other (sym e) in
-        let none : nat_lt (1 + p) (suc (length ns)) ≡ false = le-ltb (1 + p) (suc (length ns)) (let ge : length ns ≤ p = not_less p (length ns) is in omega (arith, ge)) in
-        rw none (rw (unsigned_tied n k ∙ ne_eqb n k back) (ap (λ (l : List ℕ). k ∷ l) g.0), rw (ne_eqb k n other) (ap (λ (l : List NumberedId). here ∷ l) g.1))
-      where
-        not_less : (a b : ℕ) → nat_lt a b ≡ false → b ≤ a
-        not_less a b is = ltb-false a b is
+    later false differs other is_no_less g =
+        let back : n ≢ i.number = λ e. other (sym e) in
+        let none : nat_lt (1 + p) (suc (length is)) ≡ false = le-ltb (1 + p) (suc (length is)) (let ge : length is ≤ p = ltb-false p (length is) is_no_less in omega (arith, ge)) in
+        rw none (
+          rw (unsigned_tied n i.number ∙ ne_eqb n i.number back) (ap (λ (l : List ℕ). i.number ∷ l) g.0),
+          rw differs (ap (λ (l : List NumberedId). i ∷ l) g.1),
+          rw differs g.2,
+        )
 
-    by : ((k == n) ≡ true) × (k ≡ n) ⊎ ((k == n) ≡ false) × (k ≢ n) → Goes n ns ids (cond (nat_lt p (length ns)) (Some p) None) → Goes n (k ∷ ns) (id ∷ ids) (cond (nat_lt (cond (not (k == n)) (1 + p) 0) (suc (length ns))) (Some (cond (not (k == n)) (1 + p) 0)) None)
+    by : ((i.number == n) ≡ true) × (i.number ≡ n) ⊎ ((i.number == n) ≡ false) × (i.number ≢ n) → Goes n is (cond (nat_lt p (length is)) (Some p) None)
+        → Goes n (i ∷ is) (cond (nat_lt (cond (not (i.number == n)) (1 + p) 0) (suc (length is))) (Some (cond (not (i.number == n)) (1 + p) 0)) None)
     by (inl same) g =
-        let up_from = rise_from ns (k + 1) (k + 1) (omega arith) up.1 in
-        let gone = none_lower ns (k + 1) n up_from (let e = same.1 in omega (arith, e)) in
-        let some : nat_lt 0 (suc (length ns)) ≡ true = lt-ltb 0 (suc (length ns)) (omega arith) in
+        let up_from = rise_from (numbers_of is) (i.number + 1) (i.number + 1) (omega arith) up.1 in
+        let gone = none_lower is (i.number + 1) n up_from (let e = same.1 in omega (arith, e)) in
+        let some : nat_lt 0 (suc (length is)) ≡ true = lt-ltb 0 (suc (length is)) (omega arith) in
         rw same.0 (rw some (
-          rw (unsigned_tied n k ∙ eq-eqb n k (sym same.1)) refl,
-          rw same.0 (sym (gone.1 ids)),
-          (let m : suc (length ns) ≡ suc (length ids) = many in let l : length ns ≡ length ids = omega (arith, m) in l),
+          rw (unsigned_tied n i.number ∙ eq-eqb n i.number (sym same.1)) refl,
+          rw same.0 (sym gone.1),
+          rw same.0 refl,
           omega arith,
         ))
-    by (inr other) g = rw other.0 (later (nat_lt p (length ns)) other.1 refl g)
+    by (inr other) g = rw other.0 (later (nat_lt p (length is)) other.0 other.1 refl g)
 
 -- the others ascend still
 pub without_rises : (n : ℕ) (ks : List ℕ) (first end : ℕ) → RiseBelow ks first end → RiseBelow (without n ks) first end
@@ -168,60 +146,52 @@ without_rises n (k ∷ ks) first end up = go (is_at (nat_cmp n) k) (without_rise
 
 -- ---- one of them gets its id
 
--- a number below all others gets none
-none_set : (ks : List ℕ) (ids : List (List ℕ)) (first : ℕ) (cid : IssuedCid) → Rise ks first → cid.sequence < first → with_id cid (numbered ks ids) ≡ numbered ks ids
-none_set [] ids first cid up lt = refl
-none_set (k ∷ ks) [] first cid up lt = refl
-none_set (k ∷ ks) (id ∷ ids) first cid up lt =
-    let a = up.0 in
-    let other : k ≢ cid.sequence = λ e. omega (arith, a, lt, e) in
-    rw (ne_eqb k cid.sequence other) (ap (λ (l : List NumberedId). record { number = k; id = id } ∷ l) (none_set ks ids (k + 1) cid up.1 (omega (arith, a, lt))))
-
-abbrev pub Gets : IssuedCid → List ℕ → List (List ℕ) → Option ℕ → Type 0
-Gets cid ns ids None = numbered ns ids ≡ with_id cid (numbered ns ids)
-Gets cid ns ids (Some place) = (numbered ns (set ids place cid.id) ≡ with_id cid (numbered ns ids)) × AreAsMany ns (set ids place cid.id) × (place < length ids)
-
-pub gets_at : (cid : IssuedCid) (first : ℕ) (ns : List ℕ) (ids : List (List ℕ)) → Rise ns first → AreAsMany ns ids → Gets cid ns ids (position (λ m. m == cid.sequence) ns)
-gets_at cid first [] [] up many = refl
-gets_at cid first [] (id ∷ ids) up many = absurd cc
-gets_at cid first (k ∷ ns) [] up many = absurd cc
-gets_at cid first (k ∷ ns) (id ∷ ids) up many = by (eqb_tells k cid.sequence) (gets_at cid (k + 1) ns ids up.1 same_many)
+-- its number stays
+pub numbers_with : (cid : IssuedCid) (is : List NumberedId) → numbers_of (with_id cid is) ≡ numbers_of is
+numbers_with cid [] = refl
+numbers_with cid (i ∷ is) = by (eqb_tells i.number cid.sequence) (numbers_with cid is)
   where
-    same_many : AreAsMany ns ids
-    same_many = let same : suc (length ns) ≡ suc (length ids) = many in omega (arith, same)
+    by : ((i.number == cid.sequence) ≡ true) × (i.number ≡ cid.sequence) ⊎ ((i.number == cid.sequence) ≡ false) × (i.number ≢ cid.sequence) → numbers_of (with_id cid is) ≡ numbers_of is → numbers_of (with_id cid (i ∷ is)) ≡ numbers_of (i ∷ is)
+    by (inl same) rest = rw same.0 (λ k. sym same.1 k ∷ rest k)
+    by (inr other) rest = rw other.0 (ap (λ (l : List ℕ). i.number ∷ l) rest)
 
-    here : NumberedId
-    here = record { number = k; id = id }
+-- a number below all others gets none
+none_set : (is : List NumberedId) (first : ℕ) (cid : IssuedCid) → Rise (numbers_of is) first → cid.sequence < first → with_id cid is ≡ is
+none_set [] first cid up lt = refl
+none_set (i ∷ is) first cid up lt =
+    let a = up.0 in
+    let other : i.number ≢ cid.sequence = λ e. omega (arith, a, lt, e) in
+    rw (ne_eqb i.number cid.sequence other) (ap (λ (l : List NumberedId). i ∷ l) (none_set is (i.number + 1) cid up.1 (omega (arith, a, lt))))
 
+abbrev pub Gets : IssuedCid → List NumberedId → Option ℕ → Type 0
+Gets cid is None = is ≡ with_id cid is
+Gets cid is (Some place) = (set is place (with_number cid) ≡ with_id cid is) × (place < length is)
+
+pub gets_at : (cid : IssuedCid) (first : ℕ) (is : List NumberedId) → Rise (numbers_of is) first → Gets cid is (position (λ i. i.number == cid.sequence) is)
+gets_at cid first [] up = refl
+gets_at cid first (i ∷ is) up = by (eqb_tells i.number cid.sequence) (gets_at cid (i.number + 1) is up.1)
+  where
     p : ℕ
-    p = position_or_len (λ m. m == cid.sequence) ns
+    p = position_or_len (λ (i : NumberedId). i.number == cid.sequence) is
 
-    later : (b : Bool) → k ≢ cid.sequence → nat_lt p (length ns) ≡ b → Gets cid ns ids (cond b (Some p) None) → Gets cid (k ∷ ns) (id ∷ ids) (cond (nat_lt (1 + p) (suc (length ns))) (Some (1 + p)) None)
-    later true other is g =
-        let lt : p < length ids = g.2 in
+    later : (b : Bool) → (i.number == cid.sequence) ≡ false → nat_lt p (length is) ≡ b → Gets cid is (cond b (Some p) None) → Gets cid (i ∷ is) (cond (nat_lt (1 + p) (suc (length is))) (Some (1 + p)) None)
+    later true differs is_less g =
+        let lt : p < length is = g.1 in
         let next : 1 + p ≡ suc p = omega arith in
-        let some : nat_lt (1 + p) (suc (length ns)) ≡ true = lt-ltb (1 + p) (suc (length ns)) (omega (arith, lt, same_many)) in
-        rw some (rw next (
-          rw (ne_eqb k cid.sequence other) (ap (λ (l : List NumberedId). here ∷ l) g.0),
-          ap suc g.1,
-          omega (arith, lt),
-        ))
-    later false other is g =
-        let none : nat_lt (1 + p) (suc (length ns)) ≡ false = le-ltb (1 + p) (suc (length ns)) (let ge : length ns ≤ p = ltb-false p (length ns) is in omega (arith, ge)) in
-        rw none (rw (ne_eqb k cid.sequence other) (ap (λ (l : List NumberedId). here ∷ l) g))
+        let some : nat_lt (1 + p) (suc (length is)) ≡ true = lt-ltb (1 + p) (suc (length is)) (omega (arith, lt)) in
+        rw some (rw next (rw differs (ap (λ (l : List NumberedId). i ∷ l) g.0), omega (arith, lt)))
+    later false differs is_no_less g =
+        let none : nat_lt (1 + p) (suc (length is)) ≡ false = le-ltb (1 + p) (suc (length is)) (let ge : length is ≤ p = ltb-false p (length is) is_no_less in omega (arith, ge)) in
+        rw none (rw differs (ap (λ (l : List NumberedId). i ∷ l) g))
 
-    by : ((k == cid.sequence) ≡ true) × (k ≡ cid.sequence) ⊎ ((k == cid.sequence) ≡ false) × (k ≢ cid.sequence) → Gets cid ns ids (cond (nat_lt p (length ns)) (Some p) None)
-        → Gets cid (k ∷ ns) (id ∷ ids) (cond (nat_lt (cond (not (k == cid.sequence)) (1 + p) 0) (suc (length ns))) (Some (cond (not (k == cid.sequence)) (1 + p) 0)) None)
+    by : ((i.number == cid.sequence) ≡ true) × (i.number ≡ cid.sequence) ⊎ ((i.number == cid.sequence) ≡ false) × (i.number ≢ cid.sequence) → Gets cid is (cond (nat_lt p (length is)) (Some p) None)
+        → Gets cid (i ∷ is) (cond (nat_lt (cond (not (i.number == cid.sequence)) (1 + p) 0) (suc (length is))) (Some (cond (not (i.number == cid.sequence)) (1 + p) 0)) None)
     by (inl same) g =
         let e = same.1 in
-        let others = none_set ns ids (k + 1) cid up.1 (omega (arith, e)) in
-        let some : nat_lt 0 (suc (length ns)) ≡ true = lt-ltb 0 (suc (length ns)) (omega arith) in
-        rw same.0 (rw some (
-          rw same.0 (ap (λ (m : ℕ). record { number = m; id = cid.id } ∷ numbered ns ids) e ∙ ap (λ (l : List NumberedId). with_number cid ∷ l) (sym others)),
-          (let m : suc (length ns) ≡ suc (length ids) = many in m),
-          omega arith,
-        ))
-    by (inr other) g = rw other.0 (later (nat_lt p (length ns)) other.1 refl g)
+        let others = none_set is (i.number + 1) cid up.1 (omega (arith, e)) in
+        let some : nat_lt 0 (suc (length is)) ≡ true = lt-ltb 0 (suc (length is)) (omega arith) in
+        rw same.0 (rw some (rw same.0 (ap (λ (l : List NumberedId). with_number cid ∷ l) (sym others)), omega arith))
+    by (inr other) g = rw other.0 (later (nat_lt p (length is)) other.0 refl g)
 
 -- ---- words
 

@@ -1,6 +1,6 @@
 -- What was wrong with a packet, where memory may lack.
 use Rattle.std.specs.Prelude.{◌≡◌, ◌<◌, ◌≤◌, ◌^◌, ℕ, Bool, List, [], ◌∷◌, Option, Some, None, IfSome, Result, Ok, Err}
-use Rattle.quic_wire.specs.Value.{FrameValue, ack, datagram, path_challenge, path_response, max_stream_data, connection_close, application_close, new_connection_id, retire_connection_id, immediate_ack, ack_frequency}
+use Rattle.quic_wire.specs.Value.{FrameValue, ack, datagram, path_challenge, path_response, max_stream_data, connection_close, application_close, new_connection_id, retire_connection_id, handshake_done, immediate_ack, ack_frequency}
 use Rattle.quic_wire.specs.declared.frame.InvalidFrame.{InvalidFrame}
 use Rattle.quic_streams_parts.specs.declared.answers.ReceivedError.{ReceivedError}
 use Rattle.quic_streams_parts.specs.declared.answers.ReceivedError.TheVariants as errors
@@ -64,7 +64,7 @@ abbrev pub TakesOn : Result (Unit {0}) Trouble → FrameValue → EndStreams →
 TakesOn result f old new = (e : End) → TakesAs result (take_frame f (holding old e)) (holding new e)
 
 -- a frame that is neither ACK nor DATAGRAM, nor a close, nor one of path validation, nor one of ACK
--- frequency, and speaks of no connection id
+-- frequency, nor HANDSHAKE_DONE, and speaks of no connection id
 abbrev pub IsOther : FrameValue → Type 0
 IsOther (ack a) = ⊥
 IsOther (datagram m) = ⊥
@@ -74,6 +74,7 @@ IsOther (new_connection_id f) = ⊥
 IsOther (retire_connection_id n) = ⊥
 IsOther (path_challenge token) = ⊥
 IsOther (path_response token) = ⊥
+IsOther handshake_done = ⊥
 IsOther immediate_ack = ⊥
 IsOther (ack_frequency f) = ⊥
 IsOther f = Unit {0}

@@ -4,9 +4,10 @@ ghost use Rattle.std.specs.List.{position};
 ghost use Rattle.quic_packet.specs.Destination.{decoded, fixed_length_id};
 ghost use Rattle.quic_ids.specs.CidState.{retirement_answer, after_new, Rise};
 ghost use Rattle.quic_ids.specs.CidQueue.{insert_answer};
-ghost use Rattle.quic_machine.specs.Ids.{own_id_length, words_of_id, most_ids, later_numbers, first_ids, drawn_ids, drawn_id, undrawn_id, known, destination, retired, may_issue, retired_as, issued_one, numbered, AreAsMany, with_id, drawn_one, drawn_places, ids_drawn, taken_up, retires_for, retires_for_next, next_used};
+ghost use Rattle.quic_machine.specs.Ids.{own_id_length, words_of_id, most_ids, later_numbers, first_ids, drawn_ids, drawn_id, undrawn_id, known, destination, retired, may_issue, retired_as, issued_one, with_number, with_id, drawn_one, drawn_places, ids_drawn, routes_told, taken_up, retires_for, retires_for_next, next_used};
 ghost use Rattle.quic_connection_parts.specs.Drawn.{words_of, after_words};
 
+use crate::own_id::OwnId;
 use quic_config::IDS_KEPT;
 use quic_ids::{CidQueue, CidState, InsertError};
 use quic_packet::{FixedLengthConnectionIdParser, HeaderError, ShortHeader};
@@ -30,9 +31,10 @@ pub const OWN_ID_LENGTH: usize = 8;
 pub struct Ids {
     // How many numbers were issued, and which of them live.
     own: CidState,
-    // The living numbers, ascending, and the id of each at the same place.
-    numbers: Vec<u64>,
-    living: Vec<ConnectionId>,
+    // The ids of those, by ascending number.
+    living: Vec<OwnId>,
+    // Whether one was issued or retired since whoever routes datagrams was told.
+    changed: bool,
     // Behind how many others the ids wait to be told that were issued and are still to be drawn.
     undrawn: Vec<usize>,
     // How many may live at once: what the peer takes, and no more than are kept of its own.
@@ -41,7 +43,7 @@ pub struct Ids {
 }
 
 impl Model for Ids {
-    ghost use Rattle.std.specs.Prelude.{◌≡◌, ◌+◌, ◌≤◌, length};
+    ghost use Rattle.std.specs.Prelude.{◌≡◌, ◌+◌, ◌≤◌, length, map};
     ghost use Rattle.quic_machine.specs.Ids as words;
     ghost use Rattle.quic_connection_parts.specs.Living.{RiseBelow, HaveNumbers};
 
@@ -49,15 +51,16 @@ impl Model for Ids {
 
     ghost view = { λ ids. record {
       own = ids.own;
-      living = words.numbered ids.numbers.items ids.living.items;
+      living = ids.living.items;
+      changed = ids.changed;
       undrawn = ids.undrawn.items;
       limit = ids.limit;
       peer = ids.peer;
     } };
 
-    // The ids stand at the places of the living numbers, which ascend below the next one; the
-    // peer's numbers have a form as variable-length integers; and the first id is never drawn.
-    ghost invariant = { λ ids. (ids.numbers.items ≡ ids.own.living) × words.AreAsMany ids.numbers.items ids.living.items × RiseBelow ids.numbers.items 0 ids.own.issued × HaveNumbers ids.peer × (length ids.undrawn.items + 1 ≤ ids.own.issued) };
+    // The ids are those of the living numbers, which ascend below the next one; the peer's numbers
+    // have a form as variable-length integers; and the first id is never drawn.
+    ghost invariant = { λ ids. (map (λ i. i.number) ids.living.items ≡ ids.own.living) × RiseBelow ids.own.living 0 ids.own.issued × HaveNumbers ids.peer × (length ids.undrawn.items + 1 ≤ ids.own.issued) };
 }
 
 /// An id of this number: a word of the random source is the id, and the next two are the token by
@@ -90,45 +93,41 @@ fn undrawn_id(sequence: u64) -> IssuedCid
     }
 }
 
-/// At which place a number stands first, if it does.
-fn place_of(numbers: &[u64], number: u64) -> Option<usize>
-    ensures { result ≡ position (λ n. n == number) numbers.now }
+/// At which place the id of a number stands first, if it does.
+fn place_of(living: &[OwnId], number: u64) -> Option<usize>
+    ensures { result ≡ position (λ i. i.number == number) living.now }
 {
-    numbers.iter().position(|n| *n == number)
+    living.iter().position(|own| own.sequence() == number)
 }
 
 /// The id of a number that lives is this one.
-fn set_id(numbers: &[u64], living: &mut Vec<ConnectionId>, cid: &IssuedCid)
-    requires rise { Rise numbers.now 0 }
-    requires many { AreAsMany numbers.now living.old.items }
-    ensures living { numbered numbers.now living.new.items ≡ with_id cid.now (numbered numbers.now living.old.items) }
-    ensures many { AreAsMany numbers.now living.new.items }
+fn set_id(living: &mut Vec<OwnId>, cid: &IssuedCid)
+    requires rise { Rise (map (λ i. i.number) living.old.items) 0 }
+    ensures living { living.new.items ≡ with_id cid.now living.old.items }
 {
-    if let Some(at) = place_of(numbers, cid.sequence) {
-        living[at] = cid.id;
+    if let Some(at) = place_of(living, cid.sequence) {
+        living[at] = OwnId::issued(cid);
     }
 }
 
 /// The id that waits behind so many others is drawn, if one does: three words of the random source
 /// are drawn in any case.
 fn draw_one<R: Rng>(
-    numbers: &[u64],
-    living: &mut Vec<ConnectionId>,
+    living: &mut Vec<OwnId>,
     random: &mut R,
     pending: &mut Retransmits,
     place: usize,
 )
-    requires rise { Rise numbers.now 0 }
-    requires many { AreAsMany numbers.now living.old.items }
-    ensures living { numbered numbers.now living.new.items ≡ (drawn_one (slice_get pending.old.new_cids place) place (words_of R.stream random.old) (record { living = numbered numbers.now living.old.items; waiting = pending.old.new_cids })).living }
-    ensures many { AreAsMany numbers.now living.new.items }
-    ensures waits { pending.new ≡ record pending.old { new_cids = (drawn_one (slice_get pending.old.new_cids place) place (words_of R.stream random.old) (record { living = numbered numbers.now living.old.items; waiting = pending.old.new_cids })).waiting } }
+    requires rise { Rise (map (λ i. i.number) living.old.items) 0 }
+    ensures living { living.new.items ≡ (drawn_one (slice_get pending.old.new_cids place) place (words_of R.stream random.old) (record { living = living.old.items; waiting = pending.old.new_cids })).living }
+    ensures rise { Rise (map (λ i. i.number) living.new.items) 0 }
+    ensures waits { pending.new ≡ record pending.old { new_cids = (drawn_one (slice_get pending.old.new_cids place) place (words_of R.stream random.old) (record { living = living.old.items; waiting = pending.old.new_cids })).waiting } }
     ensures random { R.stream random.new ≡ after_words words_of_id (R.stream random.old) }
 {
     match pending.new_cid(place) {
         Some(cid) => {
             let drawn = random_id(random, cid.sequence);
-            set_id(numbers, living, &drawn);
+            set_id(living, &drawn);
             pending.set_new_cid(place, drawn);
         }
         None => {
@@ -139,21 +138,18 @@ fn draw_one<R: Rng>(
 
 /// The ids that wait at these places are drawn, one after another (`draw_one`).
 fn draw_all<R: Rng>(
-    numbers: &[u64],
-    living: &mut Vec<ConnectionId>,
+    living: &mut Vec<OwnId>,
     places: &[usize],
     random: &mut R,
     pending: &mut Retransmits,
 )
-    requires rise { Rise numbers.now 0 }
-    requires many { AreAsMany numbers.now living.old.items }
-    ensures living { numbered numbers.now living.new.items ≡ (drawn_places places.now (words_of R.stream random.old) (record { living = numbered numbers.now living.old.items; waiting = pending.old.new_cids })).living }
-    ensures many { AreAsMany numbers.now living.new.items }
-    ensures waits { pending.new ≡ record pending.old { new_cids = (drawn_places places.now (words_of R.stream random.old) (record { living = numbered numbers.now living.old.items; waiting = pending.old.new_cids })).waiting } }
+    requires rise { Rise (map (λ i. i.number) living.old.items) 0 }
+    ensures living { living.new.items ≡ (drawn_places places.now (words_of R.stream random.old) (record { living = living.old.items; waiting = pending.old.new_cids })).living }
+    ensures waits { pending.new ≡ record pending.old { new_cids = (drawn_places places.now (words_of R.stream random.old) (record { living = living.old.items; waiting = pending.old.new_cids })).waiting } }
     ensures random { R.stream random.new ≡ after_words (words_of_id * length places.now) (R.stream random.old) }
 {
     for place in places {
-        draw_one(numbers, living, random, pending, *place);
+        draw_one(living, random, pending, *place);
     }
 }
 
@@ -161,22 +157,19 @@ fn draw_all<R: Rng>(
 /// words of the random source. An error is want of memory.
 fn issue_later<R: Rng>(
     limit: u64,
-    numbers: &mut Vec<u64>,
-    living: &mut Vec<ConnectionId>,
+    living: &mut Vec<OwnId>,
     random: &mut R,
     pending: &mut Retransmits,
 ) -> Result<(), AllocError>
     requires some { 1 ≤ limit }
     requires few { limit < 2 ^ 62 }
-    ensures numbers { OnOk result (numbers.new.items ≡ numbers.old.items ++ later_numbers limit) }
-    ensures living { OnOk result (living.new.items ≡ living.old.items ++ map (λ cid. cid.id) (drawn_ids (words_of R.stream random.old) (later_numbers limit))) }
+    ensures living { OnOk result (living.new.items ≡ living.old.items ++ map with_number (drawn_ids (words_of R.stream random.old) (later_numbers limit))) }
     ensures waits { OnOk result (pending.new ≡ record pending.old { new_cids = pending.old.new_cids ++ drawn_ids (words_of R.stream random.old) (later_numbers limit) }) }
     ensures random { OnOk result (R.stream random.new ≡ after_words (words_of_id * (limit - 1)) (R.stream random.old)) }
 {
     for sequence in 1..limit {
         let cid = random_id(random, sequence);
-        numbers.push(sequence)?;
-        living.push(cid.id)?;
+        living.push(OwnId::issued(&cid))?;
         pending.push_new_cid(cid)?;
     }
     Ok(())
@@ -214,20 +207,35 @@ impl Ids {
         ensures random { OnOk result (R.stream random.new ≡ after_words (words_of_id * (most_ids peer_limit - 1)) (R.stream random.old)) }
     {
         let limit = peer_limit.into_inner().min(u64::from(IDS_KEPT));
-        let mut numbers = Vec::with_capacity(alloc, CidQueue::LEN)?;
         let mut living = Vec::with_capacity(alloc, CidQueue::LEN)?;
-        numbers.push_reserved(0);
-        living.push_reserved(own);
+        living.push_reserved(OwnId::first(own));
         let own_ids = CidState::new(alloc, OWN_ID_LENGTH, None, now, limit)?;
-        issue_later(limit, &mut numbers, &mut living, random, pending)?;
+        issue_later(limit, &mut living, random, pending)?;
         Ok(Ids {
             own: own_ids,
-            numbers,
             living,
+            changed: true,
             undrawn: Vec::new(alloc),
             limit,
             peer: CidQueue::new(peer),
         })
+    }
+
+    /// The own ids that live, by ascending number.
+    pub fn own_ids(&self) -> &[OwnId]
+        ensures { result.now ≡ self.now.living }
+    {
+        &self.living
+    }
+
+    /// Whether an own id was issued or retired since this was asked last.
+    pub fn take_change(&mut self) -> bool
+        ensures answer { result ≡ self.old.changed }
+        ensures ids { self.new ≡ routes_told self.old }
+    {
+        let changed = self.changed;
+        self.changed = false;
+        changed
     }
 
     /// The id that datagrams are sent to.
@@ -267,9 +275,9 @@ impl Ids {
         ensures err { OnErr result (self.new ≡ self.old) }
     {
         let fewer = self.own.on_cid_retirement(sequence, self.limit)?;
-        if let Some(place) = place_of(&self.numbers, sequence) {
-            self.numbers.remove(place);
+        if let Some(place) = place_of(&self.living, sequence) {
             self.living.remove(place);
+            self.changed = true;
         }
         Ok(fewer && self.own.issued() <= VarInt::MAX.into_inner())
     }
@@ -286,15 +294,14 @@ impl Ids {
         ensures ids { OnOk result (self.new ≡ issued_one behind now self.old) }
     {
         let sequence = self.own.issued();
-        self.numbers.reserve(1)?;
+        let cid = undrawn_id(sequence);
         self.living.reserve(1)?;
         self.undrawn.reserve(1)?;
-        add_one(&mut self.own, undrawn_id(sequence), now)?;
-        self.numbers.push_reserved(sequence);
-        self.living
-            .push_reserved(ConnectionId::new(&[0; OWN_ID_LENGTH]));
+        add_one(&mut self.own, cid, now)?;
+        self.living.push_reserved(OwnId::issued(&cid));
         self.undrawn.push_reserved(behind);
-        Ok(undrawn_id(sequence))
+        self.changed = true;
+        Ok(cid)
     }
 
     /// The ids that are still to be drawn are, in the order in which they were issued, and told so:
@@ -305,13 +312,7 @@ impl Ids {
         ensures random { R.stream random.new ≡ after_words (words_of_id * length self.old.undrawn) (R.stream random.old) }
         ensures few { length self.old.undrawn + 1 ≤ self.old.own.issued }
     {
-        draw_all(
-            &self.numbers,
-            &mut self.living,
-            &self.undrawn,
-            random,
-            pending,
-        );
+        draw_all(&mut self.living, &self.undrawn, random, pending);
         self.undrawn.clear();
     }
 

@@ -14,6 +14,7 @@ pub mod leaving;
 pub mod losses;
 pub mod making;
 mod messages;
+mod own_id;
 pub mod packet;
 pub mod polling;
 pub mod receiving;
@@ -24,3 +25,4 @@ pub mod stream_frames;
 pub mod telling;
 
 pub use config::Config;
+pub use own_id::OwnId;

@@ -2,14 +2,14 @@
 ghost use Rattle.std.specs.Prelude.{◌≡◌, ◌*◌, true, None};
 ghost use Rattle.quic_parameters.specs.Parameters.{AreInRange};
 ghost use Rattle.quic_config.specs.Transport.{Settings, transport_of, first_mtu};
-ghost use Rattle.quic_machine.specs.End.{limits_of, first_streams, are_sizes_wrong, are_keys_short};
+ghost use Rattle.quic_machine.specs.End.{limits_of, first_streams, are_sizes_wrong, are_keys_short, is_sample_wrong, is_time_wrong};
 ghost use Rattle.quic_spaces.specs.Filter.{first_filter};
 ghost use Rattle.quic_connection_parts.specs.Drawn.{words_of, after_words};
 ghost use Rattle.quic_connection_parts.specs.Telling.{path_limited};
 ghost use Rattle.quic_paths.specs.Paths.{new_path};
 ghost use Rattle.quic_retransmits.specs.Retransmits.{nothing_waits};
 
-use quic_config::MAX_UDP_PAYLOAD;
+use quic_config::{MAX_FIRST_SAMPLE_NANOS, MAX_UDP_PAYLOAD};
 use quic_congestion::{Controller, ControllerFactory};
 use quic_machine::{Instant, TransportConfig};
 use quic_packet::crypto::{Keys, PacketKey};
@@ -108,4 +108,22 @@ pub fn are_keys_short<H, K: PacketKey>(keys: &Keys<H, K>) -> bool
 {
     keys.packet.local.confidentiality_limit() < LEAST_KEY_LIMIT
         || keys.packet.remote.integrity_limit() < LEAST_KEY_LIMIT
+}
+
+/// Whether a time of a first sample can't be: none, or more than a minute.
+fn is_time_wrong(time: Duration) -> bool
+    ensures { result ≡ is_time_wrong time }
+{
+    let nanos = time.as_nanos();
+    nanos == 0 || nanos > MAX_FIRST_SAMPLE_NANOS
+}
+
+/// Whether the first sample can't be, where one is told.
+pub fn is_sample_wrong(transport: &TransportConfig) -> bool
+    ensures { result ≡ is_sample_wrong transport.now.first_sample }
+{
+    match transport.get_first_sample() {
+        Some(sample) => is_time_wrong(sample.rtt) || is_time_wrong(sample.variation),
+        None => false,
+    }
 }

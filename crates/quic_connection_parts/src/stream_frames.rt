@@ -14,9 +14,10 @@ use quic_streams_state::IdRule;
 use quic_wire::frame::{Frame, ResetStream, StopSending, Stream};
 use quic_wire_core::{Dir, Reason, Side, StreamId, VarInt};
 
-/// Takes a frame that is neither ACK nor DATAGRAM, nor one of path validation, of ACK frequency or
-/// about connection IDs: one for streams changes these, one that only servers send is refused by a
-/// server, and one of another kind does nothing yet but that it may break a rule of ids and counts.
+/// Takes a frame that is neither ACK nor DATAGRAM, nor HANDSHAKE_DONE, nor one of path validation,
+/// of ACK frequency or about connection IDs: one for streams changes these, NEW_TOKEN is refused by
+/// a server, and one of another kind does nothing yet but that it may break a rule of ids and
+/// counts.
 ///
 /// # Errors
 ///
@@ -39,7 +40,7 @@ pub fn take_other(streams: &mut EndStreams, frame: &Frame<'_>) -> Result<(), Tro
         }
         Frame::MaxStreamData { id, offset } => take_max_stream_data(streams, *id, *offset),
         Frame::MaxStreams { dir, count } => take_max_streams(streams, *dir, *count),
-        Frame::NewToken { .. } | Frame::HandshakeDone => take_of_server(streams.state.side()),
+        Frame::NewToken { .. } => take_of_server(streams.state.side()),
         _ => refuse(streams.state.breach(IdRule::of(frame))),
     }
 }
@@ -100,7 +101,11 @@ fn refuse(breach: Option<Breach>) -> Result<(), Trouble>
 
 /// Takes a frame that only servers send, and does nothing with it: a server gets none (RFC 9000,
 /// sections 19.7 and 19.20).
-fn take_of_server(side: Side) -> Result<(), Trouble>
+///
+/// # Errors
+///
+/// - [`Trouble::Broke`]: a server got it. Nothing changes.
+pub fn take_of_server(side: Side) -> Result<(), Trouble>
     ensures { (e : End) → TakesAs result (record { end = e; fault = fault_at side }) e }
 {
     match side {

@@ -92,7 +92,7 @@ impl Party {
             // One of the two closes once all is said.
             Event::Lost(LostReason::Application | LostReason::Peer(_)) => Ok(()),
             Event::Lost(reason) => bail!("lost: {reason}"),
-            Event::Stream(_) | Event::Message => Ok(()),
+            Event::Stream(_) | Event::Message | Event::HandshakeConfirmed => Ok(()),
         }
     }
 

@@ -21,6 +21,7 @@ pub mod Unread
 pub mod Credit
 pub mod Allowed
 pub mod Events
+pub mod Marking
 pub mod Tellings
 pub mod Waited
 pub mod Begins
@@ -31,3 +32,4 @@ pub mod Validated
 pub mod Alone
 pub mod Requests
 pub mod Moves
+pub mod Confirmed

@@ -22,12 +22,12 @@ use Rattle.quic_machine.specs.declared.run.Answer.TheVariants as answers
 use Rattle.quic_machine.specs.CallCases.{is_poll, is_timeout}
 use Rattle.quic_machine.specs.End.{End}
 use Rattle.quic_machine.specs.Machine.{World, end_at}
-use Rattle.quic_headline.specs.Runs.{Run, Told, Packet, In, until, state_at, AreServed, LeadsTo, written, ended_by, reset_by}
+use Rattle.quic_headline.specs.Runs.{Run, Told, Packet, In, until, state_at, AreServed, LeadsTo, written, ended_by, reset_by, says_done}
 use Rattle.quic_headline.specs.Observer.{Sent, HoldsOffset, HoldsEnd, Watch, watch, news, loss_due, is_past, is_timely, has_changed, generation_at, sents_until}
 use Rattle.quic_headline.specs.Headline.{IsAt}
 use Rattle.quic_headline.specs.Amounts.{data_limit, stream_limit}
 use Rattle.quic_headline.specs.InUse.{brought, next_of, in_use, TellsStays}
-use Rattle.quic_headline.specs.InFlight.{is_max_data, is_max_streams, is_data_blocked, is_ack_frequency}
+use Rattle.quic_headline.specs.InFlight.{is_handshake_done, is_max_data, is_max_streams, is_data_blocked, is_ack_frequency}
 use Rattle.quic_headline.specs.Duties.{Limited, AllData, StreamData, StreamCount, has_reset, has_stop, limit_waits, on_half}
 use Rattle.quic_headline.specs.Moments.{acknowledges, went}
 use Rattle.quic_headline.specs.AcksDue.{is_immediate_ack, is_due, acked_between}
@@ -40,7 +40,7 @@ use Rattle.quic_headline.specs.Waited.{count_silent, may_come, stands, is_ping, 
 
 -- a control frame: the reset of a stream, that the peer is to stop sending on one, a limit, that a
 -- write found all data, or one stream, used up, an own id that the peer is told under a number,
--- that the peer's id of a number is retired, and ACK_FREQUENCY
+-- that the peer's id of a number is retired, ACK_FREQUENCY, and HANDSHAKE_DONE
 pub data Control : Type 0 where
   ResetOf : (id : ℕ) → Control
   StopOf : (id : ℕ) → Control
@@ -50,6 +50,7 @@ pub data Control : Type 0 where
   NewId : (number : ℕ) → Control
   Retirement : (number : ℕ) → Control
   Request : Control
+  Done : Control
 
 -- an ACK frame that is due; PING; IMMEDIATE_ACK; PATH_CHALLENGE and PATH_RESPONSE; a probe of
 -- losses; a message; an offset of a stream, and its end; and a control frame
@@ -75,6 +76,7 @@ control_waits p (BlockedOn id) = has_id id p.stream_data_blocked
 control_waits p (NewId number) = list_any (λ c. c.sequence == number) p.new_cids
 control_waits p (Retirement number) = list_any (λ n. n == number) p.retire_cids
 control_waits p Request = p.ack_frequency
+control_waits p Done = p.handshake_done
 
 -- whether an offset of a half that wasn't reset is to go: it is lost, or was never sent
 abbrev pub byte_waits : ℕ → SendHalf → Bool
@@ -111,6 +113,7 @@ says (BlockedOn id) (stream_data_blocked f) = f.id == id
 says (NewId number) (new_connection_id f) = f.sequence == number
 says (Retirement number) (retire_connection_id n) = n == number
 says Request f = is_ack_frequency f
+says Done f = is_handshake_done f
 says control f = false
 
 -- A datagram bears it: a STREAM frame with the offset, or with the end, or the frame.
@@ -122,7 +125,7 @@ Bears s q = ⊥
 
 -- It went with one of these datagrams: an ACK frame, PING, IMMEDIATE_ACK, PATH_CHALLENGE,
 -- PATH_RESPONSE, an offset or the end of a stream, or a frame that names no stream, as MAX_DATA,
--- MAX_STREAMS, DATA_BLOCKED and ACK_FREQUENCY. Of the others it isn't said.
+-- MAX_STREAMS, DATA_BLOCKED, ACK_FREQUENCY and HANDSHAKE_DONE. Of the others it isn't said.
 abbrev pub HasGone : List Sent → Thing → Type 0
 HasGone ss Ack = acknowledges ss ≡ true
 HasGone ss Ping = stands is_ping ss ≡ true
@@ -135,6 +138,7 @@ HasGone ss (Frame (LimitOf AllData)) = stands is_max_data ss ≡ true
 HasGone ss (Frame (LimitOf (StreamCount dir))) = stands (is_max_streams (is_one_way dir)) ss ≡ true
 HasGone ss (Frame Blocked) = stands is_data_blocked ss ≡ true
 HasGone ss (Frame Request) = stands is_ack_frequency ss ≡ true
+HasGone ss (Frame Done) = stands is_handshake_done ss ≡ true
 HasGone ss q = ⊥
 
 -- ---- what is seen of a call
@@ -297,8 +301,9 @@ has_said_on id s = stands (says_blocked_on id (stream_limit s.params s.side s.be
 -- (section 4.6); and the frames that say that a limit is used up where a write is blocked, unless
 -- one said that limit before (sections 19.12 and 19.13). The peer is told of an own id where it
 -- retires one. An id of the peer is retired where the next one is used and its number lies below
--- that, or where it comes late. And a poll asks the peer by ACK_FREQUENCY where it is to be asked
--- anew (QUIC Acknowledgement Frequency, section 4).
+-- that, or where it comes late. A poll asks the peer by ACK_FREQUENCY where it is to be asked anew
+-- (QUIC Acknowledgement Frequency, section 4). And HANDSHAKE_DONE goes where the application says
+-- that the handshake is done (section 19.20).
 abbrev pub asks_for : Seen → Control → Bool
 asks_for s (ResetOf id) = is_some (reset_by id s.now.call s.now.answer)
 asks_for s (StopOf id) = stopped_by id s.now.call s.now.answer
@@ -310,6 +315,7 @@ asks_for s (BlockedOn id) = finds_blocked (λ j. j == id) s.now.call s.now.answe
 asks_for s (NewId number) = brings is_retirement s
 asks_for s (Retirement number) = passes_over s number || brings (retires s.using number) s
 asks_for s Request = is_poll s.now.call && wants_anew s.asking s.before.own s.before.flight
+asks_for s Done = says_done s.now.call s.now.answer
 
 -- ---- the causes
 

@@ -22,7 +22,7 @@ use Rattle.quic_streams_state.specs.Limits.{can_send_flow_control}
 use Rattle.quic_machine.specs.End.{End}
 use Rattle.quic_machine.specs.Poll.{waits}
 use Rattle.quic_machine.specs.Machine.{World, end_at}
-use Rattle.quic_headline.specs.Runs.{Run, Told, Packet, In, until, AreServed, LeadsTo, written, ended, reset, HasArrived, EndHasArrived, ResetHasArrived}
+use Rattle.quic_headline.specs.Runs.{Run, Told, Packet, In, until, AreServed, LeadsTo, written, ended, reset, HasArrived, EndHasArrived, ResetHasArrived, was_said_done, DoneHasArrived}
 use Rattle.quic_headline.specs.Observer.{Sent, took, sents_until}
 use Rattle.quic_headline.specs.InUse.{in_use, TellsStays}
 use Rattle.quic_headline.specs.Amounts.{was_stopped}
@@ -37,7 +37,7 @@ pub data Limited : Type 0 where
 
 -- an offset of a stream, the end of one, or its reset; that the peer is to stop sending on one;
 -- that an id of the peer with a number is retired, and an own id of a number; a limit, with its
--- value; and the request of a number of how often to acknowledge
+-- value; the request of a number of how often to acknowledge; and that the handshake is done
 pub data Duty : Type 0 where
   Offset : (id : ℕ) (offset : ℕ) → Duty
   Fin : (id : ℕ) → Duty
@@ -47,6 +47,7 @@ pub data Duty : Type 0 where
   NewId : (number : ℕ) → Duty
   Limit : (what : Limited) (value : ℕ) → Duty
   Frequency : (number : ℕ) → Duty
+  Done : Duty
 
 -- ---- what is owed
 
@@ -94,8 +95,8 @@ lacks_size (Some half) = is_none half.final
 -- each reset; STOP_SENDING of each stream that it stopped, while the final size isn't known
 -- (section 3.5); the retirement of each id of the peer below that in use (section 5.1.2), by the
 -- calls at it, and by what it has, which says more of an end that isn't open; each own id but the
--- first, while it lives (section 5.1.1); each limit; and each request, in the place of which a
--- newer one may come
+-- first, while it lives (section 5.1.1); each limit; each request, in the place of which a newer
+-- one may come; and that the handshake is done, where its application said so (section 19.20)
 abbrev pub IsOwed : ℕ → End → List Sent → List Told → Duty → Type 0
 IsOwed used e own told (Offset id offset) = (reset id told ≡ None) × (offset < length (written id told))
 IsOwed used e own told (Fin id) = (reset id told ≡ None) × (ended id told ≡ true)
@@ -105,6 +106,7 @@ IsOwed used e own told (Retire number) = (number < used) ⊎ (number < e.ids.pee
 IsOwed used e own told (NewId number) = (1 ≤ number) × (is_in number e.ids.own.living ≡ true)
 IsOwed used e own told (Limit what value) = IsSaid e own what value
 IsOwed used e own told (Frequency number) = IsAsked own number
+IsOwed used e own told Done = was_said_done told ≡ true
 
 -- ---- it waits
 
@@ -145,6 +147,7 @@ is_due e (Retire number) = has_retirement number e.waiting.frames.retire_cids
 is_due e (NewId number) = has_new_id number e.waiting.frames.new_cids
 is_due e (Limit what value) = limit_waits e.waiting.frames what
 is_due e (Frequency number) = e.waiting.frames.ack_frequency
+is_due e Done = e.waiting.frames.handshake_done
 
 -- It waits to go. What waits is queued: the end has something to send.
 pub record Waits (e : End) (duty : Duty) : Type 0 where
@@ -170,6 +173,7 @@ StandsIn carried (Reset id) = has_reset id carried.retransmits.reset_stream ≡ 
 StandsIn carried (Stop id) = has_stop id carried.retransmits.stop_sending ≡ true
 StandsIn carried (Retire number) = has_retirement number carried.retransmits.retire_cids ≡ true
 StandsIn carried (NewId number) = has_new_id number carried.retransmits.new_cids ≡ true
+StandsIn carried Done = carried.retransmits.handshake_done ≡ true
 StandsIn carried duty = AnyIn (λ frame. Carries frame duty) carried.stream_frames
 
 -- it stands in one of these, which are neither acknowledged nor lost yet
@@ -241,6 +245,7 @@ HasCome packets told (Retire number) = WasRetired packets number
 HasCome packets told (NewId number) = (id : List ℕ) × WasToldId packets number id
 HasCome packets told (Limit what value) = LimitHasArrived packets what value
 HasCome packets told (Frequency number) = HasAsked packets number
+HasCome packets told Done = DoneHasArrived packets
 
 -- ---- where it is
 

@@ -4,7 +4,7 @@ use Rattle.std.specs.Prelude.{ℕ, ◌+◌, ◌≡◌, ◌⊎◌, Bool, true, fa
 use Rattle.std.specs.List.{list_any}
 use Rattle.quic_wire_core.specs.declared.shared.IssuedCid.{IssuedCid}
 use Rattle.quic_wire_core.specs.declared.stream_id.Side.{Side}
-use Rattle.quic_wire.specs.Value.{FrameValue, StreamValue, StopSendingValue, ack, stream, reset_stream, stop_sending, max_data, max_stream_data, max_streams, data_blocked, stream_data_blocked, new_connection_id, retire_connection_id, ack_frequency}
+use Rattle.quic_wire.specs.Value.{FrameValue, StreamValue, StopSendingValue, ack, stream, handshake_done, reset_stream, stop_sending, max_data, max_stream_data, max_streams, data_blocked, stream_data_blocked, new_connection_id, retire_connection_id, ack_frequency}
 use Rattle.quic_send_buffer.specs.declared.stream_meta.StreamMeta.{StreamMeta}
 use Rattle.quic_machine.specs.declared.answers.State.TheVariants as states
 use Rattle.quic_streams_parts.specs.Table.{Table}
@@ -32,7 +32,12 @@ first_acknowledged (other ∷ fs) = first_acknowledged fs
 
 -- ---- what has to be sent again if a datagram is lost, beside the bytes of streams (RFC 9000, section 13.3)
 
--- whether a frame is of such a kind, and what the frames of a kind say
+-- whether a frame is of such a kind, and what the frames of a kind say: HANDSHAKE_DONE
+abbrev pub is_handshake_done : FrameValue → Bool
+is_handshake_done handshake_done = true
+is_handshake_done other = false
+
+-- the same of MAX_DATA
 abbrev pub is_max_data : FrameValue → Bool
 is_max_data (max_data limit) = true
 is_max_data other = false
@@ -94,6 +99,7 @@ retirements_in (other ∷ fs) = retirements_in fs
 -- a set of streams
 abbrev pub again_in : List FrameValue → Retransmits
 again_in frames = record {
+  handshake_done = list_any is_handshake_done frames;
   max_data = list_any is_max_data frames;
   data_blocked = list_any is_data_blocked frames;
   max_stream_id = record { bi = list_any (is_max_streams false) frames; uni = list_any (is_max_streams true) frames };

@@ -45,6 +45,8 @@ pub mod Taken
 pub mod Alone
 pub mod Keeping
 pub mod FewEvents
+pub mod Confirmed
+pub mod Marking
 pub mod Nonces
 pub mod LoneCloses
 pub mod FewCloses

@@ -12,7 +12,8 @@ use Rattle.quic_wire.specs.Items.{items}
 use Rattle.quic_packet.specs.Number.{window}
 use Rattle.quic_packet.specs.Keys.{width_in}
 use Rattle.quic_packet.specs.Datagram.{Opening, opened_packet}
-use Rattle.quic_time.specs.Rtt.{Rtt, assumed_rtt, best_rtt, conservative_rtt, with_sample}
+use Rattle.quic_time.specs.Rtt.{Rtt, best_rtt, conservative_rtt, with_sample}
+use Rattle.quic_config.specs.Transport.{first_estimate}
 use Rattle.quic_spaces.specs.Numbers.{greatest_of}
 use Rattle.quic_machine.specs.declared.answers.State.{State}
 use Rattle.quic_machine.specs.declared.answers.State.TheVariants as states
@@ -106,10 +107,10 @@ pub record Flight : Type 0 where
   pub expiries : ℕ
   pub probes : ℕ
 
--- nothing was sent, a round trip is taken to last so long, and the peer holds an acknowledgement
--- back for so long
-abbrev pub no_flight : ℕ → ℕ → Flight
-no_flight initial_rtt delay = record { named = None; flying = []; acked = []; asked = None; rtt = assumed_rtt initial_rtt; delay = delay; request = None; loss_time = None; expiries = 0; probes = 0 }
+-- nothing was sent, this is known of the round trip, and the peer holds an acknowledgement back for
+-- so long
+abbrev pub no_flight : Rtt → ℕ → Flight
+no_flight first_rtt delay = record { named = None; flying = []; acked = []; asked = None; rtt = first_rtt; delay = delay; request = None; loss_time = None; expiries = 0; probes = 0 }
 
 -- no moment and no time lies above this
 abbrev pub latest : ℕ
@@ -377,10 +378,10 @@ pub record Watch : Type 0 where
   pub flight : Flight
 
 -- nothing happened to an end that gives these datagrams in all, was made at this moment for a peer
--- at this address, takes a round trip to last so long, and was told that its peer holds
+-- at this address, knows this of the round trip, and was told that its peer holds
 -- acknowledgements back for so long
-abbrev pub first_watch : List (List ℕ) → ℕ → ℕ → ℕ → ℕ → Watch
-first_watch gives moment remote initial_rtt delay = record { intake = nothing_came; clock = moment; route = record { address = remote; generation = 0 }; left = gives; own = []; flight = no_flight initial_rtt delay }
+abbrev pub first_watch : List (List ℕ) → ℕ → ℕ → Rtt → ℕ → Watch
+first_watch gives moment remote first_rtt delay = record { intake = nothing_came; clock = moment; route = record { address = remote; generation = 0 }; left = gives; own = []; flight = no_flight first_rtt delay }
 
 -- the packets that came between two intakes
 abbrev pub news : Intake → Intake → List Packet
@@ -504,7 +505,7 @@ lens_of r side = record { serves = serves side; taker = policy_at (other_side si
 
 -- nothing happened yet to an end that gives these datagrams in all
 abbrev pub watch_from : End → List (List ℕ) → Watch
-watch_from e gives = first_watch gives e.closing.clock e.path.remote e.transport.initial_rtt (e.peer_params.max_ack_delay * 1000000)
+watch_from e gives = first_watch gives e.closing.clock e.path.remote (first_estimate e.transport) (e.peer_params.max_ack_delay * 1000000)
 
 -- what the observer of an end knows by the first so many answers
 abbrev pub watch : Run → Side → ℕ → Watch

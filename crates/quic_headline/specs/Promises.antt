@@ -12,7 +12,7 @@ use Rattle.quic_headline.specs.Moments.{AckMoments, LossMoments, LossTimerQuiet}
 use Rattle.quic_headline.specs.Grown.{GrownLimitsWait}
 use Rattle.quic_headline.specs.Messages.{MessagesAtMostOnce}
 use Rattle.quic_headline.specs.Polls.{PollsSendWhatWaits, PollsSendMessages, ProbesPass, WindowIsOfHistory, PacerSetsItsTimer, AskingGoesWhereLet}
-use Rattle.quic_headline.specs.Rest.{DeliveredAtRest, NothingOwedAtRest}
+use Rattle.quic_headline.specs.Rest.{DeliveredAtRest, DoneAtRest, NothingOwedAtRest}
 use Rattle.quic_headline.specs.AcksDue.{AcksAreDue}
 use Rattle.quic_headline.specs.Resets.{ResetsAreTold}
 use Rattle.quic_headline.specs.Ids.{IdsAreNew, AcceptedWereOpened}
@@ -28,6 +28,8 @@ use Rattle.quic_headline.specs.Credit.{CreditIsBounded, CountsAreBounded}
 use Rattle.quic_headline.specs.Allowed.{ReadsAreAllowed, ReadsAreOver, WritesAreAllowed, ResetsAreAllowed}
 use Rattle.quic_headline.specs.Queue.{MessagesGo, MessagesGoInOrder}
 use Rattle.quic_headline.specs.Events.{MessagesAreTold, OpeningsAreTold, ReadablesAreTold, WritablesAreTold}
+use Rattle.quic_headline.specs.Confirmed.{DoneIsExact, ConfirmationIsTold}
+use Rattle.quic_headline.specs.Marking.{MarksGo}
 use Rattle.quic_headline.specs.Telling.{ControllersAreTold}
 use Rattle.quic_headline.specs.AckFrames.{AcksCountMarks, AcksNameAll}
 use Rattle.quic_headline.specs.Requests.{RequestsSay, RequestsGo}
@@ -140,6 +142,12 @@ pub record Tells (r : Run) : Type 0 where
   pub readables_are_told : ReadablesAreTold r
   -- that a stream takes bytes again, since a write on it was blocked (sections 4.1 and 19.10)
   pub writables_are_told : WritablesAreTold r
+  -- an application that says that the handshake is done is let at a server, once, while that is open
+  -- (section 19.20)
+  pub done_is_exact : DoneIsExact r
+  -- that the handshake is confirmed, once, to a client to which HANDSHAKE_DONE came (RFC 9001,
+  -- section 4.1.2)
+  pub confirmation_is_told : ConfirmationIsTold r
   -- what is answered of timers, of the state and of the address is what the view behind it shows
   pub views_tell : ViewsTell r
 
@@ -185,6 +193,9 @@ pub record Loses (r : Run) : Type 0 where
   pub probes_pass : ProbesPass r
   -- they have IMMEDIATE_ACK, where the peer takes it (QUIC Acknowledgement Frequency, section 5)
   pub probes_hasten : ProbesHasten r
+  -- each datagram of an open end is marked with ECT(0) while the peer's counts show that such marks
+  -- come through, and isn't marked otherwise (RFC 9000, section 13.4.2)
+  pub marks_go : MarksGo r
   -- the window is that of a controller which was told what the lists say (sections 6, 7 and 7.6)
   pub controllers_are_told : ControllersAreTold r
   -- it is that of one which was told what the calls tell (section 7)
@@ -254,8 +265,8 @@ pub record Validates (r : Run) : Type 0 where
   -- that changes, and isn't validated then, exactly where the newest packet that was taken came from
   -- elsewhere to a server, and doesn't only probe (sections 9.1 and 9.3)
   pub path_changes_exactly : PathChangesExactly r
-  -- a client drops all that comes from elsewhere, and nothing else is dropped for its address (section
-  -- 9)
+  -- a client drops all that comes from elsewhere, and nothing else is dropped for its address
+  -- (section 9)
   pub drops_other_addresses : DropsOtherAddresses r
 
 -- Why an end closes, and that it takes what comes otherwise (RFC 9000, sections 10 and 11).
@@ -324,6 +335,9 @@ pub record Times (r : Run) : Type 0 where
 pub record Rests (r : Run) : Type 0 where
   -- all that was written, and not reset, has arrived (RFC 9000, section 13.3)
   pub delivered_at_rest : DeliveredAtRest r
+  -- HANDSHAKE_DONE has arrived where it was said that the handshake is done (sections 13.3 and
+  -- 19.20)
+  pub done_at_rest : DoneAtRest r
   -- no acknowledgement is owed (RFC 9000, sections 13.2.1 and 13.2.4)
   pub nothing_owed_at_rest : NothingOwedAtRest r
   -- a write is blocked only for bytes that were left unread (RFC 9000, section 4.1)

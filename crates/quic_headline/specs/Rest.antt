@@ -18,7 +18,7 @@ use Rattle.quic_machine.specs.Tracking.{asks_any}
 use Rattle.quic_machine.specs.End.{End}
 use Rattle.quic_machine.specs.Poll.{waits}
 use Rattle.quic_machine.specs.Machine.{World, end_at}
-use Rattle.quic_headline.specs.Runs.{Run, Told, Packet, In, state_in, AreServed, LeadsTo, written, ended, reset, HasArrived, EndHasArrived, IsNamed, folded, until, given_of}
+use Rattle.quic_headline.specs.Runs.{Run, Told, Packet, In, state_in, AreServed, LeadsTo, written, ended, reset, HasArrived, EndHasArrived, was_said_done, DoneHasArrived, IsNamed, folded, until, given_of}
 use Rattle.quic_headline.specs.Observer.{Sent, Watch, watch_from, took, sents_until, news, Lens, watch_told, lens_of}
 use Rattle.quic_headline.specs.InFlight.{first_acknowledged}
 use Rattle.quic_headline.specs.Moments.{loss_timer, ack_timer, acknowledges, went}
@@ -90,6 +90,11 @@ abbrev pub DeliveredAtRest : Run → Type 0
 DeliveredAtRest r = (side : Side) (i id : ℕ) → AreServed r i → HaveRoom r.start → Rests r side i → reset id (until r side i) ≡ None
     → ((offset : ℕ) → offset < length (written id (until r side i)) → HasArrived (took r (other_side side) i) id offset)
     × (ended id (until r side i) ≡ true → EndHasArrived (took r (other_side side) i) id (length (written id (until r side i))))
+
+-- where an end rests whose application said that the handshake is done, HANDSHAKE_DONE has arrived
+-- (section 19.20)
+abbrev pub DoneAtRest : Run → Type 0
+DoneAtRest r = (side : Side) (i : ℕ) → AreServed r i → HaveRoom r.start → Rests r side i → was_said_done (until r side i) ≡ true → DoneHasArrived (took r (other_side side) i)
 
 -- ---- no acknowledgement is owed
 

@@ -5,7 +5,7 @@ use Rattle.std.specs.List.{list_any}
 use Rattle.quic_wire_core.specs.declared.stream_id.Side.{Side}
 use Rattle.quic_wire_core.specs.declared.stream_id.Side.TheVariants.{Client, Server}
 use Rattle.quic_wire_core.specs.StreamId.{other_side}
-use Rattle.quic_wire.specs.Value.{FrameValue, StreamValue, ResetStreamValue, AckValue, ack, stream, reset_stream, stop_sending, max_stream_data}
+use Rattle.quic_wire.specs.Value.{FrameValue, StreamValue, ResetStreamValue, AckValue, ack, stream, handshake_done, reset_stream, stop_sending, max_stream_data}
 use Rattle.quic_wire.specs.Items.{items}
 use Rattle.quic_packet.specs.Datagram.{Opening}
 use Rattle.quic_wire.specs.declared.frame.InvalidFrame.{InvalidFrame}
@@ -141,6 +141,15 @@ first_of None later = later
 abbrev pub reset : ℕ → List Told → Option ℕ
 reset id [] = None
 reset id (t ∷ ts) = first_of (reset_by id t.call t.answer) (reset id ts)
+
+-- whether a call said that the handshake is done, and was let (RFC 9000, section 19.20)
+abbrev pub says_done : Call → Answer → Bool
+says_done calls.HandshakeDone (answers.HandshakeDone (Ok done)) = true
+says_done call a = false
+
+-- whether an end said so
+abbrev pub was_said_done : List Told → Bool
+was_said_done told = list_any (λ t. says_done t.call t.answer) told
 
 -- what a `next` of a read answers
 abbrev pub Next : Type 0
@@ -383,6 +392,12 @@ pub record ResetHasArrived (packets : List Packet) (id : ℕ) : Type 0 where
   pub frame : ResetStreamValue
   pub carried : In (reset_stream frame) packet.frames
   pub of_stream : frame.id ≡ id
+
+-- HANDSHAKE_DONE stands in a packet that was taken (section 19.20).
+pub record DoneHasArrived (packets : List Packet) : Type 0 where
+  pub packet : Packet
+  pub was_taken : In packet packets
+  pub carried : In handshake_done packet.frames
 
 -- A number is that of a packet that was taken.
 pub record IsTaken (packets : List Packet) (number : ℕ) : Type 0 where

@@ -7,17 +7,15 @@
 --  * whether the peer has a challenge to answer as they come (`challenged`; RFC 9000, section 8.2),
 --    so that the controller isn't told of them: it may have one where its address isn't seen to be
 --    validated before the call;
---  * whether counts of CE that came are believed and grew (`marks`): a controller may be told so,
---    where they may have;
 --  * which of the datagrams that may be probes of a size is one (`probe`), whether such a one gives
 --    its size to later ones (`grows`), and whether that size falls as datagrams are lost (`falls`):
 --    either, but the last size that is told is that which the view shows.
-use Rattle.std.specs.Prelude.{ℕ, suc, ◌*◌, ◌<◌, ◌≤◌, ◌≡◌, ◌↔◌, min, not, ◌&&◌, Bool, true, false, List, [], ◌∷◌, ◌++◌, filter, map, replicate, sum_by, slice_get, Option, Some, None, unwrap_or, if◌then◌else◌}
+use Rattle.std.specs.Prelude.{ℕ, suc, ◌*◌, ◌≤◌, ◌≡◌, ◌↔◌, min, not, ◌&&◌, Bool, true, false, List, [], ◌∷◌, ◌++◌, filter, map, replicate, sum_by, slice_get, Option, Some, None, unwrap_or, if◌then◌else◌, length}
 use Rattle.std.specs.List.{list_any}
 use Rattle.quic_wire_core.specs.declared.stream_id.Side.{Side}
 use Rattle.quic_wire.specs.Value.{FrameValue, AckValue, ack, ping, padding}
 use Rattle.quic_time.specs.Rtt.{Rtt}
-use Rattle.quic_config.specs.Transport.{TransportSettings}
+use Rattle.quic_config.specs.Transport.{TransportSettings, first_behind_sample}
 use Rattle.quic_congestion.specs.Congestion as congestion
 use Rattle.quic_congestion.specs.Search.{is_number}
 use Rattle.quic_spaces.specs.Numbers.{greatest_of}
@@ -27,9 +25,10 @@ use Rattle.quic_machine.specs.declared.run.RunEvent.{RunEvent}
 use Rattle.quic_machine.specs.declared.run.View.{View}
 use Rattle.quic_machine.specs.Machine.{end_at, control_at}
 use Rattle.quic_headline.specs.Runs.{Run, Told, Packet, Intake, In, same_side, given_of, names, is_refused, and_told, until, AreServed}
-use Rattle.quic_headline.specs.Observer.{Sent, asks_of, Terms, Flight, latest, late_by, is_lost, is_greatest, measures, kept_delay, open_request, rtt_behind, after_ack, after_packets, waited, loss_due, is_past, Watch, news, has_opened, moment_of, clock_behind, Lens, is_timely, watch_came, watch_told, lens_of, watch_from, next_number}
+use Rattle.quic_headline.specs.Observer.{Sent, asks_of, Terms, Flight, latest, late_by, is_lost, measures, kept_delay, open_request, rtt_behind, after_ack, after_packets, waited, loss_due, is_past, Watch, news, has_opened, moment_of, clock_behind, Lens, is_timely, watch_came, watch_told, lens_of, watch_from, next_number}
 use Rattle.quic_headline.specs.Polls.{window_in, mtu_in, end_in, search_at, counts_on, bytes_on}
 use Rattle.quic_headline.specs.AppLimited.{CountsAt}
+use Rattle.quic_headline.specs.Marking.{Marking, first_marking, has_grown, marking_ack, marking_packets, marking_told}
 
 -- what a controller is told, one thing behind another
 abbrev pub Tellings : Type 0
@@ -143,53 +142,43 @@ acked_flight t clock a acked others f = record f {
   probes = 0;
 }
 
--- the counts of an ACK frame may show that CE grew: it has counts, one of CE among them, and names
--- a number above all that were (RFC 9000, section 13.4.2)
-pub record MayMark (named : Option ℕ) (a : AckValue) : Type 0 where
-  pub rises : is_greatest named a.largest ≡ true
-  pub counts : ℕ × ℕ × ℕ
-  pub came : a.ecn ≡ Some counts
-  pub marked : 0 < counts.2
-
 -- The controller is told this of an ACK frame that acknowledges these and leaves the others: each
 -- of these; that they end, how many bytes are in flight then, and the greatest number that was
--- named; what is lost then; and, where counts of CE grew, that the path is congested, when the last
+-- named; what is lost then; and, where the count of CE grew, that the path is congested, when the last
 -- of these went, and of no bytes.
-pub record TellsSettled (j : Judging) (clock : ℕ) (a : AckValue) (acked others : List Sent) (f : Flight) (told : Tellings) : Type 0 where
+pub record TellsSettled (j : Judging) (clock : ℕ) (a : AckValue) (acked others : List Sent) (f : Flight) (k : Marking) (told : Tellings) : Type 0 where
   pub challenged : Bool
   pub unvalidated : challenged ≡ true → j.validated ≡ false
   pub each : Tellings
   pub acks : TellsAcked j.settings.min_mtu clock challenged j.limited f.rtt acked each
   pub lost : Tellings
   pub losses : TellsLosses j clock true (acked_flight j.terms clock a acked others f) lost
-  pub marks : Bool
-  pub counts : marks ≡ true → MayMark f.named a
-  pub is : told ≡ each ++ congestion.AcksEnded clock (min (bytes_on j.generation others) latest) j.limited (Some (greatest_of f.named a.largest)) ∷ lost ++ told_if marks (congestion.Congested clock (last_moment acked) false 0)
+  pub is : told ≡ each ++ congestion.AcksEnded clock (min (bytes_on j.generation others) latest) j.limited (Some (greatest_of f.named a.largest)) ∷ lost ++ told_if (has_grown f.named a (length acked) k) (congestion.Congested clock (last_moment acked) false 0)
 
 -- an ACK frame that names none in flight tells nothing
-abbrev pub TellsNamed : Judging → ℕ → AckValue → List Sent → List Sent → Flight → Tellings → Type 0
-TellsNamed j clock a [] others f told = told ≡ []
-TellsNamed j clock a (s ∷ ss) others f told = TellsSettled j clock a (s ∷ ss) others f told
+abbrev pub TellsNamed : Judging → ℕ → AckValue → List Sent → List Sent → Flight → Marking → Tellings → Type 0
+TellsNamed j clock a [] others f k told = told ≡ []
+TellsNamed j clock a (s ∷ ss) others f k told = TellsSettled j clock a (s ∷ ss) others f k told
 
 -- an ACK frame that comes at a moment
-abbrev pub TellsAck : Judging → ℕ → AckValue → Flight → Tellings → Type 0
-TellsAck j clock a f told = TellsNamed j clock a (filter (λ s. names a s.number) f.flying) (filter (λ s. not (names a s.number)) f.flying) f told
+abbrev pub TellsAck : Judging → ℕ → AckValue → Flight → Marking → Tellings → Type 0
+TellsAck j clock a f k told = TellsNamed j clock a (filter (λ s. names a s.number) f.flying) (filter (λ s. not (names a s.number)) f.flying) f k told
 
 -- frames, one behind another
-abbrev pub TellsFrames : Judging → ℕ → List FrameValue → Flight → Tellings → Type 0
-TellsFrames j clock [] f told = told ≡ []
-TellsFrames j clock (ack a ∷ fs) f told = (now later : Tellings) × TellsAck j clock a f now × TellsFrames j clock fs (after_ack j.terms clock a f) later × (told ≡ now ++ later)
-TellsFrames j clock (other ∷ fs) f told = TellsFrames j clock fs f told
+abbrev pub TellsFrames : Judging → ℕ → List FrameValue → Flight → Marking → Tellings → Type 0
+TellsFrames j clock [] f k told = told ≡ []
+TellsFrames j clock (ack a ∷ fs) f k told = (now later : Tellings) × TellsAck j clock a f k now × TellsFrames j clock fs (after_ack j.terms clock a f) (marking_ack a f k) later × (told ≡ now ++ later)
+TellsFrames j clock (other ∷ fs) f k told = TellsFrames j clock fs f k told
 
 -- packets that were taken; the latest stands first
-abbrev pub TellsPackets : Judging → ℕ → List Packet → Flight → Tellings → Type 0
-TellsPackets j clock [] f told = told ≡ []
-TellsPackets j clock (p ∷ ps) f told = (before now : Tellings) × TellsPackets j clock ps f before × TellsFrames j clock p.frames (after_packets j.terms clock ps f) now × (told ≡ before ++ now)
+abbrev pub TellsPackets : Judging → ℕ → List Packet → Flight → Marking → Tellings → Type 0
+TellsPackets j clock [] f k told = told ≡ []
+TellsPackets j clock (p ∷ ps) f k told = (before now : Tellings) × TellsPackets j clock ps f k before × TellsFrames j clock p.frames (after_packets j.terms clock ps f) (marking_packets j.terms clock ps f k) now × (told ≡ before ++ now)
 
 -- a packet that was refused, at which the end closed: some of its frames, from the first on
-abbrev pub TellsPart : Judging → ℕ → Bool → Option Packet → Flight → Tellings → Type 0
-TellsPart j clock true (Some p) f told = (front behind : List FrameValue) × (p.frames ≡ front ++ behind) × TellsFrames j clock front f told
-TellsPart j clock refused part f told = told ≡ []
+abbrev pub TellsPart : Judging → ℕ → Bool → Option Packet → Flight → Marking → Tellings → Type 0
+TellsPart j clock true (Some p) f k told = (front behind : List FrameValue) × (p.frames ≡ front ++ behind) × TellsFrames j clock front f k told
+TellsPart j clock refused part f k told = told ≡ []
 
 -- ---- a moment (RFC 9002, section 6.2)
 
@@ -217,15 +206,15 @@ first_behind first w = measured_first first (next_number w.own) w.flight.rtt.smo
 -- The controller of an end is told this by a call at the end, which counts as having nothing more
 -- to send or doesn't, and of which the observer knows this before: of the packets that it took, or
 -- of one that it refused; of what is lost by time; and of what went.
-pub record TellsCall (l : Lens) (c : TransportSettings) (validated : Bool) (first : Option ℕ) (limited : Bool) (w : Watch) (t : Told) (told : Tellings) : Type 0 where
+pub record TellsCall (l : Lens) (c : TransportSettings) (validated : Bool) (first : Option ℕ) (limited : Bool) (w : Watch) (k : Marking) (t : Told) (told : Tellings) : Type 0 where
   pub after : Intake
   pub came : after ≡ and_told l.own l.peer_gave t w.intake
   pub clock : ℕ
   pub moment : clock ≡ clock_behind w.clock (moment_of t.state (has_opened w.intake after) t.call)
   pub taken : Tellings
-  pub takes : TellsPackets (judging l c validated first limited w) clock (news w.intake after) w.flight taken
+  pub takes : TellsPackets (judging l c validated first limited w) clock (news w.intake after) w.flight k taken
   pub refused : Tellings
-  pub refuses : TellsPart (judging l c validated first limited w) clock (has_opened w.intake after && is_refused t.answer) after.part w.flight refused
+  pub refuses : TellsPart (judging l c validated first limited w) clock (has_opened w.intake after && is_refused t.answer) after.part w.flight k refused
   pub late : Tellings
   pub expires : let f = (watch_came l.terms after clock w).flight in TellsMoment (is_timely t.state t.call && is_past (loss_due f) clock) (judging l c validated first limited w) clock f late
   pub went : List Sent
@@ -235,10 +224,10 @@ pub record TellsCall (l : Lens) (c : TransportSettings) (validated : Bool) (firs
 -- calls at the end, one behind another, of which the first stands behind so many others: before
 -- each the address of the peer is seen to be validated or isn't, and at each that finds the end
 -- open, the end may count so
-abbrev pub TellsCalls : Lens → TransportSettings → (ℕ → Bool) → (ℕ → Bool → Type 0) → ℕ → Option ℕ → Watch → List Told → Tellings → Type 0
-TellsCalls l c validated may n first w [] told = told ≡ []
-TellsCalls l c validated may n first w (t ∷ ts) told =
-    (limited : Bool) × (now later : Tellings) × (t.state ≡ states.Open → may n limited) × TellsCall l c (validated n) first limited w t now × TellsCalls l c validated may (suc n) (first_behind first (watch_told l t w)) (watch_told l t w) ts later × (told ≡ now ++ later)
+abbrev pub TellsCalls : Lens → TransportSettings → (ℕ → Bool) → (ℕ → Bool → Type 0) → ℕ → Option ℕ → Watch → Marking → List Told → Tellings → Type 0
+TellsCalls l c validated may n first w k [] told = told ≡ []
+TellsCalls l c validated may n first w k (t ∷ ts) told =
+    (limited : Bool) × (now later : Tellings) × (t.state ≡ states.Open → may n limited) × TellsCall l c (validated n) first limited w k t now × TellsCalls l c validated may (suc n) (first_behind first (watch_told l t w)) (watch_told l t w) (marking_told l t w k) ts later × (told ≡ now ++ later)
 
 -- ---- over a run
 
@@ -253,9 +242,10 @@ validated_before side shown (event ∷ events) (v ∷ views) = (if same_side eve
 abbrev pub shows_validated : Run → Side → ℕ → Bool
 shows_validated r side n = unwrap_or (slice_get (validated_before side (end_at side r.start).path.validated r.events r.views) n) true
 
--- the controller of an end may have been told this by the first so many answers
+-- the controller of an end may have been told this by the first so many answers; where a sample was
+-- taken before the connection began, a round trip was measured before the first datagram went
 abbrev pub MayTell : Run → Side → ℕ → Tellings → Type 0
-MayTell r side i told = TellsCalls (lens_of r side) (end_at side r.start).transport (shows_validated r side) (CountsAt r side) 0 None (watch_from (end_at side r.start) (given_of r side)) (until r side i) told
+MayTell r side i told = TellsCalls (lens_of r side) (end_at side r.start).transport (shows_validated r side) (CountsAt r side) 0 (first_behind_sample (end_at side r.start).transport) (watch_from (end_at side r.start) (given_of r side)) first_marking (until r side i) told
 
 -- the window that a view shows is that which the controller, as it was when the run began, shows
 -- once it was told of what went, was acknowledged and was lost up to there; and the size of

@@ -1,20 +1,20 @@
 -- That each datagram carries something that waited to go (RFC 9000, sections 12.2, 13.2 and 13.3),
--- and that the timer of acknowledgements is set while no ACK frame is wanted (section 13.2.1), as an
--- observer of a run's lists reckons it.
+-- and that the timer of acknowledgements is set while no ACK frame is wanted (section 13.2.1), as
+-- an observer of a run's lists reckons it.
 use Rattle.std.specs.Prelude.{ℕ, suc, ◌+◌, ◌<◌, ◌≤◌, ◌≡◌, ◌⊎◌, not, nat_lt, ◌||◌, ◌&&◌, Bool, true, false, if◌then◌else◌, List, [], ◌∷◌, ◌++◌, length, replicate, slice_get, Option, Some, None, option_map}
 use Rattle.std.specs.List.{list_any, count_by}
 use Rattle.quic_wire_core.specs.declared.stream_id.Side.{Side}
 use Rattle.quic_time.specs.Clocks.{saturated}
-use Rattle.quic_wire.specs.Value.{FrameValue, StreamValue, ping, immediate_ack, stream, max_data, max_streams, data_blocked, path_challenge, path_response, ack_frequency, padding, asks}
+use Rattle.quic_wire.specs.Value.{FrameValue, StreamValue, ping, handshake_done, immediate_ack, stream, max_data, max_streams, data_blocked, path_challenge, path_response, ack_frequency, padding, asks}
 use Rattle.quic_machine.specs.declared.answers.State.TheVariants as states
 use Rattle.quic_machine.specs.declared.run.Call.{Call}
 use Rattle.quic_machine.specs.declared.run.Call.TheVariants as calls
 use Rattle.quic_machine.specs.declared.run.View.{View}
 use Rattle.quic_machine.specs.CallCases.{is_poll}
 use Rattle.quic_machine.specs.Machine.{end_at}
-use Rattle.quic_headline.specs.Runs.{Run, Told, Packet, In, state_in, AreServed, folded, until, given_of}
+use Rattle.quic_headline.specs.Runs.{Run, Told, Packet, In, state_in, AreServed, folded, until, given_of, says_done}
 use Rattle.quic_headline.specs.Observer.{Sent, HoldsOffset, asks_of, is_close, Watch, watch_from, watch, news, is_past, is_timely, Lens, watch_told, lens_of}
-use Rattle.quic_headline.specs.InFlight.{is_max_data, is_data_blocked, is_max_streams, is_ack_frequency}
+use Rattle.quic_headline.specs.InFlight.{is_handshake_done, is_max_data, is_data_blocked, is_max_streams, is_ack_frequency}
 use Rattle.quic_headline.specs.Moments.{ack_timer, acknowledges, went, debt, first_deadline}
 use Rattle.quic_headline.specs.Polls.{GaveOne, IsSizeProbe}
 use Rattle.quic_headline.specs.AcksDue.{takes_urged, is_due}
@@ -60,8 +60,8 @@ asks_ping call = false
 -- PING was asked for since one went, or the time without a packet was over; when that is over, if
 -- it is kept (RFC 9000, section 10.1.2); whether a probe of losses waited at a poll that gave
 -- nothing, since a datagram went that asks: it may be PING or IMMEDIATE_ACK, and wait (section
--- 8.1); and the datagrams that it gave since it last was called otherwise than to be polled, or a
--- probe of losses waited.
+-- 8.1); whether its application said that the handshake is done (section 19.20); and the datagrams
+-- that it gave since it last was called otherwise than to be polled, or a probe of losses waited.
 pub record Wants : Type 0 where
   pub watch : Watch
   pub packets : List Packet
@@ -69,6 +69,7 @@ pub record Wants : Type 0 where
   pub pinged : Bool
   pub alive : Option ℕ
   pub probed : Bool
+  pub done : Bool
   pub since : List Sent
 
 -- what went since then, behind a call at which these go: a probe of losses may say again what flies
@@ -105,6 +106,7 @@ wants_behind interval t sents came after w = record {
   pinged = (if stands is_ping sents then false else asks_ping t.call || (wakes t after.clock w.alive || w.pinged));
   alive = alive_behind interval t sents came after.clock w.alive;
   probed = (if list_any asks_of sents then false else probes_in_vain t.call sents w.watch || w.probed);
+  done = says_done t.call t.answer || w.done;
   since = since_behind t.call w sents;
 }
 
@@ -114,15 +116,15 @@ wants_told l t w = let after = watch_told l t w.watch in wants_behind l.terms.ke
 
 -- nothing is wanted before the first call, and no such time has begun
 abbrev pub no_wants : Watch → Wants
-no_wants w = record { watch = w; packets = []; marked = false; pinged = false; alive = None; probed = false; since = [] }
+no_wants w = record { watch = w; packets = []; marked = false; pinged = false; alive = None; probed = false; done = false; since = [] }
 
 -- what is wanted of an end behind the first so many answers
 abbrev pub wants : Run → Side → ℕ → Wants
 wants r side i = folded (wants_told (lens_of r side)) (until r side i) (no_wants (watch_from (end_at side r.start) (given_of r side)))
 
 -- whether an ACK frame is wanted at an end behind the first so many answers: one is due for packets
--- that ask (RFC 9000, section 13.2.1; QUIC Acknowledgement Frequency, sections 4 to 6); or since one
--- went a packet was urged by its mark, or more than so many came that don't ask
+-- that ask (RFC 9000, section 13.2.1; QUIC Acknowledgement Frequency, sections 4 to 6); or since
+-- one went a packet was urged by its mark, or more than so many came that don't ask
 abbrev pub wants_ack : Run → Side → ℕ → Bool
 wants_ack r side i = is_due r side i || ((wants r side i).marked || nat_lt may_come (count_silent (wants r side i).packets))
 
@@ -143,13 +145,15 @@ HoldsNone sents f = (offset : ℕ) → f.offset ≤ offset → offset < f.offset
 -- packet was over, or it may be a probe that waited in vain, as IMMEDIATE_ACK is; a STREAM frame
 -- brings a byte, or the end of its stream, and no byte that was acknowledged in flight; and none of
 -- the datagrams that went since something else than a poll could make it wait had MAX_DATA,
--- MAX_STREAMS of these streams, DATA_BLOCKED, PATH_CHALLENGE or PATH_RESPONSE; nor ACK_FREQUENCY,
--- unless the peer is to be asked anew. Of the other frames that ask for an acknowledgement it isn't
--- said what made them wait; ACK frames and PADDING go along.
+-- MAX_STREAMS of these streams, DATA_BLOCKED, PATH_CHALLENGE or PATH_RESPONSE; nor HANDSHAKE_DONE,
+-- of which the application said before that it is so; nor ACK_FREQUENCY, unless the peer is to be
+-- asked anew. Of the other frames that ask for an acknowledgement it isn't said what made them
+-- wait; ACK frames and PADDING go along.
 abbrev pub FrameWaited : Asking → Wants → FrameValue → Type 0
 FrameWaited a w ping = w.pinged || w.probed ≡ true
 FrameWaited a w immediate_ack = w.probed ≡ true
 FrameWaited a w (stream f) = ((0 < length f.bytes) ⊎ (f.fin ≡ true)) × HoldsNone w.watch.flight.acked f
+FrameWaited a w handshake_done = (w.done ≡ true) × (stands is_handshake_done w.since ≡ false)
 FrameWaited a w (max_data limit) = stands is_max_data w.since ≡ false
 FrameWaited a w (max_streams f) = stands (is_max_streams f.one_way) w.since ≡ false
 FrameWaited a w (data_blocked limit) = stands is_data_blocked w.since ≡ false

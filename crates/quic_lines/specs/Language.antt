@@ -43,6 +43,7 @@ pub data Asked : Type 0 where
   -- a close by the application, with its code and text
   closes : ℕ → ℕ → List ℕ → Asked
   uses_next_id : Asked
+  says_handshake_done : Asked
   polls : ℕ → Asked
   times_out : ℕ → Asked
   delivers : ℕ → Option EcnCodepoint → ℕ → Asked
@@ -206,6 +207,7 @@ call_named name =
     else (if is_word name (codes "ping") then Some names.Ping
     else (if is_word name (codes "close") then Some names.Close
     else (if is_word name (codes "use_next_id") then Some names.UseNextId
+    else (if is_word name (codes "handshake_done") then Some names.HandshakeDone
     else (if is_word name (codes "poll") then Some names.Poll
     else (if is_word name (codes "timeout") then Some names.Timeout
     else (if is_word name (codes "deliver") then Some names.Deliver
@@ -214,7 +216,7 @@ call_named name =
     else (if is_word name (codes "timer") then Some names.Timer
     else (if is_word name (codes "next") then Some names.Next
     else (if is_word name (codes "state") then Some names.State
-    else None)))))))))))))))))))))
+    else None))))))))))))))))))))))
 
 -- what the words behind this name ask for
 abbrev pub asked_by : CallName → List (List ℕ) → Option Asked
@@ -232,6 +234,7 @@ asked_by names.Recv args = ends args (Some reads_message)
 asked_by names.Ping args = ends args (Some pings)
 asked_by names.Close args = three closes number_named varint_named bytes_named args
 asked_by names.UseNextId args = ends args (Some uses_next_id)
+asked_by names.HandshakeDone args = ends args (Some says_handshake_done)
 asked_by names.Poll args = one polls number_named args
 asked_by names.Timeout args = one times_out number_named args
 asked_by names.Deliver args = three delivers number_named mark_named number_named args
@@ -315,6 +318,7 @@ asked_of calls.Recv = reads_message
 asked_of calls.Ping = pings
 asked_of (calls.Close close) = closes close.now close.error_code close.reason
 asked_of calls.UseNextId = uses_next_id
+asked_of calls.HandshakeDone = says_handshake_done
 asked_of (calls.Poll now) = polls now
 asked_of (calls.Timeout now) = times_out now
 asked_of (calls.Deliver delivery) = delivers delivery.now delivery.ecn delivery.index

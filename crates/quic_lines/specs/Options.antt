@@ -18,7 +18,7 @@ first_options = record { transport = record default_transport { mtu_discovery_co
 
 -- the settings of an end with these options; none sets a size of datagrams
 abbrev pub settings_of : Options → Settings
-settings_of o = settings_with (record o.transport { initial_mtu = 1200; min_mtu = 1200 }) true
+settings_of o = settings_with (record o.transport { initial_mtu = 1200; min_mtu = 1200; first_sample = None }) true
 
 -- how many bytes of messages an end keeps unread: none, where it takes no messages, for 0
 abbrev pub kept_size : ℕ → Option ℕ

@@ -30,6 +30,8 @@ use Rattle.quic_machine.specs.declared.answers.Transmit.{Transmit}
 use Rattle.quic_machine.specs.declared.answers.Failed.{Failed}
 use Rattle.quic_machine.specs.declared.answers.State.{State}
 use Rattle.quic_machine.specs.declared.answers.State.TheVariants as states
+use Rattle.quic_machine.specs.declared.answers.HandshakeDoneError.{HandshakeDoneError}
+use Rattle.quic_machine.specs.declared.answers.HandshakeDoneError.TheVariants as done_errors
 use Rattle.quic_machine.specs.declared.answers.NextIdError.{NextIdError}
 use Rattle.quic_machine.specs.declared.answers.NextIdError.TheVariants as next_ids
 use Rattle.quic_machine.specs.declared.answers.LostReason.{LostReason}
@@ -177,6 +179,13 @@ next_id_text (Err next_ids.NoId) = codes "noid"
 next_id_text (Err next_ids.TooManyPending) = codes "toomany"
 next_id_text (Err next_ids.Memory) = codes "memory"
 
+-- whether HANDSHAKE_DONE waits to go, or why it doesn't
+abbrev pub handshake_done_text : Result (Unit {0}) HandshakeDoneError → List ℕ
+handshake_done_text (Ok done) = codes "ok"
+handshake_done_text (Err done_errors.Client) = codes "client"
+handshake_done_text (Err done_errors.Again) = codes "again"
+handshake_done_text (Err done_errors.NotOpen) = codes "notopen"
+
 -- whether timers were let expire, or the end has failed
 abbrev pub timeout_text : Result (Unit {0}) Failed → List ℕ
 timeout_text (Ok done) = codes "ok"
@@ -222,6 +231,7 @@ stream_event_text (happenings.Available dir) = codes "available " ++ dir_text di
 abbrev pub event_text : Option Event → List ℕ
 event_text (Some (events.Stream event)) = stream_event_text event
 event_text (Some events.Message) = codes "message"
+event_text (Some events.HandshakeConfirmed) = codes "confirmed"
 event_text (Some (events.Lost reason)) = codes "lost " ++ loss_text reason
 event_text None = codes "none"
 
@@ -251,6 +261,7 @@ answer_text given (answers.Recv message) = message_text message
 answer_text given answers.Ping = codes "ok"
 answer_text given answers.Close = codes "ok"
 answer_text given (answers.UseNextId changed) = next_id_text changed
+answer_text given (answers.HandshakeDone said) = handshake_done_text said
 answer_text given (answers.Poll (Ok (Some transmit))) = transmit_text (given - 1) transmit
 answer_text given (answers.Poll (Ok None)) = codes "none"
 answer_text given (answers.Poll (Err failed)) = codes "failed"
@@ -288,6 +299,7 @@ call_text calls.Recv = codes "recv"
 call_text calls.Ping = codes "ping"
 call_text (calls.Close close) = codes "close"
 call_text calls.UseNextId = codes "use_next_id"
+call_text calls.HandshakeDone = codes "handshake_done"
 call_text (calls.Poll now) = codes "poll"
 call_text (calls.Timeout now) = codes "timeout"
 call_text (calls.Deliver delivery) = codes "deliver"

@@ -1,7 +1,7 @@
 -- Why a line can't be run, and how lines end there.
 use Rattle.std.specs.Prelude.{ℕ}
 use Rattle.quic_machine.specs.declared.answers.ConfigError.{ConfigError}
-use Rattle.quic_machine.specs.declared.answers.ConfigError.TheVariants.{Parameters, IdLength, Size, Window, KeyLimit, Memory}
+use Rattle.quic_machine.specs.declared.answers.ConfigError.TheVariants.{Parameters, IdLength, Size, Window, KeyLimit, FirstSample, Memory}
 use Rattle.quic_lines.specs.declared.error.ScriptError.{ScriptError}
 use Rattle.quic_lines.specs.declared.error.ScriptError.TheVariants as endings
 use Rattle.quic_lines.specs.declared.script.LineError.{LineError}
@@ -14,6 +14,7 @@ line_error IdLength = BadCommand
 line_error Size = BadCommand
 line_error Window = BadCommand
 line_error KeyLimit = BadCommand
+line_error FirstSample = BadCommand
 line_error Memory = OutOfMemory
 
 -- how lines end where the one of this number can't be run

@@ -1,12 +1,12 @@
 //! What is printed of an answer.
 ghost use Rattle.std.specs.Prelude.{◌≡◌, ◌++◌, OnOk, string_bytes};
-ghost use Rattle.quic_lines.specs.Printed.{bytes_text, coded_text, id_text, moment_text, mark_text, write_text, chunks_text, finish_text, update_text, reset_text, dir_text, stream_event_text, unreadable_text, next_text, send_text, message_text, address_text, transmit_text, reason_text, received_text, timeout_text, loss_text, state_text, validated_text, event_text, rest_text, answer_text, call_text, next_id_text};
+ghost use Rattle.quic_lines.specs.Printed.{bytes_text, coded_text, id_text, moment_text, mark_text, write_text, chunks_text, finish_text, update_text, reset_text, dir_text, stream_event_text, unreadable_text, next_text, send_text, message_text, address_text, transmit_text, reason_text, received_text, timeout_text, loss_text, state_text, validated_text, event_text, rest_text, answer_text, call_text, next_id_text, handshake_done_text};
 
 use bytes::Bytes;
 use quic_assembler::Chunk;
 use quic_machine::{
-    Address, Answer, Call, DropReason, Event, Failed, LostReason, NextIdError, Received, State,
-    Transmit,
+    Address, Answer, Call, DropReason, Event, Failed, HandshakeDoneError, LostReason, NextIdError,
+    Received, State, Transmit,
 };
 use quic_messages::SendDatagramError;
 use quic_streams_parts::{
@@ -321,6 +321,18 @@ fn next_id_name(changed: &Result<(), NextIdError>) -> &'static str
     }
 }
 
+/// How it is printed whether HANDSHAKE_DONE waits to go.
+fn handshake_done_name(said: &Result<(), HandshakeDoneError>) -> &'static str
+    ensures { result.now ≡ handshake_done_text said.now }
+{
+    match said {
+        Ok(()) => "ok",
+        Err(HandshakeDoneError::Client) => "client",
+        Err(HandshakeDoneError::Again) => "again",
+        Err(HandshakeDoneError::NotOpen) => "notopen",
+    }
+}
+
 /// How a kind of stream is printed.
 fn dir_name(dir: Dir) -> &'static str
     ensures { result.now ≡ dir_text dir }
@@ -362,6 +374,7 @@ fn put_event(out: &mut String, event: &Option<Event>) -> Result<(), AllocError>
     match event {
         Some(Event::Stream(event)) => put_stream_event(out, event),
         Some(Event::Message) => out.push_str("message"),
+        Some(Event::HandshakeConfirmed) => out.push_str("confirmed"),
         Some(Event::Lost(reason)) => {
             let name = loss_name(reason);
             write!(out, "lost {name}")
@@ -419,6 +432,7 @@ pub fn put_answer(
         Answer::Recv(message) => put_message(alloc, out, message),
         Answer::Ping | Answer::Close => out.push_str("ok"),
         Answer::UseNextId(changed) => out.push_str(next_id_name(changed)),
+        Answer::HandshakeDone(said) => out.push_str(handshake_done_name(said)),
         Answer::Poll(Ok(Some(transmit))) => put_transmit(out, transmit, given.saturating_sub(1)),
         Answer::Poll(Ok(None)) => out.push_str("none"),
         Answer::Poll(Err(_)) => out.push_str("failed"),
@@ -453,6 +467,7 @@ pub fn call_name(call: &Call) -> &'static str
         Call::Ping => "ping",
         Call::Close(_) => "close",
         Call::UseNextId => "use_next_id",
+        Call::HandshakeDone => "handshake_done",
         Call::Poll(_) => "poll",
         Call::Timeout(_) => "timeout",
         Call::Deliver(_) => "deliver",

@@ -60,13 +60,14 @@ impl Options {
     }
 
     /// The configuration of an end with these options, with NewReno as its congestion controller.
-    /// None sets a size of datagrams: it is the default one.
+    /// None sets a size of datagrams, which is the default one, nor a first sample: there is none.
     pub fn config(&self) -> Config<NewRenoConfig>
         ensures { result ≡ record { settings = settings_of self.now; factory = default_reno } }
     {
         let mut transport = self.transport;
         transport.initial_mtu(MTU);
         transport.min_mtu(MTU);
+        transport.first_sample(None);
         Config::new(transport, NewRenoConfig::default())
     }
 

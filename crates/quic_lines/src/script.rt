@@ -87,6 +87,7 @@ enum CallName {
     Ping,
     Close,
     UseNextId,
+    HandshakeDone,
     Poll,
     Timeout,
     Deliver,
@@ -139,7 +140,8 @@ impl From<ConfigError> for LineError {
             | ConfigError::IdLength
             | ConfigError::Size
             | ConfigError::Window
-            | ConfigError::KeyLimit => { LineError::BadCommand }
+            | ConfigError::KeyLimit
+            | ConfigError::FirstSample => { LineError::BadCommand }
         }
     }
 }
@@ -486,6 +488,7 @@ fn call_named(name: &str) -> Option<CallName>
         "ping" => Some(CallName::Ping),
         "close" => Some(CallName::Close),
         "use_next_id" => Some(CallName::UseNextId),
+        "handshake_done" => Some(CallName::HandshakeDone),
         "poll" => Some(CallName::Poll),
         "timeout" => Some(CallName::Timeout),
         "deliver" => Some(CallName::Deliver),
@@ -517,6 +520,7 @@ fn call_by(alloc: Global, name: CallName, words: &mut LineWords) -> Result<Call,
         CallName::Ping => Ok(Call::Ping),
         CallName::Close => words.close_call(alloc).map(Call::Close),
         CallName::UseNextId => Ok(Call::UseNextId),
+        CallName::HandshakeDone => Ok(Call::HandshakeDone),
         CallName::Poll => words.moment().map(Call::Poll),
         CallName::Timeout => words.moment().map(Call::Timeout),
         CallName::Deliver => words.delivery().map(Call::Deliver),

@@ -1,5 +1,5 @@
 -- What a call leaves, as cases over the parts of an end that it may change.
-use Rattle.std.proofs.Common.{◌≡◌, ℕ, Bool, true, false, List, [], Option, Some, None, refl}
+use Rattle.std.proofs.Common.{◌≡◌, ℕ, Bool, true, false, List, [], Option, Some, None, Ok, refl}
 use Rattle.std.specs.Prelude.{slice_get, ◌||◌}
 use Rattle.quic_streams_state.specs.State.{Streams}
 use Rattle.quic_machine.specs.Timeouts.{Expiry, close_expired}
@@ -7,7 +7,8 @@ use Rattle.quic_machine.specs.Arrival.{Arrival, delivered_by}
 use Rattle.quic_machine.specs.declared.run.Call.{Call}
 use Rattle.quic_machine.specs.declared.run.Call.TheVariants as calls
 use Rattle.quic_machine.specs.declared.run.Answer.{Answer}
-use Rattle.quic_machine.specs.Parts.{Messaging}
+use Rattle.quic_machine.specs.declared.run.Answer.TheVariants as answers
+use Rattle.quic_machine.specs.Parts.{Messaging, Confirmation, said_done}
 use Rattle.quic_machine.specs.Policy.{Policy}
 use Rattle.quic_wire.specs.Value.{FrameValue, application_close}
 use Rattle.quic_machine.specs.declared.answers.State.{State}
@@ -16,17 +17,18 @@ use Rattle.quic_machine.specs.declared.answers.LostReason.{LostReason}
 use Rattle.quic_machine.specs.declared.answers.LostReason.TheVariants as reasons
 use Rattle.quic_machine.specs.Reasons.{error_close}
 use Rattle.quic_machine.specs.Closing.{ticked}
-use Rattle.quic_machine.specs.End.{End, with_closing, closing_by, with_ping, with_streams, with_messages, with_window}
+use Rattle.quic_machine.specs.End.{End, with_closing, closing_by, with_ping, with_streams, with_messages, with_confirmation, with_done, with_window}
 use Rattle.quic_congestion.specs.Pacer.{Pacing}
 use Rattle.quic_machine.specs.Control.{Control, with_pacing}
 use Rattle.quic_machine.specs.Heard.{Heard}
 use Rattle.quic_machine.specs.Validation.{is_blocked, with_blocked}
 use Rattle.quic_machine.specs.Receive.{received}
 use Rattle.quic_machine.specs.Poll.{polled}
-use Rattle.quic_machine.specs.Calls.{message_told, closed_in, end_after_event}
+use Rattle.quic_machine.specs.Calls.{message_told, confirmation_told, closed_in, end_after_event}
 use Rattle.quic_machine.specs.StreamCalls.{is_on_streams}
 use Rattle.quic_machine.specs.MessageCalls.{is_on_messages, IsMessageAnswer, end_on_messages}
 use Rattle.quic_machine.specs.IdFrames.{IsNextIdAnswer, end_on_next_id}
+use Rattle.quic_machine.specs.Handshake.{done_answer, after_done, end_on_done}
 use Rattle.quic_machine.specs.Machine.{IsAnswer, says_last, AnswersOnStreams, end_on_streams, after_delivered, after_call, end_left}
 use Rattle.quic_machine.specs.InjectionCases.{by_injection}
 use Rattle.quic_machine.specs.LeaveCases.{at_expiry, by_expiry, at_event, by_event}
@@ -59,6 +61,11 @@ abbrev pub uses_next_id : Call → Bool
 uses_next_id calls.UseNextId = true
 uses_next_id call = false
 
+-- whether a call says that the handshake is done
+abbrev pub is_done_call : Call → Bool
+is_done_call calls.HandshakeDone = true
+is_done_call call = false
+
 -- whether a call asks what is to be told
 abbrev pub asks_event : Call → Bool
 asks_event calls.Event = true
@@ -90,6 +97,8 @@ pub record CallsTo (p : Policy) (e : End) (theirs : List (List ℕ)) (call : Cal
   pub waits : (now : ℕ) (b : Bool) → is_timeout call ≡ true → P (close_expired b (with_closing e (ticked e.closing now)))
   -- the next id of the peer is used, or it isn't
   pub changes_id : uses_next_id call ≡ true → (IsAnswer p e theirs call a → IsNextIdAnswer e a) → P (end_on_next_id e a)
+  -- it is said that the handshake is done, or it can't be
+  pub says_handshake : is_done_call call ≡ true → (IsAnswer p e theirs call a → a ≡ answers.HandshakeDone (done_answer e)) → P (end_on_done e a)
   -- a moment at which timers expire, a poll, a delivery, and what is told
   pub times : (now : ℕ) (expiry : Expiry) → is_timeout call ≡ true → P (at_expiry p.words e now expiry)
   pub polls : (now : ℕ) → is_poll call ≡ true → P (polled p e now).end
@@ -105,6 +114,8 @@ pub data Case : Type 0 where
   closes : LostReason → FrameValue → ℕ → Case
   waits : ℕ → Bool → Case
   changes_id : Answer → Case
+  -- HANDSHAKE_DONE waits, or it doesn't
+  confirms : Confirmation → Bool → Case
   times : ℕ → Expiry → Case
   polls : ℕ → Case
   hears : Arrival → List ℕ → Case
@@ -119,6 +130,7 @@ after p e pings = with_ping e true
 after p e (closes reason f now) = closing_by reason f (with_closing e (ticked e.closing now))
 after p e (waits now b) = close_expired b (with_closing e (ticked e.closing now))
 after p e (changes_id a) = end_on_next_id e a
+after p e (confirms c queued) = with_done (with_confirmation e c) queued
 after p e (times now expiry) = at_expiry p.words e now expiry
 after p e (polls now) = (polled p e now).end
 after p e (hears arrival d) = (received p e arrival d).end
@@ -132,6 +144,12 @@ May e call (times now expiry) = is_timeout call ≡ true
 May e call (polls now) = is_poll call ≡ true
 May e call (hears arrival d) = is_delivery call ≡ true
 May e call c = Unit {0}
+
+-- what holds of the end, and of the one whose peer is to be told that the handshake is done, holds
+-- behind that call
+pub by_done : (P : End → Type 0) (e : End) (a : Answer) → P e → P (after_done e) → P (end_on_done e a)
+by_done P e (answers.HandshakeDone (Ok done)) here said = said
+by_done P e a here said = here
 
 -- what holds in each case
 abbrev pub Plain : Policy → End → Call → (End → Type 0) → Type 0
@@ -159,6 +177,7 @@ module _ (p : Policy) (e : End) (theirs : List (List ℕ)) (P : End → Type 0) 
   by_call calls.Ping a c = c.pings
   by_call (calls.Close close) a c = closed_case e.closing.state close.now close.error_code close.reason c.same (c.closes reasons.Application _ close.now tt)
   by_call calls.UseNextId a c = c.changes_id refl (λ is. is)
+  by_call calls.HandshakeDone a c = c.says_handshake refl (λ is. is)
   by_call (calls.Poll now) a c = c.polls now refl
   by_call (calls.Timeout now) a c = by_expiry p e now P c.same (λ b. c.waits now b refl) (λ expiry. c.times now expiry refl)
   by_call (calls.Deliver delivery) a c = delivered_case (slice_get theirs delivery.index) (delivered_by (says_last a) delivery) c.same (λ d. c.hears (delivered_by (says_last a) delivery) d refl)
@@ -179,10 +198,11 @@ module _ (p : Policy) (e : End) (theirs : List (List ℕ)) (P : End → Type 0) 
     closes = λ reason f now own. c (closes reason f now) own;
     waits = λ now b is. c (waits now b) is;
     changes_id = λ is answer. c (changes_id a) tt;
+    says_handshake = λ is answer. by_done P e a (c same tt) (c (confirms said_done true) tt);
     times = λ now expiry is. c (times now expiry) is;
     polls = λ now is. c (polls now) is;
     hears = λ arrival d is. c (hears arrival d) is;
-    tells = λ asks. by_event e P (c (on_messages (message_told e).messages) tt) (λ told. c (tells told) tt);
+    tells = λ asks. by_event e P (c (on_messages (message_told e).messages) tt) (c (confirms (confirmation_told e).confirmation e.waiting.frames.handshake_done) tt) (λ told. c (tells told) tt);
   })
 
   -- what holds of an end, whichever window a poll reads and whether or not it finds that nothing

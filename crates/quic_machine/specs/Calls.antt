@@ -17,7 +17,8 @@ use Rattle.quic_streams_state.specs.Reading.{Told, told_bytes, next_answer, told
 use Rattle.quic_wire.specs.Value.{application_close}
 use Rattle.quic_machine.specs.declared.answers.LostReason.TheVariants as reasons
 use Rattle.quic_machine.specs.Closing.{Closing, ticked, loss_to_tell, after_told}
-use Rattle.quic_machine.specs.End.{End, with_closing, closing_by, with_messages, with_ping}
+use Rattle.quic_machine.specs.Parts.{done_told}
+use Rattle.quic_machine.specs.End.{End, with_closing, closing_by, with_messages, with_confirmation, with_ping}
 
 -- whether an end sends and receives
 abbrev pub is_open : State → Bool
@@ -59,9 +60,15 @@ streams_told e = telling.polled e.streams
 abbrev pub tells_message : End → Bool
 tells_message e = nat_lt 0 e.messages.to_tell
 
--- what the application is told next: that messages came, before all else
+-- whether it is told next that the handshake is confirmed (RFC 9001, section 4.1.2), where no
+-- message is told of
+abbrev pub tells_done : End → Bool
+tells_done e = e.confirmation.to_tell
+
+-- what the application is told next: that messages came, before all else, and then that the
+-- handshake is confirmed
 abbrev pub end_tells : End → Option Event
-end_tells e = if tells_message e then Some events.Message else tells_of (streams_told e).answer e.closing
+end_tells e = if tells_message e then Some events.Message else (if tells_done e then Some events.HandshakeConfirmed else tells_of (streams_told e).answer e.closing)
 
 -- what is left to tell of the end's loss once this was told of streams
 abbrev pub closing_told : Option StreamEvent → Closing → Closing
@@ -72,13 +79,17 @@ closing_told (Some event) c = c
 abbrev pub message_told : End → End
 message_told e = with_messages e (record e.messages { to_tell = e.messages.to_tell - 1 })
 
+-- the end after it was told that the handshake is confirmed
+abbrev pub confirmation_told : End → End
+confirmation_told e = with_confirmation e (done_told e.confirmation)
+
 -- the end after it was told of streams, or of the end
 abbrev pub others_told : End → End
 others_told e = record e { streams = (streams_told e).state; closing = closing_told (streams_told e).answer e.closing }
 
 -- the end after the application was told
 abbrev pub end_after_event : End → End
-end_after_event e = if tells_message e then message_told e else others_told e
+end_after_event e = if tells_message e then message_told e else (if tells_done e then confirmation_told e else others_told e)
 
 -- ---- read (section 2.2)
 

@@ -9,6 +9,7 @@ use Rattle.quic_parameters.specs.ParametersRead.{parameters_at}
 use Rattle.quic_machine.specs.declared.answers.State.TheVariants as states
 use Rattle.quic_machine.specs.declared.answers.ConfigError.{ConfigError}
 use Rattle.quic_machine.specs.declared.answers.ConfigError.TheVariants as config_errors
+use Rattle.quic_config.specs.declared.first_sample.FirstSample.{FirstSample}
 use Rattle.quic_config.specs.Transport.{Settings, TransportSettings, transport_of, first_mtu}
 use Rattle.quic_recovery_core.specs.PendingAcks.{Pending, none_pending}
 use Rattle.quic_recovery_core.specs.AckFrequency.{Frequency, initial_frequency, longest_delay}
@@ -28,7 +29,7 @@ use Rattle.quic_streams_state.specs.declared.state.StreamsState.{StreamsState}
 use Rattle.quic_streams_state.specs.State.{Streams, streams_of, new_streams, after_set_params}
 use Rattle.quic_congestion.specs.Search.{Discovery}
 use Rattle.quic_spaces.specs.Marks.{Counts}
-use Rattle.quic_machine.specs.Parts.{Path, Validation, no_validation, Windows, first_path, Marks, no_marks, Messaging, no_messaging, with_queues, Signals, Waiting, ids_wait}
+use Rattle.quic_machine.specs.Parts.{Path, Validation, no_validation, Windows, first_path, Marks, no_marks, Messaging, no_messaging, with_queues, Confirmation, unconfirmed, Signals, Waiting, ids_wait}
 use Rattle.quic_messages.specs.Messages.{Messages}
 use Rattle.quic_retransmits.specs.Retransmits.{Retransmits}
 use Rattle.quic_machine.specs.Policy.{Policy, keys_policy}
@@ -64,6 +65,8 @@ pub record End : Type 0 where
   -- messages (RFC 9221), and what waits to be sent beside the bytes of streams (section 13.3)
   pub messages : Messaging
   pub waiting : Waiting
+  -- whether the handshake is confirmed (RFC 9001, section 4.1.2)
+  pub confirmation : Confirmation
 
 -- an end with its keys, its random source and its controller, and what it counted
 pub record ConnectionValue (H K R C : Type 0) : Type 0 where
@@ -104,8 +107,8 @@ first_streams side settings theirs = after_set_params (new_streams side settings
 
 -- an end as it is made at a moment for a peer at this address, whose random source answers these
 -- words, and whose controller shows these windows: the first word says which packet number is left
--- out first, and the next ones are the ids that it issues at once, of which the peer has to be told.
--- It has asked its peer for nothing
+-- out first, and the next ones are the ids that it issues at once, of which the peer has to be
+-- told. It has asked its peer for nothing
 abbrev pub silent_end : Side → Settings → Windows → ParameterValues → List ℕ → List ℕ → ℕ → ℕ → Bool → (ℕ → ℕ) → End
 silent_end side settings windows theirs own_id peer_id remote now validated words = record {
   closing = record { clock = now; state = states.Open; reason = None; told = false; close = None; owed = false };
@@ -125,6 +128,7 @@ silent_end side settings windows theirs own_id peer_id remote now validated word
   streams = first_streams side settings theirs;
   messages = no_messaging;
   waiting = ids_wait (drawn_ids (words_behind 1 words) (later_numbers (most_ids theirs.active_connection_id_limit)));
+  confirmation = unconfirmed;
 }
 
 -- the client or the server
@@ -276,6 +280,14 @@ with_ids e ids = record e { ids = ids }
 abbrev pub with_frames : End → Retransmits → End
 with_frames e frames = with_waiting e (record e.waiting { frames = frames })
 
+-- the end whose handshake is confirmed so
+abbrev pub with_confirmation : End → Confirmation → End
+with_confirmation e c = record e { confirmation = c }
+
+-- the end with HANDSHAKE_DONE waiting or not (section 19.20)
+abbrev pub with_done : End → Bool → End
+with_done e waits = with_frames e (record e.waiting.frames { handshake_done = waits })
+
 -- the end with PING waiting or not
 abbrev pub with_ping : End → Bool → End
 with_ping e waits = with_signals e (record e.waiting.signals { ping = waits })
@@ -308,6 +320,19 @@ are_sizes_wrong settings theirs = nat_lt most_payload settings.initial_mtu || na
 abbrev pub is_window_small : Settings → ℕ → Bool
 is_window_small settings window = nat_lt window (2 * first_mtu (transport_of settings))
 
+-- the most that a round trip may have taken, and may vary, that is told as a first sample: a minute
+abbrev pub most_sample : ℕ
+most_sample = 60000000000
+
+-- whether a time of a first sample can't be: none, or more than that
+abbrev pub is_time_wrong : ℕ → Bool
+is_time_wrong time = (time == 0) || nat_lt most_sample time
+
+-- whether a first sample can't be, where one is told (RFC 9002, section 5; the bounds are ours)
+abbrev pub is_sample_wrong : Option FirstSample → Bool
+is_sample_wrong None = false
+is_sample_wrong (Some s) = is_time_wrong s.rtt || is_time_wrong s.variation
+
 -- the least that a key may seal, and may refuse
 abbrev pub least_key_limit : ℕ
 least_key_limit = 16
@@ -327,14 +352,15 @@ are_keys_short limits = nat_lt limits.seals least_key_limit || nat_lt limits.ope
 
 -- why no end is made, want of memory aside, the first in this order: the peer's parameters can't be
 -- read; the own id hasn't eight bytes, or the peer's has none; the sizes of datagrams can't be; the
--- controller's window is too small; or the keys last too short
+-- controller's window is too small; the keys last too short; or the first sample can't be
 abbrev pub refusal_of : {E : Type 0} → Settings → ℕ → KeyLimits → Result ParameterValues E → List ℕ → List ℕ → Option ConfigError
 refusal_of settings window limits (Err e) own_id peer_id = Some config_errors.Parameters
 refusal_of settings window limits (Ok theirs) own_id peer_id =
     if not (length own_id == 8) || (length peer_id == 0) then Some config_errors.IdLength
     else (if are_sizes_wrong settings theirs then Some config_errors.Size
     else (if is_window_small settings window then Some config_errors.Window
-    else (if are_keys_short limits then Some config_errors.KeyLimit else None)))
+    else (if are_keys_short limits then Some config_errors.KeyLimit
+    else (if is_sample_wrong settings.first_sample then Some config_errors.FirstSample else None))))
 
 -- an end whose peer's address isn't validated asks it to answer the next word of its random source,
 -- which answers these words

@@ -5,7 +5,9 @@ use Rattle.std.specs.Prelude.{◌++◌, nat_le, nat_lt, if◌then◌else◌}
 use Rattle.std.specs.List.{list_any}
 use Rattle.std.proofs.lemmas.Bool.{and_parts}
 use Rattle.std.specs.declared.ops.Range.{Range}
-use Rattle.quic_wire.specs.Value.{FrameValue, AckValue, ack, stream, reset_stream, stop_sending, max_data, max_stream_data, max_streams, datagram, new_connection_id, retire_connection_id, path_challenge, path_response, immediate_ack, ack_frequency}
+use Rattle.quic_wire.specs.Value.{FrameValue, AckValue, ack, stream, reset_stream, stop_sending, max_data, max_stream_data, max_streams, datagram, new_connection_id, retire_connection_id, path_challenge, path_response, handshake_done, immediate_ack, ack_frequency}
+use Rattle.quic_wire_core.specs.declared.stream_id.Side.{Side}
+use Rattle.quic_wire_core.specs.declared.stream_id.Side.TheVariants.{Client, Server}
 use Rattle.quic_wire_core.specs.declared.shared.EcnCodepoint.{EcnCodepoint}
 use Rattle.quic_wire.specs.Items.{items}
 use Rattle.quic_wire.specs.declared.frame.InvalidFrame.{InvalidFrame}
@@ -40,9 +42,9 @@ use Rattle.quic_spaces.specs.Marks.{Counts}
 use Rattle.quic_spaces.specs.declared.space.EcnError.{EcnError}
 use Rattle.quic_messages.specs.declared.errors.ReceivedError.{ReceivedError}
 use Rattle.quic_messages.specs.Messages.{received_answer}
-use Rattle.quic_machine.specs.Parts.{Messaging}
+use Rattle.quic_machine.specs.Parts.{Messaging, Confirmation, heard_done}
 use Rattle.quic_machine.specs.Tracking.{TrackedPacket, Carried, acked_by, Verdict, lost_by, after_detection}
-use Rattle.quic_machine.specs.End.{End, with_closing, closed_by, with_numbers, with_ids, with_frames, with_streams, with_messages, with_tracking, with_told, with_marking, with_discovery, with_queued}
+use Rattle.quic_machine.specs.End.{End, side_of, with_closing, closed_by, with_numbers, with_ids, with_frames, with_streams, with_messages, with_tracking, with_told, with_marking, with_discovery, with_queued}
 use Rattle.quic_machine.specs.Opens.{head}
 use Rattle.quic_machine.specs.Migration.{migrated}
 use Rattle.quic_messages.specs.Messages.{without_longer}
@@ -55,7 +57,7 @@ use Rattle.quic_machine.specs.Acked.{request_acked, without_known, reset_acked, 
 use Rattle.quic_paths.specs.Paths.{is_asked}
 use Rattle.quic_paths.specs.Responses.{Response}
 use Rattle.quic_machine.specs.Validation.{Asked, asked_of, path_asked, path_validated, word_of, validated_if}
-use Rattle.quic_machine.specs.Receive.{Fault, broke, too_many_pieces, closed_by_peer, drained_at, exhausted, unopened_in, violation, reason_of, Progress, goes_on, is_above, names_ungiven, message_taken, message_judged, take_message, retired_for, id_judged, retirement_judged, asks_too_soon, frequency_judged, take_frame, take_item, unless_fault, take_items, is_empty, take_payload, asks_in, is_urged, after_taken, dropped, ends_as, by_state, opened_to, opened_as, opening, headed, received_in, is_read, drawn_if, with_ids_drawn, has_migrated, migrated_if, items_taken, received}
+use Rattle.quic_machine.specs.Receive.{Fault, broke, too_many_pieces, closed_by_peer, drained_at, exhausted, unopened_in, violation, reason_of, Progress, goes_on, is_above, names_ungiven, message_taken, message_judged, take_message, retired_for, id_judged, retirement_judged, asks_too_soon, frequency_judged, done_taken, take_frame, take_item, unless_fault, take_items, is_empty, take_payload, asks_in, is_urged, after_taken, dropped, ends_as, by_state, opened_to, opened_as, opening, headed, received_in, is_read, drawn_if, with_ids_drawn, has_migrated, migrated_if, items_taken, received}
 
 -- ---- packets that are acknowledged, and those that are lost
 
@@ -204,7 +206,8 @@ IsApart f = Unit {0}
 
 -- what such a frame may change: ids, and which wait to be told of and to be retired; whether the
 -- peer's address is validated, what is asked of the peer until when, and the answer to it that
--- waits; and what is to be acknowledged, but for the numbers, and how often that was asked for
+-- waits; what is to be acknowledged, but for the numbers, and how often that was asked for; and
+-- whether the handshake is confirmed
 pub record Apart : Type 0 where
   pub ids : Ids
   pub new_cids : List IssuedCid
@@ -215,6 +218,7 @@ pub record Apart : Type 0 where
   pub response : Option Response
   pub acknowledging : Pending
   pub frequency : Frequency
+  pub confirmation : Confirmation
 
 -- the end with that
 abbrev pub with_apart : End → Apart → End
@@ -229,6 +233,7 @@ with_apart e c = record e {
   timers = record e.timers { path_validation = c.moment };
   acknowledging = record c.acknowledging { runs = e.acknowledging.runs };
   frequency = c.frequency;
+  confirmation = c.confirmation;
 }
 
 -- that of an end as it is
@@ -243,6 +248,7 @@ apart_of e = record {
   response = e.waiting.signals.response;
   acknowledging = e.acknowledging;
   frequency = e.frequency;
+  confirmation = e.confirmation;
 }
 
 -- an end where other ids are known, and other ones wait to be told of and to be retired
@@ -359,6 +365,11 @@ apart_leaves P (path_response token) e apart all shorter = go (is_asked e.valida
     go : (b : Bool) → P (validated_if b e)
     go true = all (record (apart_of e) { validated = true; asked = asked_of (path_validated e); moment = None })
     go false = all (apart_of e)
+apart_leaves P handshake_done e apart all shorter = go (side_of e)
+  where
+    go : (side : Side) → P (done_taken side e).end
+    go Client = all (record (apart_of e) { confirmation = heard_done e.confirmation })
+    go Server = all (apart_of e)
 apart_leaves P immediate_ack e apart all shorter = all (record (apart_of e) { acknowledging = record e.acknowledging { due = true } })
 apart_leaves P (ack_frequency f) e apart all shorter = go (is_stale e.frequency.last f.sequence) (asks_too_soon f)
   where

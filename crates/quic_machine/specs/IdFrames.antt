@@ -4,11 +4,13 @@ use Rattle.std.specs.Prelude.{◌≡◌, ◌⊎◌, ℕ, Bool, true, false, nat_
 use Rattle.std.specs.declared.ops.Range.{Range}
 use Rattle.quic_wire.specs.Value.{NewConnectionIdValue}
 use Rattle.quic_retransmits.specs.Retransmits.{after_retire, can_retire, most_retirements}
+use Rattle.quic_machine.specs.declared.answers.EndpointEvent.{EndpointEvent}
+use Rattle.quic_machine.specs.declared.answers.EndpointEvent.TheVariants as endpoint_events
 use Rattle.quic_machine.specs.declared.answers.NextIdError.{NextIdError}
 use Rattle.quic_machine.specs.declared.answers.NextIdError.TheVariants as next_errors
 use Rattle.quic_machine.specs.declared.run.Answer.{Answer}
 use Rattle.quic_machine.specs.declared.run.Answer.TheVariants as answers
-use Rattle.quic_machine.specs.Ids.{Ids, Drawing, destination, words_behind, undrawn_id, retired, may_issue, issued_one, drawn_places, ids_drawn, frame_of, taken_up, retires_for_next, next_used}
+use Rattle.quic_machine.specs.Ids.{Ids, Drawing, destination, words_behind, undrawn_id, retired, may_issue, issued_one, drawn_places, ids_drawn, routes_told, frame_of, taken_up, retires_for_next, next_used}
 use Rattle.quic_machine.specs.End.{End, with_ids, with_frames, words_drawn}
 use Rattle.quic_machine.specs.Sizes.{shortened}
 
@@ -62,6 +64,17 @@ drawing words e = drawn_places e.ids.undrawn (words_behind (words_drawn e) words
 -- the end then
 abbrev pub drawn : (ℕ → ℕ) → End → End
 drawn words e = with_frames (with_ids e (ids_drawn (drawing words e) e.ids)) (record e.waiting.frames { new_cids = (drawing words e).waiting })
+
+-- ---- to which end datagrams go (section 5.2)
+
+-- what whoever routes datagrams to ends is told next: that own ids were issued or retired, since it
+-- was told so
+abbrev pub end_routes : End → Option EndpointEvent
+end_routes e = if e.ids.changed then Some endpoint_events.OwnIdsChanged else None
+
+-- the end once it was told
+abbrev pub end_after_routed : End → End
+end_after_routed e = with_ids e (routes_told e.ids)
 
 -- ---- the next id is used (section 5.1.2)
 

@@ -1,8 +1,8 @@
 -- Connection ids (RFC 9000, section 5.1): the own ones that live, and those of the peer that are
 -- known.
-use Rattle.std.specs.Prelude.{◌≡◌, ℕ, ◌+◌, ◌-◌, ◌^◌, Bool, false, ◌&&◌, ◌==◌, not, nat_lt, min, if◌then◌else◌, List, [], ◌∷◌, ◌++◌, map, filter, length, replicate, set, slice_get, Option, Some, None, option_map, Result, Ok, Err}
+use Rattle.std.specs.Prelude.{◌≡◌, ℕ, ◌+◌, ◌-◌, ◌^◌, Bool, true, false, ◌&&◌, ◌||◌, ◌==◌, not, nat_lt, min, if◌then◌else◌, List, [], ◌∷◌, ◌++◌, map, filter, length, replicate, set, slice_get, Option, Some, None, option_map, Result, Ok, Err}
 use Rattle.std.specs.Int.{w64, to_be_bytes}
-use Rattle.std.specs.List.{range_with_len}
+use Rattle.std.specs.List.{range_with_len, list_any}
 use Rattle.std.specs.declared.ops.Range.{Range}
 use Rattle.quic_wire_core.specs.declared.shared.IssuedCid.{IssuedCid}
 use Rattle.quic_wire_core.specs.TransportError.{ErrorValue}
@@ -12,18 +12,22 @@ use Rattle.quic_ids.specs.CidState.{OwnIds, initial_ids, after_new, after_retire
 use Rattle.quic_ids.specs.CidQueue.{PeerIds, kept_ids, next_after, after_next, after_insert}
 use Rattle.quic_ids.specs.declared.cid_queue.InsertError.{InsertError}
 
--- an id, and the number under which it was issued
+-- an id, the number under which it was issued, and the token by which a stateless reset of it is
+-- known (section 10.3): the first id has none here, as its token would be a transport parameter
 pub record NumberedId : Type 0 where
   pub number : ℕ
   pub id : List ℕ
+  pub token : Option (List ℕ)
 
 -- the connection ids of an end: its own ones, and those of its peer (RFC 9000, section 5.1)
 pub record Ids : Type 0 where
   -- own ids (section 5.1.1): how many numbers were issued, which of them live, and the ids of
-  -- these; behind how many others those wait to be told that were issued for the packet that is
-  -- read, and are drawn behind it; and how many may live at once
+  -- these; whether one was issued or retired since whoever routes datagrams was told so; behind how
+  -- many others those wait to be told that were issued for the packet that is read, and are drawn
+  -- behind it; and how many may live at once
   pub own : OwnIds
   pub living : List NumberedId
+  pub changed : Bool
   pub undrawn : List ℕ
   pub limit : ℕ
   -- the peer's (section 5.1.2): the one in use, and those known behind it
@@ -45,15 +49,6 @@ destination ids = ids.peer.id
 abbrev pub own_id : List NumberedId → List ℕ
 own_id [] = []
 own_id (i ∷ is) = i.id
-
--- as many of the one as of the other
-abbrev pub AreAsMany : {A B : Type 0} → List A → List B → Type 0
-AreAsMany xs ys = length xs ≡ length ys
-
--- numbers and their ids, one by one
-abbrev pub numbered : List ℕ → List (List ℕ) → List NumberedId
-numbered (n ∷ ns) (id ∷ ids) = record { number = n; id = id } ∷ numbered ns ids
-numbered ns ids = []
 
 -- ---- ids are drawn
 
@@ -91,16 +86,17 @@ most_ids limit = min limit kept_ids
 abbrev pub later_numbers : ℕ → List ℕ
 later_numbers limit = range_with_len 1 (limit - 1)
 
--- an id with its number
+-- an id with its number and its token
 abbrev pub with_number : IssuedCid → NumberedId
-with_number cid = record { number = cid.sequence; id = cid.id }
+with_number cid = record { number = cid.sequence; id = cid.id; token = Some cid.reset_token }
 
 -- both first ids have number 0, and were exchanged before; the later own ones are drawn of these
 -- words
 abbrev pub first_ids : List ℕ → List ℕ → ℕ → ℕ → (ℕ → ℕ) → Ids
 first_ids own theirs limit now words = record {
   own = initial_ids own_id_length None now limit;
-  living = record { number = 0; id = own } ∷ map with_number (drawn_ids words (later_numbers limit));
+  living = record { number = 0; id = own; token = None } ∷ map with_number (drawn_ids words (later_numbers limit));
+  changed = true;
   undrawn = [];
   limit = limit;
   peer = record { active = 0; id = theirs; later = [] };
@@ -110,7 +106,11 @@ first_ids own theirs limit now words = record {
 
 -- it lives no more; a number that was never issued changes nothing
 abbrev pub retired : ℕ → Ids → Ids
-retired n ids = record ids { own = after_retirement ids.own n; living = filter (λ i. not (i.number == n)) ids.living }
+retired n ids = record ids {
+  own = after_retirement ids.own n;
+  living = filter (λ i. not (i.number == n)) ids.living;
+  changed = ids.changed || list_any (λ i. i.number == n) ids.living;
+}
 
 -- whether fewer live than may
 abbrev pub is_more : Result Bool ErrorValue → Bool
@@ -132,6 +132,7 @@ abbrev pub issued_one : ℕ → ℕ → Ids → Ids
 issued_one place now ids = record ids {
   own = after_new ids.own (undrawn_id ids.own.issued ∷ []) now;
   living = ids.living ++ with_number (undrawn_id ids.own.issued) ∷ [];
+  changed = true;
   undrawn = ids.undrawn ++ place ∷ [];
 }
 
@@ -159,6 +160,12 @@ drawn_places (place ∷ places) words d = drawn_places places (words_behind word
 -- the own ids that live then
 abbrev pub ids_drawn : Drawing → Ids → Ids
 ids_drawn d ids = record ids { living = d.living; undrawn = [] }
+
+-- ---- whoever routes datagrams
+
+-- it was told that own ids were issued or retired
+abbrev pub routes_told : Ids → Ids
+routes_told ids = record ids { changed = false }
 
 -- ---- ids of the peer (section 19.15)
 

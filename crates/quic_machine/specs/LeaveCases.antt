@@ -18,7 +18,7 @@ use Rattle.quic_machine.specs.Acked.{packets_lost, losses_detected, verdict}
 use Rattle.quic_machine.specs.FrameCases.{packets_lost_keep, by_searched}
 use Rattle.quic_machine.specs.Idle.{keep_alive_expired}
 use Rattle.quic_machine.specs.Timeouts.{acks_expired, loss_judged, loss_expired, pacing_expired, Expiry, expiry_at, after_busy, unless_idle, after_others, after_expiry, close_expired, timed_out_in, timed_out}
-use Rattle.quic_machine.specs.Calls.{streams_told, closing_told, tells_message, message_told, others_told, end_after_event}
+use Rattle.quic_machine.specs.Calls.{streams_told, closing_told, tells_message, tells_done, confirmation_told, message_told, others_told, end_after_event}
 
 -- ---- a timeout
 
@@ -243,10 +243,12 @@ by_others e P changes = go (streams_told e).answer
     go None = loss_case (loss_to_tell e.closing)
     go (Some event) = changes e.closing.told
 
--- what holds once a message was told of, and in these cases, holds after an event
-pub by_event : (e : End) (P : End → Type 0) → P (message_told e) → ((told : Bool) → P (at_event e told)) → P (end_after_event e)
-by_event e P message changes = go (tells_message e)
+-- what holds once a message was told of, or that the handshake is confirmed, and in these cases,
+-- holds after an event
+pub by_event : (e : End) (P : End → Type 0) → P (message_told e) → P (confirmation_told e) → ((told : Bool) → P (at_event e told)) → P (end_after_event e)
+by_event e P message confirmation changes = go (tells_message e) (tells_done e)
   where
-    go : (b : Bool) → P (if b then message_told e else others_told e)
-    go true = message
-    go false = by_others e P changes
+    go : (b c : Bool) → P (if b then message_told e else (if c then confirmation_told e else others_told e))
+    go true c = message
+    go false true = confirmation
+    go false false = by_others e P changes

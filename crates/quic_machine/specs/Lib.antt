@@ -24,6 +24,7 @@ pub mod Sizes
 pub mod StreamCalls
 pub mod MessageCalls
 pub mod IdFrames
+pub mod Handshake
 pub mod Lacking
 pub mod Machine
 pub mod Start

@@ -35,6 +35,7 @@ use Rattle.quic_machine.specs.Calls.{is_open, end_tells, end_after_event, end_af
 use Rattle.quic_machine.specs.StreamCalls.{IsStreamAnswer, after_on_streams}
 use Rattle.quic_machine.specs.MessageCalls.{IsMessageAnswer, end_on_messages}
 use Rattle.quic_machine.specs.IdFrames.{IsNextIdAnswer, end_on_next_id}
+use Rattle.quic_machine.specs.Handshake.{done_answer, end_on_done}
 use Rattle.quic_machine.specs.Receive.{received, told_received}
 use Rattle.quic_machine.specs.Poll.{polled, told_polled}
 use Rattle.quic_machine.specs.Lacking.{LacksWhere}
@@ -74,6 +75,7 @@ IsAnswer p e theirs calls.Recv a = IsMessageAnswer e calls.Recv a
 IsAnswer p e theirs calls.Ping a = a ≡ answers.Ping
 IsAnswer p e theirs (calls.Close close) a = a ≡ answers.Close
 IsAnswer p e theirs calls.UseNextId a = IsNextIdAnswer e a
+IsAnswer p e theirs calls.HandshakeDone a = a ≡ answers.HandshakeDone (done_answer e)
 IsAnswer p e theirs (calls.Poll now) a = (a ≡ answers.Poll (polled p e now).answer) ⊎ (a ≡ answers.Poll (Err (record {})))
 IsAnswer p e theirs (calls.Timeout now) a = (a ≡ answers.Timeout (timed_out p e now).answer) ⊎ (a ≡ answers.Timeout (Err (record {})))
 IsAnswer p e theirs (calls.Deliver delivery) a = IsDelivered p e delivery (slice_get theirs delivery.index) a
@@ -101,6 +103,7 @@ after_call p e theirs calls.Recv a = end_on_messages e calls.Recv a
 after_call p e theirs calls.Ping a = end_after_ping e
 after_call p e theirs (calls.Close close) a = end_after_close close.now close.error_code close.reason e
 after_call p e theirs calls.UseNextId a = end_on_next_id e a
+after_call p e theirs calls.HandshakeDone a = end_on_done e a
 after_call p e theirs (calls.Poll now) a = (polled p e now).end
 after_call p e theirs (calls.Timeout now) a = (timed_out p e now).end
 after_call p e theirs (calls.Deliver delivery) a = after_delivered p e (delivered_by (says_last a) delivery) (slice_get theirs delivery.index)

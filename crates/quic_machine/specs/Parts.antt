@@ -1,9 +1,9 @@
 -- Parts of an end: each has its place, so that a new field moves no other.
-use Rattle.std.specs.Prelude.{ℕ, Bool, true, false, ◌||◌, List, Option, None}
+use Rattle.std.specs.Prelude.{ℕ, Bool, true, false, ◌||◌, not, List, Option, None}
 use Rattle.std.specs.Option.{is_some}
 use Rattle.quic_wire_core.specs.declared.shared.IssuedCid.{IssuedCid}
-use Rattle.quic_time.specs.Rtt.{Rtt, assumed_rtt}
-use Rattle.quic_config.specs.Transport.{TransportSettings, first_mtu}
+use Rattle.quic_time.specs.Rtt.{Rtt, best_rtt}
+use Rattle.quic_config.specs.Transport.{TransportSettings, first_mtu, first_estimate, first_behind_sample}
 use Rattle.quic_congestion.specs.Pacer.{Pacing, new_pacing}
 use Rattle.quic_congestion.specs.Search.{Discovery, first_discovery, after_limit}
 use Rattle.quic_retransmits.specs.Retransmits as retransmits
@@ -21,6 +21,29 @@ pub record Validation : Type 0 where
 -- nothing was asked
 abbrev pub no_validation : Validation
 no_validation = record { challenge = None; drawn = 0 }
+
+-- whether the handshake is confirmed (RFC 9001, section 4.1.2): at a server, whose application said
+-- that it is done, and at a client, to which HANDSHAKE_DONE came; and whether a client's
+-- application has still to be told
+pub record Confirmation : Type 0 where
+  pub confirmed : Bool
+  pub to_tell : Bool
+
+-- nobody said so
+abbrev pub unconfirmed : Confirmation
+unconfirmed = record { confirmed = false; to_tell = false }
+
+-- a server's application said so
+abbrev pub said_done : Confirmation
+said_done = record { confirmed = true; to_tell = false }
+
+-- HANDSHAKE_DONE came: the application is to be told of the first
+abbrev pub heard_done : Confirmation → Confirmation
+heard_done c = record { confirmed = true; to_tell = c.to_tell || not c.confirmed }
+
+-- the application was told
+abbrev pub done_told : Confirmation → Confirmation
+done_told c = record c { to_tell = false }
 
 -- the path to the peer
 pub record Path : Type 0 where
@@ -64,10 +87,10 @@ first_path remote validated settings limit windows now = record {
   generation = 0;
   discovery = after_limit limit (first_discovery true None settings);
   blocked = false;
-  rtt = assumed_rtt settings.initial_rtt;
-  first_after_rtt = None;
+  rtt = first_estimate settings;
+  first_after_rtt = first_behind_sample settings;
   window = windows.present;
-  pacing = new_pacing settings.initial_rtt windows.initial (first_mtu settings) now;
+  pacing = new_pacing (best_rtt (first_estimate settings)) windows.initial (first_mtu settings) now;
   app_limited = false;
   marking = true;
 }

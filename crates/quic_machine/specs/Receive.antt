@@ -41,7 +41,7 @@ use Rattle.quic_recovery_core.specs.PendingAcks.{Pending, after_insert, after_pa
 use Rattle.quic_recovery_core.specs.AckFrequency.{micros, is_stale}
 use Rattle.quic_time.specs.Clocks.{granularity}
 use Rattle.quic_time.specs.Timers.{Timers}
-use Rattle.quic_machine.specs.Parts.{Messaging}
+use Rattle.quic_machine.specs.Parts.{Messaging, heard_done}
 use Rattle.quic_spaces.specs.Acknowledging.{ack_due, with_due}
 use Rattle.quic_spaces.specs.Marks.{after_mark, is_congested}
 use Rattle.quic_streams_state.specs.declared.state.StreamsState.{StreamsState}
@@ -53,7 +53,7 @@ use Rattle.quic_messages.specs.Messages.{received_answer, after_received}
 use Rattle.quic_time.specs.Clocks.{saturated}
 use Rattle.quic_machine.specs.Policy.{Policy}
 use Rattle.quic_machine.specs.Idle.{packet_heard}
-use Rattle.quic_machine.specs.End.{End, side_of, with_closing, closed_by, drained_by, with_numbers, with_acknowledging, with_frequency, with_frames, with_streams, with_messages, with_ack_timer, with_loss_timer}
+use Rattle.quic_machine.specs.End.{End, side_of, with_closing, closed_by, drained_by, with_numbers, with_acknowledging, with_frequency, with_frames, with_streams, with_messages, with_confirmation, with_ack_timer, with_loss_timer}
 use Rattle.quic_machine.specs.Calls.{is_open}
 use Rattle.quic_machine.specs.Opens.{own_id_length, head}
 pub use Rattle.quic_machine.specs.Opens.{drop_of}
@@ -120,8 +120,8 @@ pub record Progress : Type 0 where
 abbrev pub goes_on : End → Progress
 goes_on e = record { end = e; fault = None }
 
--- a frame that only servers send: a server that gets one has a peer that breaks the rules (RFC
--- 9000, sections 19.7 and 19.20)
+-- NEW_TOKEN, which only servers send: a server that gets one has a peer that breaks the rules (RFC
+-- 9000, section 19.7)
 abbrev pub fault_at : Side → Option Fault
 fault_at Client = None
 fault_at Server = Some violation
@@ -247,6 +247,13 @@ frequency_judged false false f e = goes_on (acknowledging_as f e)
 abbrev pub take_frequency : AckFrequencyValue → End → Progress
 take_frequency f e = frequency_judged (is_stale e.frequency.last f.sequence) (asks_too_soon f) f e
 
+-- HANDSHAKE_DONE comes: the handshake is confirmed at a client (RFC 9001, section 4.1.2), of which
+-- its application is told at the first; a server that gets one has a peer that breaks the rules
+-- (RFC 9000, section 19.20)
+abbrev pub done_taken : Side → End → Progress
+done_taken Client e = goes_on (with_confirmation e (heard_done e.confirmation))
+done_taken Server e = record { end = e; fault = Some violation }
+
 -- what a frame makes of the end; those of other kinds are read, held to their rule of ids and
 -- counts, and do nothing yet
 abbrev pub take_frame : FrameValue → End → Progress
@@ -263,7 +270,7 @@ take_frame (application_close c) e = take_close (by_application c) e
 take_frame (path_challenge token) e = goes_on (path_asked token e)
 take_frame (path_response token) e = goes_on (path_answered token e)
 take_frame (new_token t) e = record { end = e; fault = fault_at (side_of e) }
-take_frame handshake_done e = record { end = e; fault = fault_at (side_of e) }
+take_frame handshake_done e = done_taken (side_of e) e
 take_frame (new_connection_id f) e = take_new_id f e
 take_frame (retire_connection_id n) e = take_retirement n e
 take_frame immediate_ack e = goes_on (ack_required e)

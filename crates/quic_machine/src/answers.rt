@@ -111,6 +111,8 @@ pub enum Event {
     Stream(StreamEvent),
     /// A message came while none was unread (RFC 9221; quinn-proto's `Event::DatagramReceived`).
     Message,
+    /// The handshake is confirmed: a client's first HANDSHAKE_DONE came (RFC 9001, section 4.1.2).
+    HandshakeConfirmed,
     /// The end is lost. It is told once, and never of an end that has failed.
     Lost(LostReason),
 }
@@ -120,7 +122,24 @@ impl fmt::Display for Event {
         match self {
             Event::Stream(event) => write!(f, "{event}"),
             Event::Message => f.write_str("a message came"),
+            Event::HandshakeConfirmed => f.write_str("the handshake is confirmed"),
             Event::Lost(reason) => write!(f, "connection lost: {reason}"),
+        }
+    }
+}
+
+/// What whoever routes datagrams to ends is told (quinn-proto's `EndpointEvent`).
+#[derive(Clone, Copy, Debug, PartialEq, Eq)]
+pub enum EndpointEvent {
+    /// Own connection ids were issued or retired (RFC 9000, sections 5.1.1 and 5.1.2): those that
+    /// live are others now.
+    OwnIdsChanged,
+}
+
+impl fmt::Display for EndpointEvent {
+    fn fmt<W: fmt::Write>(&self, f: &mut fmt::Formatter<W>) -> fmt::Result {
+        match self {
+            EndpointEvent::OwnIdsChanged => f.write_str("own ids were issued or retired"),
         }
     }
 }
@@ -225,6 +244,20 @@ pub enum NextIdError {
     Memory,
 }
 
+/// Why a call that says that the handshake is done changes nothing; tested in this order.
+#[derive(Clone, Copy, Debug, PartialEq, Eq, Error)]
+pub enum HandshakeDoneError {
+    /// The end is a client: only a server says so (RFC 9000, section 19.20).
+    #[error("only a server says that the handshake is done")]
+    Client,
+    /// It was said before.
+    #[error("it was said before that the handshake is done")]
+    Again,
+    /// The end isn't open.
+    #[error("the end isn't open")]
+    NotOpen,
+}
+
 /// Why no end was made; tested in this order.
 #[derive(Clone, Copy, Debug, PartialEq, Eq, Error)]
 pub enum ConfigError {
@@ -243,6 +276,9 @@ pub enum ConfigError {
     /// The own key may seal fewer than 16 packets, or the peer's may refuse fewer.
     #[error("a key with a limit below 16 packets")]
     KeyLimit,
+    /// The time or the variation of the first sample is 0 or above 60 s.
+    #[error("a first sample out of range")]
+    FirstSample,
     /// Out of memory: an allocation failed.
     #[error("out of memory")]
     Memory,

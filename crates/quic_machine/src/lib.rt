@@ -8,7 +8,8 @@ mod peer_close;
 mod run;
 
 pub use answers::{
-    ConfigError, DropReason, Event, Failed, LostReason, NextIdError, Received, State, Transmit,
+    ConfigError, DropReason, EndpointEvent, Event, Failed, HandshakeDoneError, LostReason,
+    NextIdError, Received, State, Transmit,
 };
 pub use peer_close::PeerClose;
 pub use quic_config::{IdleTimeout, TransportConfig};

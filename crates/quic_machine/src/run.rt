@@ -1,7 +1,9 @@
 //! What comes to two ends, and what is answered and seen then.
 ghost use Rattle.std.specs.Prelude.{◌≡◌};
 
-use crate::answers::{Event, Failed, LostReason, NextIdError, Received, State, Transmit};
+use crate::answers::{
+    Event, Failed, HandshakeDoneError, LostReason, NextIdError, Received, State, Transmit,
+};
 use bytes::Bytes;
 use quic_assembler::Chunk;
 use quic_messages::SendDatagramError;
@@ -56,6 +58,8 @@ pub enum Call {
     Close(CloseCall),
     /// Changes to the next id that the peer gave (`Connection::use_next_id`).
     UseNextId,
+    /// Says that the handshake is done (`Connection::handshake_done`).
+    HandshakeDone,
     /// Asks for a datagram at this moment (`Connection::poll_transmit`).
     Poll(Instant),
     /// Lets timers expire that are set up to this moment (`Connection::handle_timeout`).
@@ -192,6 +196,8 @@ pub enum Answer {
     Close,
     /// The next id is in use, or why it isn't.
     UseNextId(Result<(), NextIdError>),
+    /// HANDSHAKE_DONE waits to go, or why it doesn't.
+    HandshakeDone(Result<(), HandshakeDoneError>),
     /// The datagram that was given, or `None` where nothing waits to go; or that the end failed.
     Poll(Result<Option<Transmit>, Failed>),
     /// The timers were handled; or the end failed.

@@ -1,6 +1,7 @@
 -- Which id a datagram that was sent is decoded to.
-use Rattle.std.proofs.Common.{◌≡◌, ◌+◌, ◌-◌, ◌/◌, ◌<◌, ◌≤◌, ◌∷◌, ◌++◌, length, take, drop, true, refl, ◌∙◌, ap, arith, length-append}
-use Rattle.std.specs.Prelude.{nat_le}
+use Rattle.std.proofs.Common.{◌≡◌, ◌+◌, ◌-◌, ◌/◌, ◌<◌, ◌≤◌, Bool, List, [], ◌∷◌, ◌++◌, length, take, drop, true, refl, ◌∙◌, ap, arith, length-append}
+use Rattle.std.specs.Prelude.{nat_le, ◌||◌, map}
+use Rattle.std.specs.List.{list_any}
 use Rattle.std.proofs.lemmas.Bool.{le-ltb, le-leb, lt-leb}
 use Rattle.std.proofs.lemmas.Cmp.{nat_list_eq_equiv}
 use Rattle.std.proofs.lemmas.List.{take_at}
@@ -11,6 +12,11 @@ use Rattle.quic_packet.specs.Header.{first_byte}
 use Rattle.quic_packet.specs.Destination.{accepted, KnownIsMember, SentIsDecoded, FixedLengthFinds}
 use Rattle.quic_packet.proofs.Numbers.{fewest}
 use Rattle.quic_packet.proofs.Opening.{length_of_bytes}
+
+-- a test of what each element gives
+pub any_mapped : {X Y : Type 0} (p : X → Bool) (f : Y → X) (ys : List Y) → list_any (λ y. p (f y)) ys ≡ list_any p (map f ys)
+any_mapped p f [] = refl
+any_mapped p f (y ∷ ys) = ap (λ b. p (f y) || b) (any_mapped p f ys)
 
 -- the test of known ids is membership
 pub known_is_member : KnownIsMember

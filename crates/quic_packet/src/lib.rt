@@ -7,7 +7,7 @@ mod packet;
 mod sealing;
 
 pub use packet::{
-    ConnectionIdParser, FixedLengthConnectionIdParser, HeaderError, PacketNumber, ShortHeader,
-    TooShort,
+    ConnectionIdParser, FixedLengthConnectionIdParser, HasId, HeaderError, PacketNumber,
+    ShortHeader, TooShort,
 };
 pub use sealing::{Opened, open_packet, seal_packet, seal_reserved, width_in};

@@ -1,5 +1,5 @@
 //! Packet numbers and short headers (RFC 9000, sections 17.1 and 17.3.1).
-ghost use Rattle.std.specs.Prelude.{◌≡◌, ℕ, ◌+◌, ◌-◌, ◌/◌, ◌^◌, ◌<◌, ◌≤◌, List, Option, Some, None, IfOk, OnOk, OnErr, MatchResult, ◌++◌, length, take, vec_len, vec_capacity};
+ghost use Rattle.std.specs.Prelude.{◌≡◌, ℕ, ◌+◌, ◌-◌, ◌/◌, ◌^◌, ◌<◌, ◌≤◌, List, Option, Some, None, IfOk, OnOk, OnErr, MatchResult, ◌++◌, map, length, take, vec_len, vec_capacity};
 ghost use Rattle.bytes.specs.Filled.{UsesSpare, UsesMaxSpare};
 ghost use Rattle.quic_packet.specs.Number.{truncated, window, width_for, IsFewest, number_bytes, residue_of, expanded, IsExpansion};
 ghost use Rattle.quic_packet.specs.Header.{first_byte, header_bytes};
@@ -241,11 +241,31 @@ pub enum HeaderError {
     UnknownId,
 }
 
+/// What has a connection id: the id itself, or what is kept beside it.
+pub trait HasId {
+    // The bytes of the id.
+    ghost id_of: { Self → List ℕ };
+
+    /// The id.
+    fn connection_id(&self) -> &ConnectionId
+        ensures { result.now ≡ id_of self.now };
+}
+
+impl HasId for ConnectionId {
+    ghost id_of = { λ id. id };
+
+    fn connection_id(&self) -> &ConnectionId {
+        self
+    }
+}
+
 /// Whether one of the known ids has these bytes.
-fn is_known(id: &ConnectionId, known: &[ConnectionId]) -> bool
-    ensures { result ≡ is_known id.now known.now }
+fn is_known<I: HasId>(id: &ConnectionId, known: &[I]) -> bool
+    ensures { result ≡ is_known id.now (map I.id_of known.now) }
 {
-    known.iter().any(|x| id.as_slice() == x.as_slice())
+    known
+        .iter()
+        .any(|x| id.as_slice() == x.connection_id().as_slice())
 }
 
 /// The header of a 1-RTT packet (RFC 9000, 17.3.1). Spin, reserved and key phase bits are
@@ -302,7 +322,7 @@ impl ShortHeader {
         self.number.put(out);
     }
 
-    /// The destination id of a datagram, which is one of the `known` ids.
+    /// The destination id of a datagram, which one of `known` has.
     ///
     /// # Errors
     ///
@@ -310,13 +330,13 @@ impl ShortHeader {
     ///   bytes stand behind the ID.
     /// - [`HeaderError::NotShort`]: the header is a long one.
     /// - [`HeaderError::FixedBit`]: the header is a short one, and its fixed bit is 0.
-    /// - [`HeaderError::UnknownId`]: the ID isn't one of `known`.
-    pub fn decode<P: ConnectionIdParser>(
+    /// - [`HeaderError::UnknownId`]: none of `known` has the ID.
+    pub fn decode<P: ConnectionIdParser, I: HasId>(
         datagram: &[u8],
         parser: &P,
-        known: &[ConnectionId],
+        known: &[I],
     ) -> Result<ConnectionId, HeaderError>
-        ensures decoded { result ≡ decoded (P.parsed parser.now) known.now datagram.now }
+        ensures decoded { result ≡ decoded (P.parsed parser.now) (map I.id_of known.now) datagram.now }
         ensures room { IfOk result (λ id. 1 + length id + 20 ≤ length datagram.now) }
     {
         let Some((&first, rest)) = datagram.split_first() else {

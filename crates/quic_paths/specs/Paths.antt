@@ -2,7 +2,7 @@
 use Rattle.std.specs.Prelude.{◌≡◌, ℕ, ◌+◌, ◌*◌, Bool, true, false, not, ◌&&◌, ◌==◌, nat_lt, if◌then◌else◌, List, [], ◌∷◌, Option, Some, None}
 use Rattle.quic_time.specs.Clocks.{saturated}
 use Rattle.quic_time.specs.Rtt.{Rtt, assumed_rtt, best_rtt}
-use Rattle.quic_config.specs.Transport.{TransportSettings, first_mtu}
+use Rattle.quic_config.specs.Transport.{TransportSettings, first_mtu, first_estimate, first_behind_sample}
 use Rattle.quic_congestion.specs.Pacer.{Pacing, new_pacing}
 use Rattle.quic_congestion.specs.Search.{Discovery, first_discovery, after_reset}
 use Rattle.quic_paths.specs.InFlight.{Flight, no_flight, flight_with, flight_without}
@@ -41,9 +41,9 @@ pub record PathValue (C : Type 0) : Type 0 where
 abbrev pub new_path : {C : Type 0} → ℕ → Bool → Option ℕ → ℕ → ℕ → TransportSettings → C → ℕ → PathValue C
 new_path remote searches limit generation now settings controller initial = record {
   remote = remote;
-  rtt = assumed_rtt settings.initial_rtt;
+  rtt = first_estimate settings;
   congestion = controller;
-  pacing = new_pacing settings.initial_rtt initial (first_mtu settings) now;
+  pacing = new_pacing (best_rtt (first_estimate settings)) initial (first_mtu settings) now;
   in_flight = no_flight;
   marks = true;
   challenge = None;
@@ -52,7 +52,7 @@ new_path remote searches limit generation now settings controller initial = reco
   received = 0;
   sent = 0;
   discovery = first_discovery searches limit settings;
-  first_after_rtt = None;
+  first_after_rtt = first_behind_sample settings;
   generation = generation;
 }
 
@@ -76,7 +76,9 @@ next_path remote prev generation now window = record {
   generation = generation;
 }
 
--- what was measured is forgotten at a moment, with a controller that begins with this window
+-- what was measured is forgotten at a moment, with a controller that begins with this window; a
+-- sample that was taken before the connection began is one of the path as it was, and counts no
+-- more
 abbrev pub path_after_reset : {C : Type 0}
     → PathValue C → ℕ → TransportSettings → C → ℕ → PathValue C
 path_after_reset path now settings controller initial = record path {

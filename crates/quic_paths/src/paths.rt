@@ -1,6 +1,6 @@
 //! A path to the peer (RFC 9000, sections 8 and 9; quinn-proto's `paths`).
 ghost use Rattle.std.specs.Prelude.{◌≡◌, ◌==◌, IfOk};
-ghost use Rattle.quic_config.specs.Transport.{first_mtu};
+ghost use Rattle.quic_config.specs.Transport.{first_mtu, first_estimate};
 ghost use Rattle.quic_congestion.specs.Search.{first_discovery};
 ghost use Rattle.quic_paths.specs.InFlight.{CanJoin, CanLeave};
 ghost use Rattle.quic_paths.specs.Paths.{new_path, next_path, path_after_reset, path_with, path_without, path_after_received, path_after_sent, is_blocked, path_challenged, challenge_to_send, path_after_challenge, answers, path_answered};
@@ -68,10 +68,10 @@ impl<C> Model for PathData<C> {
 }
 
 impl<C: Controller> PathData<C> {
-    /// A path to this address made now, of which nothing was measured and whose peer isn't
-    /// validated. The factory makes its controller for the size of datagrams that the settings
-    /// begin with. A greater one is looked for where that is allowed and configured, within the
-    /// peer's `max_udp_payload_size`, in bytes, if it is known.
+    /// A path to this address made now, of which nothing was measured but what the settings say,
+    /// and whose peer isn't validated. The factory makes its controller for the size of datagrams
+    /// that the settings begin with. A greater one is looked for where that is allowed and
+    /// configured, within the peer's `max_udp_payload_size`, in bytes, if it is known.
     pub fn new<F: ControllerFactory<Controller = C>>(
         remote: Address,
         allow_mtud: bool,
@@ -86,20 +86,20 @@ impl<C: Controller> PathData<C> {
             result ≡ new_path remote allow_mtud peer_max_udp_payload_size generation now config.now controller window }
     {
         let mtu = config.get_initial_mtu();
-        let initial_rtt = config.get_initial_rtt();
+        let rtt = first_estimate(config);
         let congestion = factory.build(now, mtu);
         PathData {
             remote,
-            rtt: RttEstimator::new(initial_rtt),
+            rtt,
             sending_ecn: true,
-            pacing: Pacer::new(initial_rtt, congestion.initial_window(), mtu, now),
+            pacing: Pacer::new(rtt.get(), congestion.initial_window(), mtu, now),
             congestion,
             mtud: first_mtud(allow_mtud, peer_max_udp_payload_size, config),
             challenge: None,
             challenge_pending: false,
             in_flight: InFlight::new(),
             validated: false,
-            first_packet_after_rtt_sample: None,
+            first_packet_after_rtt_sample: config.get_first_sample().map(|_| 0),
             total_sent: 0,
             total_recvd: 0,
             generation,
@@ -144,8 +144,8 @@ impl<C: Controller> PathData<C> {
     }
 
     /// Forgets now what was measured: round trip, controller, path MTU discovery and pacer are as
-    /// on a new path, within the peer's limit that is known. The rest stays. It is for a path of
-    /// which it is known that it changed.
+    /// on a new path of which no sample was taken before, within the peer's limit that is known.
+    /// The rest stays. It is for a path of which it is known that it changed.
     pub fn reset<F: ControllerFactory<Controller = C>>(
         &mut self,
         now: Instant,
@@ -163,6 +163,17 @@ impl<C: Controller> PathData<C> {
         self.pacing = Pacer::new(initial_rtt, congestion.initial_window(), mtu, now);
         self.congestion = congestion;
         self.mtud.reset(mtu, config.get_min_mtu());
+    }
+}
+
+/// What is known of the round trip as the connection begins: a sample that was taken before, or
+/// else it is assumed (RFC 9002, section 5).
+fn first_estimate(config: &TransportConfig) -> RttEstimator
+    ensures { result ≡ first_estimate config.now }
+{
+    match config.get_first_sample() {
+        Some(sample) => RttEstimator::with_first_sample(sample.rtt, sample.variation),
+        None => RttEstimator::new(config.get_initial_rtt()),
     }
 }
 

@@ -30,6 +30,7 @@ refusal_text config_errors.IdLength = Some (codes "idlength")
 refusal_text config_errors.Size = Some (codes "size")
 refusal_text config_errors.Window = Some (codes "window")
 refusal_text config_errors.KeyLimit = Some (codes "keylimit")
+refusal_text config_errors.FirstSample = Some (codes "firstsample")
 refusal_text config_errors.Memory = None
 
 -- the transport parameters of an end with these options, in the order of their ids

@@ -68,6 +68,7 @@ pub(crate) fn refusal_name(error: ConfigError) -> Result<&'static str, LineError
         ConfigError::Size => Ok("size"),
         ConfigError::Window => Ok("window"),
         ConfigError::KeyLimit => Ok("keylimit"),
+        ConfigError::FirstSample => Ok("firstsample"),
         ConfigError::Memory => Err(LineError::OutOfMemory),
     }
 }

@@ -129,8 +129,9 @@ impl Application for Client {
                 Ok(())
             }
             Event::Lost(reason) => bail!("the client lost the connection: {reason}"),
-            // The server opens no streams, stops none, and no request is ever blocked.
-            Event::Stream(_) => Ok(()),
+            // The server opens no streams, stops none, and no request is ever blocked; and no
+            // handshake is made.
+            Event::Stream(_) | Event::HandshakeConfirmed => Ok(()),
         }
     }
 }

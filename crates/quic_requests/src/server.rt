@@ -135,8 +135,8 @@ impl Application for Server {
                 )?;
                 self.give_up(endpoint, *id, *error_code)
             }
-            // It opens no streams.
-            Event::Stream(StreamEvent::Available { .. }) => Ok(()),
+            // It opens no streams, and only clients are told of a handshake.
+            Event::Stream(StreamEvent::Available { .. }) | Event::HandshakeConfirmed => Ok(()),
             Event::Message => messages::receive(rt, Side::Server, endpoint, now),
             Event::Lost(LostReason::Peer(close)) => {
                 println!(rt;

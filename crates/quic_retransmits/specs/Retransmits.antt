@@ -11,12 +11,13 @@ use Rattle.quic_wire_core.specs.declared.stream_id.Dir.TheVariants.{Bi, Uni}
 use Rattle.quic_wire.specs.Value.{StopSendingValue}
 use Rattle.quic_streams_parts.specs.Dirs.{Flags, no_flag, of}
 use Rattle.quic_retransmits.specs.declared.retransmits.ControlKind.{ControlKind}
-use Rattle.quic_retransmits.specs.declared.retransmits.ControlKind.TheVariants.{ResetStream, StopSending, MaxData, MaxStreamData, MaxStreams, DataBlocked, StreamDataBlocked, NewConnectionId, RetireConnectionId}
+use Rattle.quic_retransmits.specs.declared.retransmits.ControlKind.TheVariants.{HandshakeDone, ResetStream, StopSending, MaxData, MaxStreamData, MaxStreams, DataBlocked, StreamDataBlocked, NewConnectionId, RetireConnectionId}
 
--- MAX_DATA; DATA_BLOCKED; MAX_STREAMS of each kind; RESET_STREAM of these streams with these codes;
--- STOP_SENDING; MAX_STREAM_DATA and STREAM_DATA_BLOCKED of the streams of these sets;
--- NEW_CONNECTION_ID; RETIRE_CONNECTION_ID of these numbers; and ACK_FREQUENCY
+-- HANDSHAKE_DONE; MAX_DATA; DATA_BLOCKED; MAX_STREAMS of each kind; RESET_STREAM of these streams
+-- with these codes; STOP_SENDING; MAX_STREAM_DATA and STREAM_DATA_BLOCKED of the streams of these
+-- sets; NEW_CONNECTION_ID; RETIRE_CONNECTION_ID of these numbers; and ACK_FREQUENCY
 pub record Retransmits : Type 0 where
+  pub handshake_done : Bool
   pub max_data : Bool
   pub data_blocked : Bool
   pub max_stream_id : Flags
@@ -40,6 +41,7 @@ HaveForm new_cids retire_cids = AllByRecursion CanBeTold new_cids × AllByRecurs
 -- nothing
 abbrev pub nothing_waits : Retransmits
 nothing_waits = record {
+  handshake_done = false;
   max_data = false;
   data_blocked = false;
   max_stream_id = no_flag;
@@ -106,6 +108,7 @@ both_flags f g = record { bi = f.bi || g.bi; uni = f.uni || g.uni }
 -- flags and sets are joined, and the other's lists go behind
 abbrev pub merged : Retransmits → Retransmits → Retransmits
 merged r other = record {
+  handshake_done = r.handshake_done || other.handshake_done;
   max_data = r.max_data || other.max_data;
   data_blocked = r.data_blocked || other.data_blocked;
   max_stream_id = both_flags r.max_stream_id other.max_stream_id;
@@ -139,18 +142,19 @@ after_late r n = if nat_le most_retirements (length r.retire_cids) || list_any (
     else record r { retire_cids = r.retire_cids ++ n ∷ [] }
 
 -- the kinds of control frames, in the order in which they go into a datagram (RFC 9000, sections
--- 19.4, 19.5, 19.9 to 19.13, 19.15, 19.16): RESET_STREAM, STOP_SENDING, MAX_DATA, MAX_STREAM_DATA,
--- MAX_STREAMS of two-way and then of one-way streams, DATA_BLOCKED, STREAM_DATA_BLOCKED,
--- NEW_CONNECTION_ID, RETIRE_CONNECTION_ID. The order is our choice
+-- 19.4, 19.5, 19.9 to 19.13, 19.15, 19.16, 19.20): HANDSHAKE_DONE, RESET_STREAM, STOP_SENDING,
+-- MAX_DATA, MAX_STREAM_DATA, MAX_STREAMS of two-way and then of one-way streams, DATA_BLOCKED,
+-- STREAM_DATA_BLOCKED, NEW_CONNECTION_ID, RETIRE_CONNECTION_ID. The order is our choice
 abbrev pub control_kinds : List ControlKind
-control_kinds = ResetStream ∷ StopSending ∷ MaxData ∷ MaxStreamData ∷ MaxStreams Bi ∷ MaxStreams Uni ∷ DataBlocked ∷ StreamDataBlocked
-    ∷ NewConnectionId ∷ RetireConnectionId ∷ []
+control_kinds = HandshakeDone ∷ ResetStream ∷ StopSending ∷ MaxData ∷ MaxStreamData ∷ MaxStreams Bi ∷ MaxStreams Uni ∷ DataBlocked
+    ∷ StreamDataBlocked ∷ NewConnectionId ∷ RetireConnectionId ∷ []
 
 -- ---- whether something goes
 
 -- whether something waits of a kind that may go: what has a gate counts where it is open, for the
 -- kind or on the stream
 abbrev pub any_counts : (ControlKind → Bool) → (ControlKind → ℕ → Bool) → ControlKind → Retransmits → Bool
+any_counts gate gate_on HandshakeDone r = r.handshake_done
 any_counts gate gate_on ResetStream r = is_any r.reset_stream
 any_counts gate gate_on StopSending r = is_any r.stop_sending
 any_counts gate gate_on MaxData r = r.max_data

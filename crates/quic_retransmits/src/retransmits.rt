@@ -58,6 +58,8 @@ impl From<AllocError> for RetireError {
 /// A kind of control frame that waits in [`Retransmits`] (RFC 9000, section 19).
 #[derive(Clone, Copy)]
 pub enum ControlKind {
+    /// HANDSHAKE_DONE.
+    HandshakeDone,
     /// RESET_STREAM.
     ResetStream,
     /// STOP_SENDING.
@@ -79,7 +81,8 @@ pub enum ControlKind {
 }
 
 /// The kinds, in the order in which their frames go into a datagram.
-pub const CONTROL_KINDS: [ControlKind; 10] = [
+pub const CONTROL_KINDS: [ControlKind; 11] = [
+    ControlKind::HandshakeDone,
     ControlKind::ResetStream,
     ControlKind::StopSending,
     ControlKind::MaxData,
@@ -100,6 +103,7 @@ pub const MAX_PENDING_RETIRED_CIDS: u64 = 80;
 /// (quinn-proto's `Retransmits`).
 #[derive(Drop)]
 pub struct Retransmits {
+    handshake_done: bool,
     max_data: bool,
     data_blocked: bool,
     max_stream_id: ByDir<bool>,
@@ -121,6 +125,7 @@ impl Model for Retransmits {
     ghost Value = { Retransmits };
 
     ghost view = { λ r. record {
+      handshake_done = r.handshake_done;
       max_data = r.max_data;
       data_blocked = r.data_blocked;
       max_stream_id = r.max_stream_id;
@@ -163,6 +168,7 @@ impl Retransmits {
         ensures { result ≡ nothing_waits }
     {
         Retransmits {
+            handshake_done: false,
             max_data: false,
             data_blocked: false,
             max_stream_id: ByDir {
@@ -178,6 +184,20 @@ impl Retransmits {
             ack_frequency: false,
             alloc,
         }
+    }
+
+    /// Whether HANDSHAKE_DONE waits (RFC 9000, section 19.20).
+    pub fn handshake_done(&self) -> bool
+        ensures { result ≡ self.now.handshake_done }
+    {
+        self.handshake_done
+    }
+
+    /// Says whether HANDSHAKE_DONE waits.
+    pub fn set_handshake_done(&mut self, waits: bool)
+        ensures { self.new ≡ record self.old { handshake_done = waits } }
+    {
+        self.handshake_done = waits;
     }
 
     /// Whether MAX_DATA waits (RFC 9000, section 19.9).
@@ -570,6 +590,7 @@ impl Retransmits {
         append(&mut self.stop_sending, &other.stop_sending);
         append(&mut self.new_cids, &other.new_cids);
         append(&mut self.retire_cids, &other.retire_cids);
+        self.handshake_done |= other.handshake_done;
         self.max_data |= other.max_data;
         self.data_blocked |= other.data_blocked;
         self.max_stream_id.bi |= other.max_stream_id.bi;
@@ -582,7 +603,8 @@ impl Retransmits {
     pub fn is_idle(&self) -> bool
         ensures { IsTrue result ↔ (self.now ≡ nothing_waits) }
     {
-        let flags = self.max_data
+        let flags = self.handshake_done
+            || self.max_data
             || self.data_blocked
             || self.max_stream_id.bi
             || self.max_stream_id.uni
@@ -605,7 +627,7 @@ impl Retransmits {
         if self.is_idle() {
             return true;
         }
-        if self.max_data {
+        if self.handshake_done || self.max_data {
             return false;
         }
         if self.data_blocked && streams.counts(ControlKind::DataBlocked) {

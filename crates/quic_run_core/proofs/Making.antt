@@ -19,7 +19,7 @@ use Rattle.quic_machine.specs.Control.{Control}
 use Rattle.quic_machine.specs.Heard.{Heard, nothing_heard}
 use Rattle.quic_machine.specs.Parts.{Windows}
 use Rattle.quic_machine.specs.Policy.{keys_policy}
-use Rattle.quic_machine.specs.End.{End, ConnectionValue, MadeFrom, KeyLimits, are_keys_short, are_sizes_wrong, is_window_small, refusal_of, policy_of, words_drawn}
+use Rattle.quic_machine.specs.End.{End, ConnectionValue, MadeFrom, KeyLimits, are_keys_short, are_sizes_wrong, is_window_small, is_sample_wrong, refusal_of, policy_of, words_drawn}
 use Rattle.quic_connection_parts.specs.Configured.{Configured}
 use Rattle.quic_connection_parts.specs.Drawn.{words_of, after_words}
 use Rattle.quic_connection.specs.Ends.{Serves}
@@ -51,12 +51,12 @@ use Rattle.quic_connection.specs.Ends.{world_of}
 abbrev pub for_short : Bool → Option ConfigError
 for_short short = if short then Some config_errors.KeyLimit else None
 
--- the ids of both ends are lawful, and so are sizes that are the default ones: an end is refused
--- for its key alone
-for_its_key : (E : Type 0) (side : Side) (settings : Settings) (limits : KeyLimits) (theirs : ParameterValues) → are_sizes_wrong settings theirs ≡ false → is_window_small settings default_reno.initial ≡ false
+-- the ids of both ends are lawful, and so are sizes that are the default ones, and no first sample:
+-- an end is refused for its key alone
+for_its_key : (E : Type 0) (side : Side) (settings : Settings) (limits : KeyLimits) (theirs : ParameterValues) → are_sizes_wrong settings theirs ≡ false → is_window_small settings default_reno.initial ≡ false → is_sample_wrong settings.first_sample ≡ false
     → refusal_of {E = E} settings default_reno.initial limits (Ok theirs) (first_id side) (first_id (other_side side)) ≡ for_short (are_keys_short limits)
-for_its_key E Client settings limits theirs fits roomy = rw (fits, roomy) refl
-for_its_key E Server settings limits theirs fits roomy = rw (fits, roomy) refl
+for_its_key E Client settings limits theirs fits roomy unsampled = rw (fits, roomy, unsampled) refl
+for_its_key E Server settings limits theirs fits roomy unsampled = rw (fits, roomy, unsampled) refl
 
 -- the window holds two datagrams of the default size
 window_fits : (own : Options) → is_window_small (settings_of own) default_reno.initial ≡ false
@@ -64,6 +64,10 @@ window_fits own = refl
 
 sizes_fit : (own peer : Options) → are_sizes_wrong (settings_of own) (parameters_of (settings_of peer)) ≡ false
 sizes_fit own peer = refl
+
+-- no first sample is told
+unsampled : (own : Options) → is_sample_wrong (settings_of own).first_sample ≡ false
+unsampled own = refl
 
 -- an id has eight bytes
 pub eight : (side : Side) → length (first_id side) ≡ 8
@@ -118,7 +122,7 @@ refusal-made {E} side other own peer settings told window limits read own_id pee
     ∙ ap (λ (r : Result ParameterValues E). refusal_of (settings_of own) default_reno.initial (limits_in own) r own_id peer_id) (is ∙ ap (λ (s : Settings). Ok (parameters_of s)) said)
     ∙ ap (λ (id : List ℕ). refusal_of {E = E} (settings_of own) default_reno.initial (limits_in own) (Ok theirs) id peer_id) own_is
     ∙ ap (λ (id : List ℕ). refusal_of {E = E} (settings_of own) default_reno.initial (limits_in own) (Ok theirs) (first_id side) id) (peer_is ∙ ap first_id turned)
-    ∙ for_its_key E side (settings_of own) (limits_in own) theirs (sizes_fit own peer) (window_fits own)
+    ∙ for_its_key E side (settings_of own) (limits_in own) theirs (sizes_fit own peer) (window_fits own) (unsampled own)
 
 -- where nothing is refused, a key lasts long enough
 pub lasting : (short : Bool) (r : Option ConfigError) → r ≡ for_short short → r ≡ None → short ≡ false
@@ -142,6 +146,7 @@ lacks_or_short short config_errors.IdLength r is refusal = inr (refl, at_limit s
 lacks_or_short short config_errors.Size r is refusal = inr (refl, at_limit short config_errors.Size (refusal (λ m. cc) ∙ is))
 lacks_or_short short config_errors.Window r is refusal = inr (refl, at_limit short config_errors.Window (refusal (λ m. cc) ∙ is))
 lacks_or_short short config_errors.KeyLimit r is refusal = inr (refl, at_limit short config_errors.KeyLimit (refusal (λ m. cc) ∙ is))
+lacks_or_short short config_errors.FirstSample r is refusal = inr (refl, at_limit short config_errors.FirstSample (refusal (λ m. cc) ∙ is))
 
 -- and of ends of which one isn't made
 pub short_too : (a b : Bool) (e : LineError) → (a ≡ true → b ≡ true) → LacksOrShort e a → LacksOrShort e b

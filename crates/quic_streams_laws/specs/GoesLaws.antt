@@ -5,7 +5,7 @@ use Rattle.std.specs.Prelude.{if◌then◌else◌}
 use Rattle.std.specs.Option.{is_some, option_map}
 use Rattle.std.proofs.lemmas.Bool.{and_parts}
 use Rattle.quic_wire_core.specs.declared.shared.IssuedCid.{IssuedCid}
-use Rattle.quic_wire.specs.Value.{FrameValue, StopSendingValue, NewConnectionIdValue, reset_stream, stop_sending, max_data, max_stream_data, max_streams, data_blocked, stream_data_blocked, new_connection_id, retire_connection_id}
+use Rattle.quic_wire.specs.Value.{FrameValue, StopSendingValue, NewConnectionIdValue, handshake_done, reset_stream, stop_sending, max_data, max_stream_data, max_streams, data_blocked, stream_data_blocked, new_connection_id, retire_connection_id}
 use Rattle.quic_wire.specs.Writing.{Fits}
 use Rattle.quic_streams_parts.specs.Table.{at}
 use Rattle.quic_streams_parts.specs.SendHalf.{SendHalf, new_send_half, is_ready, written_on}
@@ -72,6 +72,7 @@ module _ (wrote : ℕ → Wrote) (s : StreamsState) (g : Holding wrote s) where
   -- are small, and the first NEW_CONNECTION_ID and the first number to retire have one
   pub goes_fits : (p : Retransmits) → ((r : ℕ × ℕ) → first_of p.reset_stream ≡ Some r → r.1 < 2 ^ 62) → ((r : StopSendingValue) → first_of p.stop_sending ≡ Some r → (r.id < 2 ^ 62) × (r.code < 2 ^ 62))
       → ((cid : IssuedCid) → first_of p.new_cids ≡ Some cid → Fits (new_connection_id (told_id cid))) → ((n : ℕ) → first_of p.retire_cids ≡ Some n → n < 2 ^ 62) → (f : FrameValue) → Goes p s f → Fits f
+  goes_fits p codes stops ids retired handshake_done goes = tt
   goes_fits p codes stops ids retired (reset_stream f) goes = (
     sending_small f.id goes.0 goes.2,
     (codes (f.id, f.code) goes.1, (size_small (wrote f.id) goes.0 (live_holds wrote s g.holds f.id goes.0 goes.2) f.final_size goes.3, tt)),

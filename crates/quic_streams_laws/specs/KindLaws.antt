@@ -5,7 +5,7 @@ use Rattle.std.specs.Prelude.{if◌then◌else◌, map}
 use Rattle.std.specs.Option.{option_map}
 use Rattle.quic_wire_core.specs.declared.stream_id.Dir.{Dir}
 use Rattle.quic_wire_core.specs.declared.stream_id.Dir.TheVariants.{Bi, Uni}
-use Rattle.quic_wire.specs.Value.{FrameValue, reset_stream, stop_sending, max_data, max_stream_data, max_streams, data_blocked, stream_data_blocked, new_connection_id, retire_connection_id}
+use Rattle.quic_wire.specs.Value.{FrameValue, handshake_done, reset_stream, stop_sending, max_data, max_stream_data, max_streams, data_blocked, stream_data_blocked, new_connection_id, retire_connection_id}
 use Rattle.quic_wire.specs.FrameView.{is_one_way}
 use Rattle.quic_streams_parts.specs.Dirs.{of}
 use Rattle.quic_streams_parts.specs.Table.{at}
@@ -13,10 +13,10 @@ use Rattle.quic_streams_parts.specs.SendHalf.{SendHalf}
 use Rattle.quic_streams_parts.specs.RecvHalf.{RecvHalf, takes_limits, raised_on}
 use Rattle.quic_retransmits.specs.Retransmits.{Retransmits, first_of, others_of}
 use Rattle.quic_retransmits.specs.declared.retransmits.ControlKind.{ControlKind}
-use Rattle.quic_retransmits.specs.declared.retransmits.ControlKind.TheVariants.{ResetStream, StopSending, MaxData, MaxStreamData, MaxStreams, DataBlocked, StreamDataBlocked, NewConnectionId, RetireConnectionId}
+use Rattle.quic_retransmits.specs.declared.retransmits.ControlKind.TheVariants.{HandshakeDone, ResetStream, StopSending, MaxData, MaxStreamData, MaxStreams, DataBlocked, StreamDataBlocked, NewConnectionId, RetireConnectionId}
 use Rattle.quic_streams_state.specs.declared.state.StreamsState.{StreamsState}
 use Rattle.quic_streams_state.specs.Limits.{raised_data, raised_count, can_send_data_blocked}
-use Rattle.quic_streams_state.specs.Control.{stream_data_blocked_limit, Entry, reset_frame, reset_entry, stop_entry, data_entry, limit_frame, limit_entry, count_entry, blocked_entry, stream_blocked_entry, new_id_entry, retire_entry, told_id, flagged, waiting, without_first, frame_of_first, kind_of, Goes}
+use Rattle.quic_streams_state.specs.Control.{stream_data_blocked_limit, Entry, done_entry, reset_frame, reset_entry, stop_entry, data_entry, limit_frame, limit_entry, count_entry, blocked_entry, stream_blocked_entry, new_id_entry, retire_entry, told_id, flagged, waiting, without_first, frame_of_first, kind_of, Goes}
 
 -- ---- the first that waits
 
@@ -88,6 +88,7 @@ module _ (p : Retransmits) (s : StreamsState) (f : FrameValue) where
 
   -- that of the first that waits of a kind is of that kind, and says what is so
   first_is : (kind : ControlKind) (e : Entry) (es : List Entry) → waiting kind p ≡ e ∷ es → e.frame s ≡ Some f → GoesAs p s kind f
+  first_is HandshakeDone e es is due = known HandshakeDone handshake_done (refl, tt) (ap (λ (y : Entry). y.frame s) (flag_first p.handshake_done done_entry e es is) ∙ due)
   first_is ResetStream e es is due = let x = listed_first reset_entry p.reset_stream e es is in reset_goes x.0 x.1 (ap (λ (y : Entry). y.frame s) x.2 ∙ due)
   first_is StopSending e es is due = let x = listed_first stop_entry p.stop_sending e es is in known StopSending (stop_sending x.0) (refl, x.1) (ap (λ (y : Entry). y.frame s) x.2 ∙ due)
   first_is MaxData e es is due = known MaxData (max_data (raised_data s.receiving)) (refl, refl) (ap (λ (y : Entry). y.frame s) (flag_first p.max_data data_entry e es is) ∙ due)

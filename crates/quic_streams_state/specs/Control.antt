@@ -1,6 +1,7 @@
--- The control frames that go into a datagram, in this order: RESET_STREAM, STOP_SENDING, MAX_DATA,
--- MAX_STREAM_DATA, MAX_STREAMS of two-way and of one-way streams, DATA_BLOCKED,
--- STREAM_DATA_BLOCKED, NEW_CONNECTION_ID, RETIRE_CONNECTION_ID (RFC 9000, sections 13.3 and 19).
+-- The control frames that go into a datagram, in this order: HANDSHAKE_DONE, RESET_STREAM,
+-- STOP_SENDING, MAX_DATA, MAX_STREAM_DATA, MAX_STREAMS of two-way and of one-way streams,
+-- DATA_BLOCKED, STREAM_DATA_BLOCKED, NEW_CONNECTION_ID, RETIRE_CONNECTION_ID (RFC 9000, sections
+-- 13.3 and 19).
 -- What waits of a kind is taken from its front: what is no longer due is dropped, what is due goes
 -- where it fits, and the first that is due and doesn't fit stays, with all behind it.
 use Rattle.std.specs.Prelude.{◌≡◌, ℕ, ◌+◌, Bool, true, false, ◌==◌, ◌&&◌, not, nat_le, if◌then◌else◌, List, [], ◌∷◌, ◌++◌, map, Option, Some, None}
@@ -9,7 +10,7 @@ use Rattle.std.specs.Option.{is_some, option_map}
 use Rattle.quic_wire_core.specs.declared.shared.IssuedCid.{IssuedCid}
 use Rattle.quic_wire_core.specs.declared.stream_id.Dir.{Dir}
 use Rattle.quic_wire_core.specs.declared.stream_id.Dir.TheVariants.{Bi, Uni}
-use Rattle.quic_wire.specs.Value.{FrameValue, StopSendingValue, NewConnectionIdValue, reset_stream, stop_sending, max_data, max_stream_data, max_streams, data_blocked, stream_data_blocked, new_connection_id, retire_connection_id}
+use Rattle.quic_wire.specs.Value.{FrameValue, StopSendingValue, NewConnectionIdValue, handshake_done, reset_stream, stop_sending, max_data, max_stream_data, max_streams, data_blocked, stream_data_blocked, new_connection_id, retire_connection_id}
 use Rattle.quic_wire.specs.FrameView.{is_one_way}
 use Rattle.quic_wire.specs.Writing.{frame_size}
 use Rattle.quic_streams_parts.specs.Table.{at}
@@ -19,7 +20,7 @@ use Rattle.quic_streams_parts.specs.RecvHalf.{RecvHalf, takes_limits, raised_on}
 use Rattle.quic_streams_halves.specs.Halves.{changed}
 use Rattle.quic_retransmits.specs.Retransmits.{Retransmits, with_id, first_of, others_of, control_kinds}
 use Rattle.quic_retransmits.specs.declared.retransmits.ControlKind.{ControlKind}
-use Rattle.quic_retransmits.specs.declared.retransmits.ControlKind.TheVariants.{ResetStream, StopSending, MaxData, MaxStreamData, MaxStreams, DataBlocked, StreamDataBlocked, NewConnectionId, RetireConnectionId}
+use Rattle.quic_retransmits.specs.declared.retransmits.ControlKind.TheVariants.{HandshakeDone, ResetStream, StopSending, MaxData, MaxStreamData, MaxStreams, DataBlocked, StreamDataBlocked, NewConnectionId, RetireConnectionId}
 use Rattle.quic_streams_state.specs.State.{StreamsState, Sending, Receiving, sending_half}
 use Rattle.quic_streams_state.specs.Opening.{announced_count}
 use Rattle.quic_streams_state.specs.Limits.{raised_data, raised_count, can_send_data_blocked, can_send_flow_control}
@@ -51,6 +52,10 @@ may_go_on s kind id = true
 -- something that waits: its frame, none where that is no longer due
 pub record Entry : Type 0 where
   pub frame : StreamsState → Option FrameValue
+
+-- HANDSHAKE_DONE
+abbrev pub done_entry : Entry
+done_entry = record { frame = λ s. Some handshake_done }
 
 -- the RESET_STREAM frame of a stream and a code, with its final size: none of a half that wasn't
 -- reset, or is done
@@ -111,6 +116,7 @@ flagged false e = []
 
 -- what waits of a kind, in the order in which it goes
 abbrev pub waiting : ControlKind → Retransmits → List Entry
+waiting HandshakeDone p = flagged p.handshake_done done_entry
 waiting ResetStream p = map reset_entry p.reset_stream
 waiting StopSending p = map stop_entry p.stop_sending
 waiting MaxData p = flagged p.max_data data_entry
@@ -123,6 +129,7 @@ waiting RetireConnectionId p = map retire_entry p.retire_cids
 
 -- what waits without the first of a kind
 abbrev pub without_first : ControlKind → Retransmits → Retransmits
+without_first HandshakeDone p = record p { handshake_done = false }
 without_first ResetStream p = record p { reset_stream = others_of p.reset_stream }
 without_first StopSending p = record p { stop_sending = others_of p.stop_sending }
 without_first MaxData p = record p { max_data = false }
@@ -172,6 +179,7 @@ issued_in f = record { sequence = f.sequence; id = f.id; reset_token = f.token }
 -- what has to be sent again if a frame is lost, beside the bytes of streams: what it said is said
 -- anew, as it is then
 abbrev pub and_again : Retransmits → FrameValue → Retransmits
+and_again r handshake_done = record r { handshake_done = true }
 and_again r (reset_stream f) = record r { reset_stream = r.reset_stream ++ (f.id, f.code) ∷ [] }
 and_again r (stop_sending f) = record r { stop_sending = r.stop_sending ++ f ∷ [] }
 and_again r (max_data limit) = record r { max_data = true }
@@ -185,6 +193,7 @@ and_again r f = r
 
 -- the kind of a control frame; none of any other
 abbrev pub kind_of : FrameValue → Option ControlKind
+kind_of handshake_done = Some HandshakeDone
 kind_of (reset_stream f) = Some ResetStream
 kind_of (stop_sending f) = Some StopSending
 kind_of (max_data limit) = Some MaxData
@@ -199,6 +208,7 @@ kind_of f = None
 -- what is known of a frame that goes of what waits: what it says is so of the streams, and of a
 -- reset, a stop and the limit of a stream, and of ids, that it is the first that waits
 abbrev pub Goes : Retransmits → StreamsState → FrameValue → Type 0
+Goes p s handshake_done = Unit {0}
 Goes p s (reset_stream f) = (h : SendHalf) × (first_of p.reset_stream ≡ Some (f.id, f.code)) × (at s.sending.halves.live f.id ≡ Some h) × (h.reset ≡ Some f.final_size)
 Goes p s (stop_sending f) = first_of p.stop_sending ≡ Some f
 Goes p s (max_data limit) = limit ≡ raised_data s.receiving

@@ -16,11 +16,11 @@ use Rattle.quic_streams_parts.specs.Table.{at}
 use Rattle.quic_streams_parts.specs.Dirs.{of}
 use Rattle.quic_streams_parts.specs.RecvHalf.{RecvHalf}
 use Rattle.quic_retransmits.specs.declared.retransmits.ControlKind.{ControlKind}
-use Rattle.quic_retransmits.specs.declared.retransmits.ControlKind.TheVariants.{ResetStream, StopSending, MaxData, MaxStreamData, MaxStreams, DataBlocked, StreamDataBlocked, NewConnectionId, RetireConnectionId}
+use Rattle.quic_retransmits.specs.declared.retransmits.ControlKind.TheVariants.{HandshakeDone, ResetStream, StopSending, MaxData, MaxStreamData, MaxStreams, DataBlocked, StreamDataBlocked, NewConnectionId, RetireConnectionId}
 use Rattle.quic_retransmits.specs.Retransmits.{Retransmits, merged, with_id, with_ids, first_of, others_of, is_any, control_kinds}
 use Rattle.quic_streams_state.specs.declared.state.StreamsState.{StreamsState}
 use Rattle.quic_streams_state.specs.Limits.{takes_limits_of, can_send_data_blocked}
-use Rattle.quic_streams_state.specs.Control.{stream_data_blocked_limit, may_go_on, Entry, reset_entry, stop_entry, data_entry, limit_frame, limit_entry, count_entry, blocked_entry, stream_blocked_entry, new_id_entry, retire_entry, flagged, waiting, without_first}
+use Rattle.quic_streams_state.specs.Control.{stream_data_blocked_limit, may_go_on, Entry, done_entry, reset_entry, stop_entry, data_entry, limit_frame, limit_entry, count_entry, blocked_entry, stream_blocked_entry, new_id_entry, retire_entry, flagged, waiting, without_first}
 use Rattle.quic_streams_state.specs.Waiting.{any_goes, is_empty}
 
 -- ---- what is left without the first
@@ -35,6 +35,7 @@ none_behind false e = refl
 
 -- without the first those behind it wait
 pub others_wait : (kind : ControlKind) (p : Retransmits) → waiting kind (without_first kind p) ≡ others_of (waiting kind p)
+others_wait HandshakeDone p = none_behind p.handshake_done done_entry
 others_wait ResetStream p = others_mapped reset_entry p.reset_stream
 others_wait StopSending p = others_mapped stop_entry p.stop_sending
 others_wait MaxData p = none_behind p.max_data data_entry
@@ -48,20 +49,22 @@ others_wait RetireConnectionId p = others_mapped retire_entry p.retire_cids
 
 -- the place of a kind in the order in which they go
 pub place : ControlKind → ℕ
-place ResetStream = 0
-place StopSending = 1
-place MaxData = 2
-place MaxStreamData = 3
-place (MaxStreams Bi) = 4
-place (MaxStreams Uni) = 5
-place DataBlocked = 6
-place StreamDataBlocked = 7
-place NewConnectionId = 8
-place RetireConnectionId = 9
+place HandshakeDone = 0
+place ResetStream = 1
+place StopSending = 2
+place MaxData = 3
+place MaxStreamData = 4
+place (MaxStreams Bi) = 5
+place (MaxStreams Uni) = 6
+place DataBlocked = 7
+place StreamDataBlocked = 8
+place NewConnectionId = 9
+place RetireConnectionId = 10
 
 -- there it stands
 at_place : (kind : ControlKind) → slice_get control_kinds (place kind) ≡ Some kind
 unfolding place
+at_place HandshakeDone = refl
 at_place ResetStream = refl
 at_place StopSending = refl
 at_place MaxData = refl
@@ -76,6 +79,7 @@ at_place RetireConnectionId = refl
 -- what waits of another kind stays where the first of one is gone
 pub others_same : (kind other : ControlKind) (p : Retransmits) → (place kind == place other) ≡ false → waiting other (without_first kind p) ≡ waiting other p
 unfolding place
+others_same HandshakeDone HandshakeDone p apart = cc
 others_same ResetStream ResetStream p apart = cc
 others_same StopSending StopSending p apart = cc
 others_same MaxData MaxData p apart = cc
@@ -144,6 +148,7 @@ stream_blocked_due s id = go (stream_data_blocked_limit s id)
 
 -- of each kind but RESET_STREAM, whose half may be done, something is due where something counts
 due_is : (kind : ControlKind) (p : Retransmits) (s : StreamsState) → (any_due s (waiting kind p) ≡ any_goes kind p s) ⊎ (kind ≡ ResetStream)
+due_is HandshakeDone p s = inl (any_flag s done_entry p.handshake_done refl)
 due_is ResetStream p s = inr refl
 due_is StopSending p s = inl (any_listed s stop_entry (λ x. refl) p.stop_sending)
 due_is MaxData p s = inl (any_flag s data_entry p.max_data refl)
@@ -210,6 +215,7 @@ gated_kept a false c e = absurd cc
 
 -- of each kind something counts where something of what comes does
 pub merged_counts : (kind : ControlKind) (p q : Retransmits) (s : StreamsState) → any_goes kind q s ≡ true → any_goes kind (merged p q) s ≡ true
+merged_counts HandshakeDone p q s on = or_right p.handshake_done q.handshake_done on
 merged_counts ResetStream p q s on = any_behind p.reset_stream q.reset_stream on
 merged_counts StopSending p q s on = any_behind p.stop_sending q.stop_sending on
 merged_counts MaxData p q s on = or_right p.max_data q.max_data on

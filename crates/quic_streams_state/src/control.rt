@@ -1,5 +1,5 @@
-//! The control frames that go into a datagram: those about streams, but for STREAM, and those about
-//! connection ids (RFC 9000, sections 13.3 and 19).
+//! The control frames that go into a datagram: those about streams, but for STREAM, those about
+//! connection ids, and HANDSHAKE_DONE (RFC 9000, sections 13.3 and 19).
 ghost use Rattle.std.specs.Prelude.{◌≡◌, ◌<◌, ◌≤◌, ◌++◌, length, take, Some, IfSome, OnOk, OnErr, vec_len, vec_capacity};
 ghost use Rattle.std.specs.List.{fold};
 ghost use Rattle.std.specs.Option.{option_map};
@@ -7,7 +7,8 @@ ghost use Rattle.quic_wire.specs.FrameView.{frame_view, new_connection_id_view};
 ghost use Rattle.quic_wire.specs.Writing.{Fits, spelled_all};
 ghost use Rattle.quic_retransmits.specs.Retransmits.{is_any, CanBeTold};
 ghost use Rattle.quic_wire.specs.Value.{new_connection_id};
-ghost use Rattle.quic_streams_state.specs.Control.{waiting, without_first, frame_of_first, frame_told, and_again, reset_entry, data_entry, limit_entry, count_entry, blocked_entry, stream_blocked_entry, told_id, issued_in, no_frames, with_kind, control_frames};
+ghost use Rattle.quic_streams_state.specs.declared.state.StreamsState.{StreamsState as State};
+ghost use Rattle.quic_streams_state.specs.Control.{waiting, without_first, frame_of_first, frame_told, and_again, flagged, done_entry, reset_entry, data_entry, limit_entry, count_entry, blocked_entry, stream_blocked_entry, told_id, issued_in, no_frames, with_kind, control_frames};
 
 use crate::state::StreamsState;
 use quic_retransmits::{CONTROL_KINDS, ControlKind, LimitQueries, Retransmits};
@@ -22,6 +23,7 @@ fn is_waiting(kind: ControlKind, pending: &Retransmits) -> bool
     ensures { result ≡ is_any (waiting kind pending.now) }
 {
     match kind {
+        ControlKind::HandshakeDone => pending.handshake_done(),
         ControlKind::ResetStream => pending.first_reset_stream().is_some(),
         ControlKind::StopSending => pending.first_stop_sending().is_some(),
         ControlKind::MaxData => pending.max_data(),
@@ -39,6 +41,7 @@ fn drop_first(kind: ControlKind, pending: &mut Retransmits)
     ensures { pending.new ≡ without_first kind pending.old }
 {
     match kind {
+        ControlKind::HandshakeDone => pending.set_handshake_done(false),
         ControlKind::ResetStream => {
             let _ = pending.pop_reset_stream();
         }
@@ -88,6 +91,18 @@ fn new_id_frame(cid: IssuedCid) -> Frame<'static>
     })
 }
 
+// HANDSHAKE_DONE, where it waits.
+fn done_frame(pending: &Retransmits) -> Option<Frame<'static>>
+    ensures frame { (s : State) → option_map frame_view result ≡ frame_of_first (flagged pending.now.handshake_done done_entry) s }
+    ensures fits { IfSome result (λ f. Fits (frame_view f)) }
+{
+    if pending.handshake_done() {
+        Some(Frame::HandshakeDone)
+    } else {
+        None
+    }
+}
+
 // A datagram carries a frame. An `Err` (want of memory) changes nothing.
 fn note(frame: &Frame<'_>, sent: &mut Retransmits) -> Result<(), AllocError>
     requires { Fits (frame_view frame.now) }
@@ -95,6 +110,7 @@ fn note(frame: &Frame<'_>, sent: &mut Retransmits) -> Result<(), AllocError>
     ensures err { OnErr result (sent.new ≡ sent.old) }
 {
     match frame {
+        Frame::HandshakeDone => sent.set_handshake_done(true),
         Frame::ResetStream(reset) => sent.push_reset_stream(reset.id, reset.error_code)?,
         Frame::StopSending(stop) => sent.push_stop_sending(*stop)?,
         Frame::MaxData(_) => sent.set_max_data(true),
@@ -210,6 +226,7 @@ impl StreamsState {
         ensures fits { IfSome result (λ f. Fits (frame_view f)) }
     {
         match kind {
+            ControlKind::HandshakeDone => done_frame(pending),
             ControlKind::ResetStream => {
                 let (id, code) = pending.first_reset_stream()?;
                 self.reset_frame(id, code)
@@ -331,11 +348,11 @@ impl StreamsState {
     }
 
     /// Appends the control frames that are due and fit, so that `out` has at most `max_size` bytes;
-    /// memory for these is there. They go in the order of RESET_STREAM, STOP_SENDING, MAX_DATA,
-    /// MAX_STREAM_DATA, MAX_STREAMS (two-way, one-way), DATA_BLOCKED, STREAM_DATA_BLOCKED,
-    /// NEW_CONNECTION_ID and RETIRE_CONNECTION_ID (RFC 9000, section 19), no longer wait in
-    /// `pending`, and stand in `sent`, which has to go again if the datagram is lost (section 13.3;
-    /// quinn-proto's `write_control_frames`).
+    /// memory for these is there. They go in the order of HANDSHAKE_DONE, RESET_STREAM,
+    /// STOP_SENDING, MAX_DATA, MAX_STREAM_DATA, MAX_STREAMS (two-way, one-way), DATA_BLOCKED,
+    /// STREAM_DATA_BLOCKED, NEW_CONNECTION_ID and RETIRE_CONNECTION_ID (RFC 9000, section 19), no
+    /// longer wait in `pending`, and stand in `sent`, which has to go again if the datagram is lost
+    /// (section 13.3; quinn-proto's `write_control_frames`).
     ///
     /// # Errors
     ///

@@ -15,6 +15,11 @@ pub record Rtt : Type 0 where
 abbrev pub assumed_rtt : ℕ → Rtt
 assumed_rtt initial = record { latest = initial; smoothed = None; var = initial / 2; least = initial }
 
+-- the estimate that a first sample makes, with its variation, also where it was taken elsewhere
+-- (section 5.3): it is the smoothed time, and the least
+abbrev pub told_rtt : ℕ → ℕ → Rtt
+told_rtt rtt variation = record { latest = rtt; smoothed = Some rtt; var = variation; least = rtt }
+
 -- the best estimate
 abbrev pub best_rtt : Rtt → ℕ
 best_rtt r = unwrap_or r.smoothed r.latest
@@ -43,7 +48,7 @@ var_with var smoothed sample = (3 * var + abs_diff smoothed sample) / 4
 
 -- the first sample stands for itself, with half of it as its variation
 abbrev pub first_sample : ℕ → Rtt
-first_sample rtt = record { latest = rtt; smoothed = Some rtt; var = rtt / 2; least = rtt }
+first_sample rtt = told_rtt rtt (rtt / 2)
 
 -- a later one, which changes the smoothed time and its variation
 abbrev pub later_sample : ℕ → ℕ → ℕ → ℕ → ℕ → Rtt

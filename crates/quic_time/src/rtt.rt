@@ -1,6 +1,6 @@
 //! How long a round trip on a path takes (RFC 9002, section 5).
 ghost use Rattle.std.specs.Prelude.{◌≡◌};
-ghost use Rattle.quic_time.specs.Rtt.{assumed_rtt, best_rtt, conservative_rtt, probe_timeout, smoothed_with, var_with, adjusted_rtt, with_sample};
+ghost use Rattle.quic_time.specs.Rtt.{assumed_rtt, told_rtt, best_rtt, conservative_rtt, probe_timeout, smoothed_with, var_with, adjusted_rtt, with_sample};
 
 use crate::instant::{Duration, TIMER_GRANULARITY};
 use std::marker::Model;
@@ -34,6 +34,19 @@ impl RttEstimator {
             smoothed: None,
             var: Duration::from_nanos(initial_rtt.as_nanos() / 2),
             min: initial_rtt,
+        }
+    }
+
+    /// The estimate that begins with a sample which was taken elsewhere, and its variation (RFC
+    /// 9002, section 5.3).
+    pub fn with_first_sample(rtt: Duration, variation: Duration) -> Self
+        ensures { result ≡ told_rtt rtt variation }
+    {
+        RttEstimator {
+            latest: rtt,
+            smoothed: Some(rtt),
+            var: variation,
+            min: rtt,
         }
     }
 

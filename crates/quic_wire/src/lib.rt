@@ -8,7 +8,7 @@ pub mod laws;
 pub mod worked;
 
 pub use quic_packet::{
-    ConnectionIdParser, FixedLengthConnectionIdParser, HeaderError, Opened, PacketNumber,
+    ConnectionIdParser, FixedLengthConnectionIdParser, HasId, HeaderError, Opened, PacketNumber,
     ShortHeader, TooShort, crypto, open_packet, seal_packet, seal_reserved, width_in,
 };
 pub use quic_parameters::{TransportParameterId, TransportParameters, TransportParametersError};

@@ -17,10 +17,10 @@ use Rattle.quic_headline.specs.Duties.{AllData, on_half}
 use Rattle.quic_headline.specs.Moments.{went}
 use Rattle.quic_headline.specs.Observer.{Sent, HoldsOffset, has_changed}
 use Rattle.quic_headline.specs.Waited.{stands, is_path_challenge}
-use Rattle.quic_headline.specs.Begins.{Seen, Control, Ack, Ping, Challenge, Response, Byte, Frame, LimitOf, NewId, Retirement, control_waits, byte_waits, brings, asks_for, may_hasten, makes_ping, acknowledged_by, IsPending, HasCause, WasLost, still, begins, BeginsAt}
+use Rattle.quic_headline.specs.Begins.{Seen, Control, Ack, Ping, Challenge, Response, Byte, Frame, LimitOf, NewId, Retirement, Done, control_waits, byte_waits, brings, asks_for, may_hasten, makes_ping, acknowledged_by, IsPending, HasCause, WasLost, still, begins, BeginsAt}
 use Rattle.quic_worked.specs.Credit.{narrow_bytes, credit_written, credit_sent, credit_read, credit_given, ReadsEight}
 use Rattle.quic_worked.specs.Raised.{raised_events, raised_told, after_server_ping, first_ping, second_ping, third_came, third_due, limit_came, NeverComes}
-use Rattle.quic_worked.specs.Begun.{sending_seen, reading_seen, raising_seen, pinging_seen, waiting_seen, losing_seen, challenged_seen, bringing_seen, using_seen, retired_seen, unanswered_server, limit_at_each_poll, ack_at_each_call, ping_at_each_timeout, bytes_at_each_poll, challenge_at_each_call, response_at_each_call, id_at_each_call, retirement_at_each_call, retires_the_next, retires_at_once, NeverBrought, NeverRenamed}
+use Rattle.quic_worked.specs.Begun.{sending_seen, reading_seen, raising_seen, pinging_seen, waiting_seen, losing_seen, challenged_seen, bringing_seen, using_seen, retired_seen, unanswered_server, limit_at_each_poll, ack_at_each_call, ping_at_each_timeout, bytes_at_each_poll, challenge_at_each_call, response_at_each_call, id_at_each_call, retirement_at_each_call, done_at_each_call, retires_the_next, retires_at_once, NeverBrought, NeverRenamed}
 use Rattle.quic_worked.specs.Acknowledged.{client_acked}
 use Rattle.quic_worked.specs.Worked.{both_steady}
 use Rattle.quic_worked.specs.Renamed.{renaming_events, renaming_answers, once_renamed}
@@ -434,6 +434,16 @@ id_shows read = control_shows (NewId 1) id_at_each_call.server read (id_unasked 
 pub retirement_shows : (read : ReadCall) → BeginsAt (pinging_seen read) credit_given.server retirement_at_each_call.server → ⊥
 retirement_shows read = control_shows (Retirement 0) retirement_at_each_call.server read (retirement_unasked read) no_retirement refl
 
+done_unasked : (read : ReadCall) → asks_for (pinging_seen read) Done ≡ false
+done_unasked read = refl
+
+no_done : control_waits credit_given.server.waiting.frames Done ≡ false
+unfolding credit_given
+no_done = refl
+
+pub done_shows : (read : ReadCall) → BeginsAt (pinging_seen read) credit_given.server done_at_each_call.server → ⊥
+done_shows read = control_shows Done done_at_each_call.server read (done_unasked read) no_done refl
+
 other_challenge : challenge_at_each_call ≡ after_server_ping credit_given → ⊥
 other_challenge e = let clash : true ≡ false = ap (λ (w : World). is_some w.server.waiting.signals.challenge) e ∙ none_challenged in cc
 
@@ -446,6 +456,9 @@ other_id e = let clash : true ≡ false = ap (λ (w : World). control_waits w.se
 other_retirement : retirement_at_each_call ≡ after_server_ping credit_given → ⊥
 other_retirement e = let clash : true ≡ false = ap (λ (w : World). control_waits w.server.waiting.frames (Retirement 0)) e ∙ no_retirement in cc
 
+other_done : done_at_each_call ≡ after_server_ping credit_given → ⊥
+other_done e = let clash : true ≡ false = ap (λ (w : World). control_waits w.server.waiting.frames Done) e ∙ no_done in cc
+
 pub never_challenge : (read : ReadCall) → ReadsEight read → NeverComes (take 8 (raised_events read)) (take 8 raised_told) challenge_at_each_call
 never_challenge = never_pinged challenge_at_each_call other_challenge
 
@@ -457,3 +470,6 @@ never_id = never_pinged id_at_each_call other_id
 
 pub never_retirement : (read : ReadCall) → ReadsEight read → NeverComes (take 8 (raised_events read)) (take 8 raised_told) retirement_at_each_call
 never_retirement = never_pinged retirement_at_each_call other_retirement
+
+pub never_done : (read : ReadCall) → ReadsEight read → NeverComes (take 8 (raised_events read)) (take 8 raised_told) done_at_each_call
+never_done = never_pinged done_at_each_call other_done

@@ -23,6 +23,7 @@ use Rattle.quic_headline.specs.Observer.{Watch, Lens, news, has_opened, moment_o
 use Rattle.quic_headline.specs.Observer as observer
 use Rattle.quic_headline.specs.Headline.{IsHonest, IsRun}
 use Rattle.quic_headline.specs.Polls.{counts_on, bytes_on}
+use Rattle.quic_headline.specs.Marking.{Marking, first_marking, marking}
 use Rattle.quic_headline.specs.Telling.{Tellings, Judging, judging, told_if, MayProbe, lost_at, but_for_probe, acked_flight, TellsLosses, TellsAck, TellsNamed, TellsSettled, TellsPackets, TellsCall, TellsCalls, shows_validated, ControllersAreTold}
 use Rattle.quic_worked.specs.Worked.{worked_policies, asks_datagram, gives_bytes, told_in, server_id, id_frames}
 use Rattle.quic_headline.specs.AppLimited.{CountsAt}
@@ -43,7 +44,7 @@ use Rattle.quic_worked.proofs.LastTold.{any_left, any_right, LastTold, last_told
 
 -- ---- the premises
 
-halving_started : AreStarted halving
+pub halving_started : AreStarted halving
 halving_started = record {
   client_making = are_started.client_making;
   server_making = are_started.server_making;
@@ -193,7 +194,7 @@ halving_is_told = controllers_are_told halving_run (once_halving 12) halving_is_
 -- ---- a controller that is told of no loss
 
 -- it is told where it is to be
-told_one : (b : Bool) (now sent : ℕ) (persistent : Bool) (lost : ℕ) → b ≡ true → list_any is_congestion (told_if b (Congested now sent persistent lost)) ≡ true
+pub told_one : (b : Bool) (now sent : ℕ) (persistent : Bool) (lost : ℕ) → b ≡ true → list_any is_congestion (told_if b (Congested now sent persistent lost)) ≡ true
 told_one true now sent persistent lost some = refl
 told_one false now sent persistent lost some = cc
 
@@ -269,7 +270,7 @@ one_asks probe pings = ap (λ (ss : List observer.Sent). list_any (counts_on 0) 
     go true is = absurd (no_probe (pings first_pinged among is))
     go false is = ap (λ (b : Bool). list_any (counts_on 0) (cond (not b) (first_pinged ∷ []) [])) is
 
-module _ (validated : Bool) (first : Option ℕ) (limited : Bool) where
+module _ (validated : Bool) (first : Option ℕ) (limited : Bool) (k : Marking) where
   -- by what losses are judged there, where this number went next as a round trip was first measured
   abbrev j : Judging
   j = judging lens settings validated first limited seen
@@ -284,19 +285,19 @@ module _ (validated : Bool) (first : Option ℕ) (limited : Bool) where
   abbrev ended : Told
   ended = AcksEnded 100000000 (min (bytes_on seen.route.generation others) observer.latest) limited (Some (greatest_of seen.flight.named third_ack.largest))
 
-  settled_congests : (told : Tellings) → TellsSettled j 100000000 third_ack (pinged 3 ∷ []) others seen.flight told → list_any is_congestion told ≡ true
+  settled_congests : (told : Tellings) → TellsSettled j 100000000 third_ack (pinged 3 ∷ []) others seen.flight k told → list_any is_congestion told ≡ true
   settled_congests told x =
       ap (λ (us : Tellings). list_any is_congestion us) x.is
       ∙ any_left is_congestion (x.each ++ ended ∷ x.lost) _ (any_right is_congestion x.each (ended ∷ x.lost) (losses_congest x.lost x.losses))
 
-  packets_congest : (told : Tellings) → TellsPackets j 100000000 (packet ∷ []) seen.flight told → list_any is_congestion told ≡ true
+  packets_congest : (told : Tellings) → TellsPackets j 100000000 (packet ∷ []) seen.flight k told → list_any is_congestion told ≡ true
   packets_congest told m =
-      let frames : (now later : Tellings) × TellsAck j 100000000 third_ack seen.flight now × (later ≡ []) × (m.1 ≡ now ++ later) = m.3 in
-      let settled : TellsSettled j 100000000 third_ack (pinged 3 ∷ []) others seen.flight frames.0 = subst (λ (ss : List observer.Sent). TellsNamed j 100000000 third_ack ss others seen.flight frames.0) acked_is frames.2 in
+      let frames : (now later : Tellings) × TellsAck j 100000000 third_ack seen.flight k now × (later ≡ []) × (m.1 ≡ now ++ later) = m.3 in
+      let settled : TellsSettled j 100000000 third_ack (pinged 3 ∷ []) others seen.flight k frames.0 = subst (λ (ss : List observer.Sent). TellsNamed j 100000000 third_ack ss others seen.flight k frames.0) acked_is frames.2 in
       subst (λ (us : Tellings). list_any is_congestion us ≡ true) (sym m.4)
       (any_right is_congestion m.0 m.1 (subst (λ (us : Tellings). list_any is_congestion us ≡ true) (sym frames.4) (any_left is_congestion frames.0 frames.1 (settled_congests frames.0 settled))))
 
-  call_congests : (now : Tellings) → TellsCall lens settings validated first limited seen comes now → list_any is_congestion now ≡ true
+  call_congests : (now : Tellings) → TellsCall lens settings validated first limited seen k comes now → list_any is_congestion now ≡ true
   call_congests now x = ap (λ (us : Tellings). list_any is_congestion us) x.is ∙ any_left is_congestion (x.taken ++ x.refused ++ x.late) _ (any_left is_congestion (x.taken ++ x.refused) x.late (any_left is_congestion x.taken x.refused (packets_congest x.taken takes)))
     where
       clock : x.clock ≡ 100000000
@@ -306,20 +307,20 @@ module _ (validated : Bool) (first : Option ℕ) (limited : Bool) where
           ∙ ap (λ (b : Bool). clock_behind seen.clock (moment_of states.Open b comes.call)) opened_is
           ∙ clock_is
 
-      takes : TellsPackets j 100000000 (packet ∷ []) seen.flight x.taken
+      takes : TellsPackets j 100000000 (packet ∷ []) seen.flight k x.taken
       takes =
-          subst (λ (n : ℕ). TellsPackets j n (packet ∷ []) seen.flight x.taken) clock
-          (subst (λ (ps : List Packet). TellsPackets j x.clock ps seen.flight x.taken) (ap (λ (i : of_runs.Intake). news seen.intake i) x.came ∙ news_are) x.takes)
+          subst (λ (n : ℕ). TellsPackets j n (packet ∷ []) seen.flight k x.taken) clock
+          (subst (λ (ps : List Packet). TellsPackets j x.clock ps seen.flight k x.taken) (ap (λ (i : of_runs.Intake). news seen.intake i) x.came ∙ news_are) x.takes)
 
 pub untold_not : ControllersAreTold untold_run → ⊥
 untold_not h =
     let all = h Client 10 (seen_with (Some 112500000) None) refl refl in
     let begins : Watch = watch_from (end_at Client halving) untold_run.from_client in
     let valid : ℕ → Bool = shows_validated untold_run Client in
-    let calls : TellsCalls lens settings valid (CountsAt untold_run Client) 0 None begins (until untold_run Client 10 ++ comes ∷ []) all.0 = subst (λ (ts : List of_runs.Told). TellsCalls lens settings valid (CountsAt untold_run Client) 0 None begins ts all.0) comes_last all.1 in
-    let last : LastTold is_congestion lens settings valid 0 begins (until untold_run Client 10) comes all.0 = last_told is_congestion lens settings valid (CountsAt untold_run Client) 0 None begins (until untold_run Client 10) comes all.0 calls in
+    let calls : TellsCalls lens settings valid (CountsAt untold_run Client) 0 None begins first_marking (until untold_run Client 10 ++ comes ∷ []) all.0 = subst (λ (ts : List of_runs.Told). TellsCalls lens settings valid (CountsAt untold_run Client) 0 None begins first_marking ts all.0) comes_last all.1 in
+    let last : LastTold is_congestion lens settings valid 0 begins first_marking (until untold_run Client 10) comes all.0 = last_told is_congestion lens settings valid (CountsAt untold_run Client) 0 None begins first_marking (until untold_run Client 10) comes all.0 calls in
     let shows : ◌≡◌ {A = ℕ} 12000 (if list_any is_congestion all.0 then 6000 else 12000) = all.2 in
-    let halves : ◌≡◌ {A = ℕ} 12000 6000 = shows ∙ ap (λ (b : Bool). if b then 6000 else 12000) (last.among (call_congests (valid last.place) last.first last.limited last.now last.tells)) in
+    let halves : ◌≡◌ {A = ℕ} 12000 6000 = shows ∙ ap (λ (b : Bool). if b then 6000 else 12000) (last.among (call_congests (valid last.place) last.first last.limited (marking untold_run Client 10) last.now last.tells)) in
     absurd (omega (arith, halves))
 
 -- the window that a view shows

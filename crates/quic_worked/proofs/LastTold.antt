@@ -6,6 +6,7 @@ use Rattle.quic_congestion.specs.Congestion.{Told}
 use Rattle.quic_headline.specs.Runs.{folded}
 use Rattle.quic_headline.specs.Runs as of_runs
 use Rattle.quic_headline.specs.Observer.{Watch, Lens, watch_told}
+use Rattle.quic_headline.specs.Marking.{Marking, marking_told, marking_behind}
 use Rattle.quic_headline.specs.Telling.{Tellings, first_behind, TellsCall, TellsCalls}
 
 -- one of both is told so
@@ -27,17 +28,17 @@ any_right p (x ∷ xs) ys some = go (p x) (any_right p xs ys some)
 
 -- The call behind these tells this, by what is known before it; where that has something of a kind,
 -- so has all that is told.
-pub record LastTold (p : Told → Bool) (l : Lens) (c : TransportSettings) (validated : ℕ → Bool) (n : ℕ) (w : Watch) (ts : List of_runs.Told) (t : of_runs.Told) (told : Tellings) : Type 0 where
+pub record LastTold (p : Told → Bool) (l : Lens) (c : TransportSettings) (validated : ℕ → Bool) (n : ℕ) (w : Watch) (k : Marking) (ts : List of_runs.Told) (t : of_runs.Told) (told : Tellings) : Type 0 where
   pub place : ℕ
   pub behind : place ≡ n + length ts
   pub first : Option ℕ
   pub limited : Bool
   pub now : Tellings
-  pub tells : TellsCall l c (validated place) first limited (folded (watch_told l) ts w) t now
+  pub tells : TellsCall l c (validated place) first limited (folded (watch_told l) ts w) (marking_behind l ts w k) t now
   pub among : list_any p now ≡ true → list_any p told ≡ true
 
-pub last_told : (p : Told → Bool) (l : Lens) (c : TransportSettings) (validated : ℕ → Bool) (may : ℕ → Bool → Type 0) (n : ℕ) (first : Option ℕ) (w : Watch) (ts : List of_runs.Told) (t : of_runs.Told) (told : Tellings) → TellsCalls l c validated may n first w (ts ++ t ∷ []) told → LastTold p l c validated n w ts t told
-last_told p l c validated may n first w [] t told m = record {
+pub last_told : (p : Told → Bool) (l : Lens) (c : TransportSettings) (validated : ℕ → Bool) (may : ℕ → Bool → Type 0) (n : ℕ) (first : Option ℕ) (w : Watch) (k : Marking) (ts : List of_runs.Told) (t : of_runs.Told) (told : Tellings) → TellsCalls l c validated may n first w k (ts ++ t ∷ []) told → LastTold p l c validated n w k ts t told
+last_told p l c validated may n first w k [] t told m = record {
   place = n;
   behind = omega arith;
   first = first;
@@ -46,8 +47,8 @@ last_told p l c validated may n first w [] t told m = record {
   tells = m.4;
   among = λ some. subst (λ (us : Tellings). list_any p us ≡ true) (sym m.6) (any_left p m.1 m.2 some);
 }
-last_told p l c validated may n first w (u ∷ ts) t told m =
-    let rest = last_told p l c validated may (suc n) (first_behind first (watch_told l u w)) (watch_told l u w) ts t m.2 m.5 in
+last_told p l c validated may n first w k (u ∷ ts) t told m =
+    let rest = last_told p l c validated may (suc n) (first_behind first (watch_told l u w)) (watch_told l u w) (marking_told l u w k) ts t m.2 m.5 in
     record {
       place = rest.place;
       behind = (let is = rest.behind in omega (arith, is));

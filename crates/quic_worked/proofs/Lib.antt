@@ -33,6 +33,7 @@ pub mod TimedRun
 mod MeasuredRun
 mod LastTold
 mod HalvedRun
+mod CongestedRun
 mod WidenedRun
 mod SkippedRun
 mod ProbedRun
@@ -51,6 +52,7 @@ mod MessageRuns
 mod RestedRun
 mod HastyRun
 mod MarkedRun
+mod BleachedRun
 mod CountedRuns
 mod IsolatedRuns
 mod BlockedRun
@@ -90,3 +92,5 @@ mod HastenedRuns
 mod EarlyAcks
 mod ShortenedRun
 mod SaidRun
+mod SampledRun
+mod ConfirmedRun

@@ -93,7 +93,7 @@ of_side r own Server = own.server
 pub own_ids : (r : Run) → ((side : Side) → AreOwn side [] r.events r.answers r.views) → UsesOwnIds r
 own_ids r own side i id call a at u = own_at i side (end_at side r.start).closing.state [] r.events r.answers r.views id call a (own side) at.event at.answer u
 
-honest_from : (w : World) → AreStarted w → (r : Run) → BothOwnFrom w r → IsHonest r
+pub honest_from : (w : World) → AreStarted w → (r : Run) → BothOwnFrom w r → IsHonest r
 honest_from w made r own = record { start = subst AreStarted own.start made; keys = subst AreKeys own.keys are_keys; ids = own_ids r (of_side r own) }
 
 pub honest : (r : Run) → BothOwn r → IsHonest r

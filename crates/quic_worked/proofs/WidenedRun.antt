@@ -23,6 +23,7 @@ use Rattle.quic_headline.specs.Observer.{Watch, Lens, news, has_opened, moment_o
 use Rattle.quic_headline.specs.Observer as observer
 use Rattle.quic_headline.specs.Headline.{IsHonest, IsRun}
 use Rattle.quic_headline.specs.Polls.{seen_at, bytes_on}
+use Rattle.quic_headline.specs.Marking.{Marking, first_marking, marking}
 use Rattle.quic_headline.specs.Telling.{Tellings, Judging, judging, told_if, TellsAcked, TellsAck, TellsNamed, TellsSettled, TellsPackets, TellsCall, TellsCalls, shows_validated, ControllersAreTold}
 use Rattle.quic_headline.specs.AppLimited.{CountsAt}
 use Rattle.quic_headline.proofs.AppLimited.Clause.{controllers_are_told}
@@ -277,7 +278,7 @@ acked_told : (least : ℕ) (challenged app_limited : Bool) (rtt : Rtt) (each : T
 acked_told least challenged app_limited rtt each none a =
     ap (λ (us : Tellings). list_any is_acknowledged us) (a.4 ∙ ap (λ (b : Bool). told_if (observer.asks_of pinged && not b) (Acked 0 0 32 app_limited rtt) ++ told_if a.0 (Resized 32) ++ a.2) none)
 
-module _ (validated : Bool) (is : validated ≡ true) (first : Option ℕ) (limited : Bool) where
+module _ (validated : Bool) (is : validated ≡ true) (first : Option ℕ) (limited : Bool) (k : Marking) where
   -- by what acknowledgements are judged there
   abbrev j : Judging
   j = judging lens settings validated first limited seen
@@ -286,19 +287,19 @@ module _ (validated : Bool) (is : validated ≡ true) (first : Option ℕ) (limi
   abbrev ended : Told
   ended = AcksEnded 0 (min (bytes_on seen.route.generation others) observer.latest) limited (Some (greatest_of seen.flight.named acks_second.largest))
 
-  settled_tells : (told : Tellings) → TellsSettled j 0 acks_second (pinged ∷ []) others seen.flight told → list_any is_acknowledged told ≡ true
+  settled_tells : (told : Tellings) → TellsSettled j 0 acks_second (pinged ∷ []) others seen.flight k told → list_any is_acknowledged told ≡ true
   settled_tells told x =
       ap (λ (us : Tellings). list_any is_acknowledged us) x.is
       ∙ any_left is_acknowledged (x.each ++ ended ∷ x.lost) _ (any_left is_acknowledged x.each (ended ∷ x.lost) (acked_told settings.min_mtu x.challenged limited seen.flight.rtt x.each (none_open x.challenged validated is x.unvalidated) x.acks))
 
-  packets_tell : (told : Tellings) → TellsPackets j 0 (packet ∷ []) seen.flight told → list_any is_acknowledged told ≡ true
+  packets_tell : (told : Tellings) → TellsPackets j 0 (packet ∷ []) seen.flight k told → list_any is_acknowledged told ≡ true
   packets_tell told m =
-      let frames : (now later : Tellings) × TellsAck j 0 acks_second seen.flight now × (later ≡ []) × (m.1 ≡ now ++ later) = m.3 in
-      let settled : TellsSettled j 0 acks_second (pinged ∷ []) others seen.flight frames.0 = subst (λ (ss : List observer.Sent). TellsNamed j 0 acks_second ss others seen.flight frames.0) acked_is frames.2 in
+      let frames : (now later : Tellings) × TellsAck j 0 acks_second seen.flight k now × (later ≡ []) × (m.1 ≡ now ++ later) = m.3 in
+      let settled : TellsSettled j 0 acks_second (pinged ∷ []) others seen.flight k frames.0 = subst (λ (ss : List observer.Sent). TellsNamed j 0 acks_second ss others seen.flight k frames.0) acked_is frames.2 in
       subst (λ (us : Tellings). list_any is_acknowledged us ≡ true) (sym m.4)
       (any_right is_acknowledged m.0 m.1 (subst (λ (us : Tellings). list_any is_acknowledged us ≡ true) (sym frames.4) (any_left is_acknowledged frames.0 frames.1 (settled_tells frames.0 settled))))
 
-  call_tells : (now : Tellings) → TellsCall lens settings validated first limited seen comes now → list_any is_acknowledged now ≡ true
+  call_tells : (now : Tellings) → TellsCall lens settings validated first limited seen k comes now → list_any is_acknowledged now ≡ true
   call_tells now x =
       ap (λ (us : Tellings). list_any is_acknowledged us) x.is
       ∙ any_left is_acknowledged (x.taken ++ x.refused ++ x.late) _ (any_left is_acknowledged (x.taken ++ x.refused) x.late (any_left is_acknowledged x.taken x.refused (packets_tell x.taken takes)))
@@ -310,21 +311,21 @@ module _ (validated : Bool) (is : validated ≡ true) (first : Option ℕ) (limi
           ∙ ap (λ (b : Bool). clock_behind seen.clock (moment_of states.Open b comes.call)) opened_is
           ∙ clock_is
 
-      takes : TellsPackets j 0 (packet ∷ []) seen.flight x.taken
+      takes : TellsPackets j 0 (packet ∷ []) seen.flight k x.taken
       takes =
-          subst (λ (n : ℕ). TellsPackets j n (packet ∷ []) seen.flight x.taken) clock
-          (subst (λ (ps : List Packet). TellsPackets j x.clock ps seen.flight x.taken) (ap (λ (i : of_runs.Intake). news seen.intake i) x.came ∙ news_are) x.takes)
+          subst (λ (n : ℕ). TellsPackets j n (packet ∷ []) seen.flight k x.taken) clock
+          (subst (λ (ps : List Packet). TellsPackets j x.clock ps seen.flight k x.taken) (ap (λ (i : of_runs.Intake). news seen.intake i) x.came ∙ news_are) x.takes)
 
 pub unwidened_not : ControllersAreTold unwidened_run → ⊥
 unwidened_not h =
     let all = h Server 13 (client_waits (view_within 12000 None (Some 25000000))) refl refl in
     let begins : Watch = watch_from (end_at Server widening) unwidened_run.from_server in
     let valid : ℕ → Bool = shows_validated unwidened_run Server in
-    let calls : TellsCalls lens settings valid (CountsAt unwidened_run Server) 0 None begins (until unwidened_run Server 13 ++ comes ∷ []) all.0 = subst (λ (ts : List of_runs.Told). TellsCalls lens settings valid (CountsAt unwidened_run Server) 0 None begins ts all.0) comes_last all.1 in
-    let last : LastTold is_acknowledged lens settings valid 0 begins (until unwidened_run Server 13) comes all.0 = last_told is_acknowledged lens settings valid (CountsAt unwidened_run Server) 0 None begins (until unwidened_run Server 13) comes all.0 calls in
+    let calls : TellsCalls lens settings valid (CountsAt unwidened_run Server) 0 None begins first_marking (until unwidened_run Server 13 ++ comes ∷ []) all.0 = subst (λ (ts : List of_runs.Told). TellsCalls lens settings valid (CountsAt unwidened_run Server) 0 None begins first_marking ts all.0) comes_last all.1 in
+    let last : LastTold is_acknowledged lens settings valid 0 begins first_marking (until unwidened_run Server 13) comes all.0 = last_told is_acknowledged lens settings valid (CountsAt unwidened_run Server) 0 None begins first_marking (until unwidened_run Server 13) comes all.0 calls in
     let is : valid last.place ≡ true = ap valid last.behind ∙ validated_then in
     let shows : ◌≡◌ {A = ℕ} 12000 (if list_any is_acknowledged all.0 then 24000 else 12000) = all.2 in
-    let grows : ◌≡◌ {A = ℕ} 12000 24000 = shows ∙ ap (λ (b : Bool). if b then 24000 else 12000) (last.among (call_tells (valid last.place) is last.first last.limited last.now last.tells)) in
+    let grows : ◌≡◌ {A = ℕ} 12000 24000 = shows ∙ ap (λ (b : Bool). if b then 24000 else 12000) (last.among (call_tells (valid last.place) is last.first last.limited (marking unwidened_run Server 13) last.now last.tells)) in
     absurd (omega (arith, grows))
 
 -- the window that a view shows

@@ -1,8 +1,9 @@
 -- Ends at which something waits without a cause: MAX_DATA and bytes behind the poll that gave them,
 -- PING behind a timeout, and an ACK frame though no packet came; and behind a call that asks for
--- PING PATH_CHALLENGE, PATH_RESPONSE, NEW_CONNECTION_ID and RETIRE_CONNECTION_ID. They are those of
--- the run in which a limit is lost and goes again, but for that. And clients that retire another id
--- of the peer than that which they used, where they use the next one, or one as it comes.
+-- PING PATH_CHALLENGE, PATH_RESPONSE, NEW_CONNECTION_ID, RETIRE_CONNECTION_ID and HANDSHAKE_DONE.
+-- They are those of the run in which a limit is lost and goes again, but for that. And clients that
+-- retire another id of the peer than that which they used, where they use the next one, or one as it
+-- comes.
 use Rattle.std.specs.Prelude.{false, true, List, [], ◌∷◌, take, Some, None, Ok}
 use Rattle.quic_machine.specs.declared.run.ReadCall.{ReadCall}
 use Rattle.quic_machine.specs.declared.run.Call.TheVariants as calls
@@ -105,6 +106,10 @@ response_at_each_call = signalling (λ s. record s { response = Some (record { p
 -- the first of the server's ids is to be told again
 abbrev pub id_at_each_call : World
 id_at_each_call = telling (λ f. record f { new_cids = issued 1 ∷ [] })
+
+-- HANDSHAKE_DONE waits, though nobody said that the handshake is done
+abbrev pub done_at_each_call : World
+done_at_each_call = telling (λ f. record f { handshake_done = true })
 
 -- the first of the client's ids is retired
 abbrev pub retirement_at_each_call : World

@@ -16,6 +16,7 @@ pub mod Timed
 pub mod Limited
 pub mod Measured
 pub mod Halved
+pub mod Congested
 pub mod Probed
 pub mod Searched
 pub mod Messages
@@ -55,3 +56,5 @@ pub mod Obeying
 pub mod Hastened
 pub mod Shortened
 pub mod Marked
+pub mod Confirmed
+pub mod Bleached

@@ -1,7 +1,7 @@
 -- A run in which timers expire: the client's datagram isn't acknowledged for 1024 ms, and a probe
 -- goes; then the server takes the datagram, and acknowledges it 25 ms later. And the same run as
--- machines with a bug show it.
-use Rattle.std.specs.Prelude.{ℕ, List, [], ◌∷◌, ◌++◌, replicate, take, Option, Some, None, Ok}
+-- machines with a bug show it. And a client that is told of a round trip that was measured before.
+use Rattle.std.specs.Prelude.{ℕ, true, List, [], ◌∷◌, ◌++◌, replicate, take, Option, Some, None, Ok}
 use Rattle.quic_wire_core.specs.declared.stream_id.Side.{Side}
 use Rattle.quic_wire_core.specs.declared.stream_id.Side.TheVariants.{Client, Server}
 use Rattle.quic_time.specs.declared.timer.Timer.TheVariants.{LossDetection}
@@ -11,10 +11,13 @@ use Rattle.quic_machine.specs.declared.run.Call.TheVariants as calls
 use Rattle.quic_machine.specs.declared.run.Answer.{Answer}
 use Rattle.quic_machine.specs.declared.run.Answer.TheVariants as answers
 use Rattle.quic_machine.specs.declared.run.View.{View}
+use Rattle.quic_config.specs.Transport.{Settings, parameters_of}
+use Rattle.quic_machine.specs.End.{new_end}
 use Rattle.quic_machine.specs.Machine.{World, Follows}
 use Rattle.quic_headline.specs.Runs.{Run}
 use Rattle.quic_headline.specs.Observer.{loss_due, watch}
-use Rattle.quic_worked.specs.Worked.{ran, worked_policies, started, delivery, once_sent, sending_events, sending_answers, gives_bytes, hello_datagram, open_view, sent_view, view_with, ids_payload, server_with, server_open}
+use Rattle.quic_worked.specs.Settings.{plain_settings}
+use Rattle.quic_worked.specs.Worked.{after_event, ran, steady, client_id, server_id, worked_policies, started, delivery, once_sent, sending_events, sending_answers, gives_bytes, hello_datagram, open_view, sent_view, view_with, ids_payload, server_with, server_open}
 use Rattle.quic_worked.specs.Acknowledged.{ack_payload, client_datagram, client_acked, from_server}
 
 -- an end's timers are served at a moment
@@ -141,3 +144,38 @@ asking_run loss next = record {
   from_client = hello_datagram ∷ [];
   from_server = [];
 }
+
+-- ---- a first sample
+
+-- a round trip of 100 ms was measured before the connection begins, which varies by 20 ms
+abbrev pub sampled_settings : Settings
+sampled_settings = record plain_settings { first_sample = Some (record { rtt = 100000000; variation = 20000000 }) }
+
+-- both ends, before anything was given, of which the client was told so
+abbrev pub sampled_start : World
+sampled_start = record started { client = new_end Client sampled_settings steady (parameters_of plain_settings) client_id server_id 0 0 true (λ n. 63) }
+
+-- the client gave its datagram
+unfoldable pub once_sampled : World
+unfolding client_acked
+once_sampled = after_event worked_policies sampled_start (asks_at Client 0) (gives_bytes 222)
+
+-- the run, where the client's loss timer shows this
+abbrev pub sampled_until : ℕ → Run
+sampled_until due = record {
+  keys = worked_policies;
+  start = sampled_start;
+  events = asks_at Client 0 ∷ [];
+  answers = gives_bytes 222 ∷ [];
+  views = seen_with (Some due) None ∷ [];
+  from_client = client_datagram 0 0 ids_payload ∷ [];
+  from_server = [];
+}
+
+-- the round trip that was measured, four times its variation, and 25 ms
+abbrev pub sampled_run : Run
+sampled_run = sampled_until 205000000
+
+-- a client that assumes a round trip all the same
+abbrev pub unsampled_run : Run
+unsampled_run = sampled_until 1024000000

@@ -6,7 +6,7 @@ ghost use Rattle.quic_headline.specs.Duties.{AllData};
 ghost use Rattle.quic_headline.specs.Begins.{Challenge, Response, Frame, LimitOf, NewId, Retirement, IsPending, HasCause, asks_for, WasLost, BeginsAt};
 ghost use Rattle.quic_worked.specs.Credit.{ReadsEight, credit_written, credit_read, credit_given};
 ghost use Rattle.quic_worked.specs.Raised.{raised_events, raised_told, third_came, NeverComes};
-ghost use Rattle.quic_worked.specs.Begun.{sending_seen, reading_seen, raising_seen, pinging_seen, waiting_seen, losing_seen, challenged_seen, bringing_seen, using_seen, retired_seen, unanswered_server, limit_at_each_poll, ack_at_each_call, ping_at_each_timeout, bytes_at_each_poll, challenge_at_each_call, response_at_each_call, id_at_each_call, retirement_at_each_call, retires_the_next, retires_at_once, NeverBrought, NeverRenamed};
+ghost use Rattle.quic_worked.specs.Begun.{sending_seen, reading_seen, raising_seen, pinging_seen, waiting_seen, losing_seen, challenged_seen, bringing_seen, using_seen, retired_seen, unanswered_server, limit_at_each_poll, ack_at_each_call, ping_at_each_timeout, bytes_at_each_poll, challenge_at_each_call, response_at_each_call, id_at_each_call, retirement_at_each_call, done_at_each_call, retires_the_next, retires_at_once, NeverBrought, NeverRenamed};
 ghost use Rattle.quic_worked.specs.Renamed.{once_renamed};
 ghost use Rattle.quic_worked.specs.Unvalidated.{once_answered};
 
@@ -58,8 +58,9 @@ pub fn needless_waits_show()
 {}
 
 /// A server at which PATH_CHALLENGE waits behind a call that asks for PING breaks the clause; so
-/// does one at which PATH_RESPONSE waits there, an id that was told is to be told again, or an id
-/// of the peer is retired. No run comes to them.
+/// does one at which PATH_RESPONSE waits there, an id that was told is to be told again, an id of
+/// the peer is retired, or HANDSHAKE_DONE waits, though nobody said that the handshake is done. No
+/// run comes to them.
 pub fn needless_frames_show()
     ensures challenge { (read : ReadCall)
         → BeginsAt (pinging_seen read) credit_given.server challenge_at_each_call.server → ⊥ }
@@ -69,6 +70,8 @@ pub fn needless_frames_show()
         → BeginsAt (pinging_seen read) credit_given.server id_at_each_call.server → ⊥ }
     ensures retirement { (read : ReadCall)
         → BeginsAt (pinging_seen read) credit_given.server retirement_at_each_call.server → ⊥ }
+    ensures done { (read : ReadCall)
+        → BeginsAt (pinging_seen read) credit_given.server done_at_each_call.server → ⊥ }
     ensures machine_challenge { (read : ReadCall) → ReadsEight read
         → NeverComes (take 8 (raised_events read)) (take 8 raised_told) challenge_at_each_call }
     ensures machine_response { (read : ReadCall) → ReadsEight read
@@ -77,6 +80,8 @@ pub fn needless_frames_show()
         → NeverComes (take 8 (raised_events read)) (take 8 raised_told) id_at_each_call }
     ensures machine_retirement { (read : ReadCall) → ReadsEight read
         → NeverComes (take 8 (raised_events read)) (take 8 raised_told) retirement_at_each_call }
+    ensures machine_done { (read : ReadCall) → ReadsEight read
+        → NeverComes (take 8 (raised_events read)) (take 8 raised_told) done_at_each_call }
 {}
 
 /// A client that uses the next id of its peer, and retires that one too, beside the one that it

@@ -2,12 +2,12 @@
 //! function does nothing: its contract is the law.
 ghost use Rattle.std.specs.Prelude.{◌≡◌, ◌∷◌, [], Some, None};
 ghost use Rattle.quic_wire_core.specs.declared.stream_id.Side.TheVariants.{Client, Server};
-ghost use Rattle.quic_headline.specs.Headline.{IsRun};
+ghost use Rattle.quic_headline.specs.Headline.{IsHonest, IsRun};
 ghost use Rattle.quic_headline.specs.Moments.{debt, LossMoments, AckMoments};
 ghost use Rattle.quic_headline.specs.Views.{ViewsTell};
 ghost use Rattle.quic_worked.specs.Worked.{once_sent};
 ghost use Rattle.quic_worked.specs.Broken.{IsNoRun};
-ghost use Rattle.quic_worked.specs.Timed.{once_later, asking_run, timed_run, never_backs_off, never_resets, never_measures, waits_twice, due_at, NeverShows};
+ghost use Rattle.quic_worked.specs.Timed.{once_later, asking_run, timed_run, never_backs_off, never_resets, never_measures, waits_twice, once_sampled, sampled_run, unsampled_run, due_at, NeverShows};
 
 /// An acknowledgement is waited for 1024 ms after the datagram that asks, twice as long once the
 /// timer expired, and from the probe on; once a datagram in flight is acknowledged after 1060 ms,
@@ -63,4 +63,18 @@ pub fn timers_are_told()
     ensures next { ViewsTell (asking_run (Some 1024000000) None) → ⊥ }
     ensures timer_machine { IsNoRun (asking_run None (Some 1024000000)) }
     ensures next_machine { IsNoRun (asking_run (Some 1024000000) None) }
+{}
+
+/// Where a round trip of 100 ms was measured before the connection begins, which varies by 20 ms,
+/// the first datagram is waited for during 205 ms: that time, four times its variation, and 25 ms
+/// (RFC 9002, sections 5.3 and 6.2.1). A client that assumes a round trip all the same shows
+/// another moment, which the machine doesn't.
+pub fn first_sample_counts()
+    ensures honest { IsHonest sampled_run }
+    ensures run { IsRun sampled_run once_sampled }
+    ensures due { due_at sampled_run Client 1 ≡ Some 205000000 }
+    ensures moments { LossMoments sampled_run }
+    ensures wrong { LossMoments unsampled_run → ⊥ }
+    ensures wrong_honest { IsHonest unsampled_run }
+    ensures machine { NeverShows unsampled_run }
 {}

@@ -115,6 +115,7 @@ impl Victim {
                 take_messages(end);
                 Ok(())
             }
+            Event::HandshakeConfirmed => Ok(()),
             Event::Lost(_) => Err(Fault::Lost),
         }
     }

@@ -6,17 +6,18 @@ ghost use Rattle.quic_machine.specs.declared.answers.NextIdError.TheVariants as 
 ghost use Rattle.quic_machine.specs.Ids.{destination};
 ghost use Rattle.quic_machine.specs.End.{with_end, drawing, words_drawn, policy_of};
 ghost use Rattle.quic_machine.specs.Sizes.{shortened};
-ghost use Rattle.quic_machine.specs.IdFrames.{issued, drawn, next_id_answer, after_next_id};
+ghost use Rattle.quic_machine.specs.IdFrames.{issued, drawn, end_routes, end_after_routed, next_id_answer, after_next_id};
 ghost use Rattle.quic_machine.specs.Receive.{take_new_id, take_retirement};
 ghost use Rattle.quic_connection_parts.specs.Faults.{TakesAs};
 ghost use Rattle.quic_connection_parts.specs.Drawn.{words_of, after_words};
 
 use crate::connection::Connection;
 use quic_congestion::Controller;
+use quic_connection_parts::OwnId;
 use quic_connection_parts::id_frames::{next_id_error, too_many_ids, trouble_of_retiring};
 use quic_connection_parts::receiving::Trouble;
 use quic_ids::InsertError;
-use quic_machine::NextIdError;
+use quic_machine::{EndpointEvent, NextIdError};
 use quic_packet::crypto::{HeaderKey, PacketKey};
 use quic_retransmits::MAX_PENDING_RETIRED_CIDS;
 use quic_wire::frame::NewConnectionId;
@@ -104,6 +105,30 @@ impl<H: HeaderKey + Drop, K: PacketKey + Drop, R: Rng + Drop, C: Controller> Con
     {
         if before < self.ids.destination().len() {
             self.drop_oversized();
+        }
+    }
+
+    /// The own connection IDs that live, by ascending number: a datagram with one of them is for
+    /// this endpoint (RFC 9000, sections 5.1.1 and 5.2). They are there as soon as they are issued,
+    /// before the peer is told. [`poll_endpoint_events`](Self::poll_endpoint_events) says when they
+    /// are others. Of an endpoint that has failed they say nothing: who keeps them takes them out.
+    pub fn own_ids(&self) -> &[OwnId]
+        ensures { result.now ≡ self.now.end.ids.living }
+    {
+        self.ids.own_ids()
+    }
+
+    /// The next event for whoever routes datagrams to connections: that own IDs were issued or
+    /// retired, once for all since it was told last. The first tells of those with which the
+    /// endpoint begins (quinn-proto's `Connection::poll_endpoint_events`).
+    pub fn poll_endpoint_events(&mut self) -> Option<EndpointEvent>
+        ensures answer { result ≡ end_routes self.old.end }
+        ensures end { self.new ≡ with_end self.old (end_after_routed self.old.end) }
+    {
+        if self.ids.take_change() {
+            Some(EndpointEvent::OwnIdsChanged)
+        } else {
+            None
         }
     }
 

@@ -438,7 +438,7 @@ impl<H: HeaderKey + Drop, K: PacketKey + Drop, R: Rng + Drop, C: Controller> Con
     }
 
     /// Takes a frame. Those about neither packets and their acknowledgements, streams, messages,
-    /// IDs, the path nor a close do nothing yet.
+    /// IDs, the path, the end of the handshake nor a close do nothing yet.
     #[tactic(auto, using(crate::proofs::Items::tells_nothing))]
     fn take_frame(&mut self, frame: &Frame<'_>) -> Result<(), Trouble>
         requires { HasForm (frame_view frame.now) }
@@ -472,6 +472,7 @@ impl<H: HeaderKey + Drop, K: PacketKey + Drop, R: Rng + Drop, C: Controller> Con
                 Ok(())
             }
             Frame::AckFrequency(frame) => self.take_ack_frequency(frame),
+            Frame::HandshakeDone => self.take_handshake_done(),
             _ => take_other(&mut self.streams, frame),
         }
     }

@@ -160,14 +160,17 @@ impl<H: HeaderKey + Drop, K: PacketKey + Drop, R: Rng + Drop, C: Controller> Con
     }
 
     /// The next event for the application: that a message came while none was unread, once for each
-    /// that did; then what happened to streams; and then that the connection is lost, once, and
-    /// why.
+    /// that did; then, once at a client, that the handshake is confirmed; then what happened to
+    /// streams; and then that the connection is lost, once, and why.
     pub fn poll(&mut self) -> Option<Event>
         ensures answer { result ≡ end_tells self.old.end }
         ensures end { self.new ≡ with_end self.old (end_after_event self.old.end) }
     {
         if self.tell_message() {
             return Some(Event::Message);
+        }
+        if self.tell_confirmation() {
+            return Some(Event::HandshakeConfirmed);
         }
         match self.streams.state.poll() {
             Some(event) => Some(Event::Stream(event)),

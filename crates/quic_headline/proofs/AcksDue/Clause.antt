@@ -217,7 +217,7 @@ acks_are_due r end honest run quiet side i now a v q served at there opened due 
     pressed : IsPressed e.acknowledging
     pressed = h.gives.1.due opened_before due
 
-    since : In q (folded (unanswered_told (lens x y)) x.told (none_unanswered (first_watch x.final x.began x.made.path.remote x.initial_rtt x.initial_delay))).packets
+    since : In q (folded (unanswered_told (lens x y)) x.told (none_unanswered (first_watch x.final x.began x.made.path.remote x.first_rtt x.initial_delay))).packets
     since = owed.since
 
     owes : Owes x.sents (came_to x y).took x.end q.number
@@ -228,7 +228,7 @@ acks_are_due r end honest run quiet side i now a v q served at there opened due 
     sents_are = ap (λ (v : Watch). v.own) h.seen ∙ h.gives.0.0.0.1.own
 
     took_is : took r side i ≡ (came_to x y).took
-    took_is = ap (λ (v : Watch). v.intake.took) h.seen ∙ ap (λ (j : Intake). j.took) (watched_intake (lens x y) x.told (first_watch x.final x.began x.made.path.remote x.initial_rtt x.initial_delay))
+    took_is = ap (λ (v : Watch). v.intake.took) h.seen ∙ ap (λ (j : Intake). j.took) (watched_intake (lens x y) x.told (first_watch x.final x.began x.made.path.remote x.first_rtt x.initial_delay))
 
     can : can_send e.acknowledging ≡ true
     can = and_from e.acknowledging.due (is_filled e.acknowledging.runs) pressed.0 (owed_filled r side i q owed e x.sents (came_to x y).took sents_are took_is owes)

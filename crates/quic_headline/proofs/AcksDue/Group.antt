@@ -51,7 +51,7 @@ Waiting = And Observed (And Answers Indebted)
 
 -- what the observer of x finds due
 abbrev pub haste_of : Party → Party → Haste
-haste_of x y = folded (haste_told (lens x y)) x.told (no_haste (first_watch x.final x.began x.made.path.remote x.initial_rtt x.initial_delay))
+haste_of x y = folded (haste_told (lens x y)) x.told (no_haste (first_watch x.final x.began x.made.path.remote x.first_rtt x.initial_delay))
 
 -- what isn't answered within it is what isn't
 same_known : (l : Lens) (told : List Told) (h : Haste) → (folded (haste_told l) told h).known ≡ folded (unanswered_told l) told h.known
@@ -97,10 +97,10 @@ module _ (x y : Party) (call : Call) (a : Answer) (c : Calls Waiting x y call a)
   told = told_of call a x.end.closing.state
 
   known_before : (haste_of x y).known ≡ before
-  known_before = same_known (lens x y) x.told (no_haste (first_watch x.final x.began x.made.path.remote x.initial_rtt x.initial_delay))
+  known_before = same_known (lens x y) x.told (no_haste (first_watch x.final x.began x.made.path.remote x.first_rtt x.initial_delay))
 
   debt_before : (haste_of x y).debt ≡ debt_of x y
-  debt_before = same_debt (lens x y) x.told (no_haste (first_watch x.final x.began x.made.path.remote x.initial_rtt x.initial_delay))
+  debt_before = same_debt (lens x y) x.told (no_haste (first_watch x.final x.began x.made.path.remote x.first_rtt x.initial_delay))
 
   pub watched : before.watch ≡ watch_of x y
   watched = watch_within x y call a observed
@@ -114,7 +114,7 @@ module _ (x y : Party) (call : Call) (a : Answer) (c : Calls Waiting x y call a)
   haste_told_is =
       let due : Bool = (haste_of x y).due in
       let acked : Option ℕ = (haste_of x y).acked in
-      folded_more (haste_told (lens x y)) x.told told (no_haste (first_watch x.final x.began x.made.path.remote x.initial_rtt x.initial_delay))
+      folded_more (haste_told (lens x y)) x.told told (no_haste (first_watch x.final x.began x.made.path.remote x.first_rtt x.initial_delay))
       ∙ ap (λ (u : Unanswered). haste_told (lens x y) told (record { known = u; debt = (haste_of x y).debt; due = due; acked = acked })) known_before
       ∙ ap (λ (d : Debt). haste_told (lens x y) told (record { known = before; debt = d; due = due; acked = acked })) debt_before
 
@@ -126,7 +126,7 @@ module _ (x y : Party) (call : Call) (a : Answer) (c : Calls Waiting x y call a)
   pub due_told : (haste_of (called x y.given call a) y).due
       ≡ due_if told (acknowledges (sents_by x.policy x.end call a)) (haste_of x y).due urged (haste_of x y).acked (came_to x y) (came_to (called x y.given call a) y) behind.packets (debt_of (called x y.given call a) y).deadlines after.clock
   due_told =
-      let first : Watch = first_watch x.final x.began x.made.path.remote x.initial_rtt x.initial_delay in
+      let first : Watch = first_watch x.final x.began x.made.path.remote x.first_rtt x.initial_delay in
       let due : Bool = (haste_of x y).due in
       let acked : Option ℕ = (haste_of x y).acked in
       let unanswered : Unanswered = unanswered_told (lens x y) told before in

@@ -8,7 +8,7 @@ use Rattle.std.specs.declared.ops.Range.{Range}
 use Rattle.std.proofs.lemmas.Bool.{lt-ltb, ltb-true, leb-true, leb-false}
 use Rattle.quic_wire_core.specs.TransportError.{ErrorValue}
 use Rattle.quic_wire_core.specs.declared.shared.EcnCodepoint.{EcnCodepoint}
-use Rattle.quic_wire.specs.Value.{FrameValue, AckFrequencyValue, ack, datagram, new_connection_id, retire_connection_id, path_challenge, path_response, ack_frequency, asks}
+use Rattle.quic_wire.specs.Value.{FrameValue, AckFrequencyValue, ack, datagram, new_connection_id, retire_connection_id, path_challenge, path_response, handshake_done, ack_frequency, asks}
 use Rattle.quic_ids.specs.CidState.{retirement_answer}
 use Rattle.quic_ids.specs.CidQueue.{insert_answer}
 use Rattle.quic_ids.specs.declared.cid_queue.InsertError.{InsertError}
@@ -52,7 +52,7 @@ use Rattle.quic_headline.specs.Runs.{Packet, Intake}
 use Rattle.quic_headline.specs.Requested.{Requested, is_newer, requested_after, requested_by, requested}
 use Rattle.quic_headline.specs.AcksDue.{greatest_asking, latest_asking}
 use Rattle.quic_headline.proofs.Packets.Closes.{by_closes}
-use Rattle.quic_headline.proofs.Packets.Apart.{by_waits}
+use Rattle.quic_headline.proofs.Packets.Apart.{by_waits, by_heard_done}
 use Rattle.quic_headline.proofs.Packets.Delivered.{frames_at, Arrivals, arrived}
 use Rattle.quic_headline.proofs.Packets.Moved.{migrated_closing}
 use Rattle.quic_headline.proofs.Packets.Group.{meets}
@@ -240,6 +240,7 @@ frame_asked (path_response token) e none = ap (λ (r : Rule). r.asked) (go (is_a
     go : (b : Bool) → Keeps e (validated_if b e)
     go true = refl
     go false = refl
+frame_asked handshake_done e none = by_heard_done (λ (x : End). asked_of x ≡ asked_of e) e refl (λ c. refl)
 frame_asked (ack_frequency f) e none = frequency_asked f e none
 frame_asked f e none = refl
 

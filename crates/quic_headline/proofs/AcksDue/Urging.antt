@@ -133,7 +133,7 @@ module _ (x y : Party) (call : Call) where
   seen = watch_of x y
 
   seen_intake : seen.intake ≡ came_to x y
-  seen_intake = watched_intake (lens x y) x.told (first_watch x.final x.began x.made.path.remote x.initial_rtt x.initial_delay)
+  seen_intake = watched_intake (lens x y) x.told (first_watch x.final x.began x.made.path.remote x.first_rtt x.initial_delay)
 
   -- whether the observer of x finds a packet urged by a call that is so answered, and brings this
   abbrev pub urged_by : Answer → Intake → Bool
@@ -145,7 +145,7 @@ module _ (x y : Party) (call : Call) where
       let next : Party = called x y.given call a in
       ap (λ (v : Watch). takes_urged (told_of call a x.end.closing.state) w v) (sym (behind_is x y call a c w is))
       ∙ ap (λ (v : Watch). takes_urged (told_of call a x.end.closing.state) v (watch_of next y)) is
-      ∙ ap (λ (j : Intake). takes_marked call a && (one_asks (news seen.intake j) || list_any asks_of (drop (length (acks x y)) (acks next y)))) (watched_intake (lens x y) next.told (first_watch x.final x.began x.made.path.remote x.initial_rtt x.initial_delay))
+      ∙ ap (λ (j : Intake). takes_marked call a && (one_asks (news seen.intake j) || list_any asks_of (drop (length (acks x y)) (acks next y)))) (watched_intake (lens x y) next.told (first_watch x.final x.began x.made.path.remote x.first_rtt x.initial_delay))
       ∙ ap (λ (ss : List Sent). takes_marked call a && (one_asks (news seen.intake (came_to next y)) || list_any asks_of (drop (length (acks x y)) ss))) (acks_behind x y call a)
 
   -- none where nothing came

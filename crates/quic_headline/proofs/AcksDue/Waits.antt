@@ -185,7 +185,7 @@ module _ (x y : Party) (call : Call) (a : Answer) (c : Calls Observed x y call a
 
   -- the observer within it
   pub debt_watched : before.watch ≡ watch_of x y
-  debt_watched = owed_watch (lens x y) x.told (first_debt (first_watch x.final x.began x.made.path.remote x.initial_rtt x.initial_delay))
+  debt_watched = owed_watch (lens x y) x.told (first_debt (first_watch x.final x.began x.made.path.remote x.first_rtt x.initial_delay))
 
   abbrev after : Watch
   after = watch_behind x y call a c before.watch debt_watched
@@ -197,7 +197,7 @@ module _ (x y : Party) (call : Call) (a : Answer) (c : Calls Observed x y call a
   -- what isn't answered behind the call
   pub deadlines_told : (debt_of (called x y.given call a) y).deadlines ≡ deadlines_if (acknowledges (sents_by x.policy x.end call a)) (came_to x y) (came_to (called x y.given call a) y)
   deadlines_told =
-      ap (λ (d : Debt). d.deadlines) (folded_more (debt_told (lens x y)) x.told (told_of call a x.end.closing.state) (first_debt (first_watch x.final x.began x.made.path.remote x.initial_rtt x.initial_delay)))
+      ap (λ (d : Debt). d.deadlines) (folded_more (debt_told (lens x y)) x.told (told_of call a x.end.closing.state) (first_debt (first_watch x.final x.began x.made.path.remote x.first_rtt x.initial_delay)))
       ∙ ap (λ (ss : List Sent). deadlines_if (acknowledges ss) before.watch.intake after.intake) (went_behind x y call a c before.watch debt_watched)
       ∙ ap (λ (i : Intake). deadlines_if (acknowledges (sents_by x.policy x.end call a)) i after.intake) (came_before x y call a c before.watch debt_watched)
       ∙ ap (λ (j : Intake). deadlines_if (acknowledges (sents_by x.policy x.end call a)) (came_to x y) j) (came_behind x y call a c before.watch debt_watched)

@@ -46,7 +46,7 @@ use Rattle.quic_machine.specs.Control.{Control}
 use Rattle.quic_machine.specs.Heard.{Heard}
 use Rattle.quic_machine.specs.Closing.{Closing, loss_to_tell}
 use Rattle.quic_machine.specs.End.{End, first_streams}
-use Rattle.quic_machine.specs.Calls.{tells_of, streams_told, tells_message, end_tells, message_told, others_told, end_after_event}
+use Rattle.quic_machine.specs.Calls.{tells_of, streams_told, tells_message, tells_done, end_tells, message_told, confirmation_told, others_told, end_after_event}
 use Rattle.quic_machine.specs.Machine.{IsAnswer, IsLeft, after_call, reads_window, end_left, fails}
 use Rattle.quic_headline.specs.Alone.{Lone, IsLoneStep, IsNew, FollowsAlone}
 use Rattle.quic_headline.specs.FewEvents.{finished_in, counted}
@@ -236,7 +236,8 @@ module _ (id : ℕ) where
 
   -- ---- events
 
-  -- what a call tells is what is told of streams, where no message is
+  -- what a call tells is what is told of streams, where no message is, nor that the handshake is
+  -- confirmed
   finished_as : (o : Option StreamEvent) (c : Closing) → finished_in id calls.Event (answers.Event (tells_of o c)) ≡ tells id o
   finished_as None c = go (loss_to_tell c)
     where
@@ -252,11 +253,15 @@ module _ (id : ℕ) where
 
   -- what was told more waits no more
   event_once : (k : ℕ) (e : End) → Once k e.streams → Once (finished_in id calls.Event (answers.Event (end_tells e)) + k) (end_after_event e).streams
-  event_once k e i = go (tells_message e)
+  event_once k e i = go (tells_message e) (tells_done e)
     where
-      go : (b : Bool) → Once (finished_in id calls.Event (answers.Event (if b then Some events.Message else tells_of (streams_told e).answer e.closing)) + k) (if b then message_told e else others_told e).streams
-      go true = fewer (with_waiting k e.streams) (with_waiting (0 + k) e.streams) e.streams (omega arith) i
-      go false =
+      same : Once (0 + k) e.streams
+      same = fewer (with_waiting k e.streams) (with_waiting (0 + k) e.streams) e.streams (omega arith) i
+
+      go : (b c : Bool) → Once (finished_in id calls.Event (answers.Event (if b then Some events.Message else (if c then Some events.HandshakeConfirmed else tells_of (streams_told e).answer e.closing))) + k) (if b then message_told e else (if c then confirmation_told e else others_told e)).streams
+      go true c = same
+      go false true = same
+      go false false =
           let told = told_counts id e.streams in
           let same = finished_as (streams_told e).answer e.closing in
           let more : ℕ = finished_in id calls.Event (answers.Event (tells_of (streams_told e).answer e.closing)) + k in

@@ -9,7 +9,7 @@ use Rattle.std.proofs.lemmas.List.Sums.{sum_by-cons}
 use Rattle.quic_wire_core.specs.TransportError.{ErrorValue}
 use Rattle.quic_wire_core.specs.declared.shared.EcnCodepoint.{EcnCodepoint}
 use Rattle.quic_wire_core.specs.declared.stream_id.Side.{Side}
-use Rattle.quic_wire.specs.Value.{FrameValue, ack, datagram, new_connection_id, retire_connection_id, path_response, ack_frequency}
+use Rattle.quic_wire.specs.Value.{FrameValue, ack, datagram, new_connection_id, retire_connection_id, path_response, handshake_done, ack_frequency}
 use Rattle.quic_parameters.specs.Parameters.{ParameterValues}
 use Rattle.quic_config.specs.Transport.{Settings, TransportSettings, transport_of}
 use Rattle.quic_sets.specs.Runs.{Run, AreRuns}
@@ -50,10 +50,10 @@ use Rattle.quic_machine.specs.Machine.{after_call}
 use Rattle.quic_machine.specs.FrameCases.{Settling, losses_keep, named, ack_taken, acked_keeps}
 use Rattle.quic_machine.specs.Steps as steps
 use Rattle.quic_machine.specs.LeaveCases.{lost_at, by_expired, by_event}
-use Rattle.quic_machine.specs.CallCases.{by_call}
+use Rattle.quic_machine.specs.CallCases.{by_call, by_done}
 use Rattle.quic_headline.specs.Keeping.{WaitWithin}
 use Rattle.quic_headline.proofs.Packets.Acking.{packet_runs}
-use Rattle.quic_headline.proofs.Packets.Apart.{by_frequency, by_waits}
+use Rattle.quic_headline.proofs.Packets.Apart.{by_frequency, by_heard_done, by_waits}
 use Rattle.quic_headline.proofs.Packets.Closes.{by_closes}
 use Rattle.quic_headline.proofs.Packets.Probes.{may_leave}
 use Rattle.quic_headline.proofs.Alone.Asked.{BringsId, brings_id}
@@ -189,6 +189,7 @@ module _ (settings : TransportSettings) where
       go : (b : Bool) → KeptAt (validated_if b e)
       go true = i
       go false = i
+  frame_kept handshake_done e asks i = by_heard_done KeptAt e i (λ c. i)
   frame_kept (ack_frequency r) e asks i = by_frequency KeptAt r e (λ threshold reordering frequency. i)
   frame_kept f e asks i = i
 
@@ -272,6 +273,7 @@ module _ (settings : TransportSettings) where
     closes = λ reason f now own. i;
     waits = λ now b set. by_waits KeptAt b (with_closing e (ticked e.closing now)) i i;
     changes_id = λ uses answer. next_kept e a i;
+    says_handshake = λ says answer. by_done KeptAt e a i i;
     times = λ now expiry set. by_expired p.words e now KeptAt
         (λ acks tracking timers waits asked runs packets. subst (λ (rs : List Run). Kept e.transport e.messages.queues.incoming rs e.ids.peer) (sym runs) i)
         (λ acks timers waits asked runs. (
@@ -280,7 +282,7 @@ module _ (settings : TransportSettings) where
         (λ x j. j) expiry;
     polls = λ now set. poll_kept p e now i;
     hears = λ arrival d set. delivery_kept p e arrival d i;
-    tells = λ asks. by_event e KeptAt i (λ told. i);
+    tells = λ asks. by_event e KeptAt i i (λ told. i);
   })
 
 -- ---- at the start

@@ -30,7 +30,8 @@ use Rattle.quic_machine.specs.Opens.{head, would_open}
 use Rattle.quic_machine.specs.Receive.{dropped, by_state, opened_to, opened_as, opening, unopened_in, headed, received_in, is_read, drawn_if, with_ids_drawn, has_migrated}
 use Rattle.quic_machine.specs.Poll.{Polled, polled_in}
 use Rattle.quic_machine.specs.Timeouts.{timed_out_in}
-use Rattle.quic_machine.specs.Calls.{closed_in, tells_of, streams_told, tells_message, end_tells, closing_told, message_told, others_told, end_after_event}
+use Rattle.quic_machine.specs.Calls.{closed_in, tells_of, streams_told, tells_message, tells_done, end_tells, closing_told, message_told, confirmation_told, others_told, end_after_event}
+use Rattle.quic_machine.specs.CallCases.{by_done}
 use Rattle.quic_machine.specs.Machine.{IsAnswer, IsLeft, says_last, after_delivered, after_injected_if, after_call, reads_window, end_left, fails}
 use Rattle.quic_headline.specs.Alone.{Lone, IsLoneStep, IsNew, FollowsAlone}
 use Rattle.quic_headline.specs.FewEvents.{lost_in, counted}
@@ -120,7 +121,7 @@ module _ (e : End) (i : IsOver e.closing) where
 
   -- an event
   event_over : IsOver (end_after_event e).closing
-  event_over = go (tells_message e)
+  event_over = go (tells_message e) (tells_done e)
     where
       loss : (o : Option LostReason) → IsOver (after_told o e.closing)
       loss None = i
@@ -130,26 +131,29 @@ module _ (e : End) (i : IsOver e.closing) where
       others None = loss (loss_to_tell e.closing)
       others (Some event) = i
 
-      go : (b : Bool) → IsOver (if b then message_told e else others_told e).closing
-      go true = i
-      go false = others (streams_told e).answer
+      go : (b c : Bool) → IsOver (if b then message_told e else (if c then confirmation_told e else others_told e)).closing
+      go true c = i
+      go false true = i
+      go false false = others (streams_told e).answer
 
   -- and it tells nothing of it
   event_none : lost_in calls.Event (answers.Event (end_tells e)) ≡ 0
-  event_none = go (tells_message e)
+  event_none = go (tells_message e) (tells_done e)
     where
       others : (o : Option StreamEvent) → lost_in calls.Event (answers.Event (tells_of o e.closing)) ≡ 0
       others None = ap (λ (b : Bool). lost_in calls.Event (answers.Event (option_map events.Lost (if b then None else e.closing.reason)))) i.0
       others (Some event) = refl
 
-      go : (b : Bool) → lost_in calls.Event (answers.Event (if b then Some events.Message else tells_of (streams_told e).answer e.closing)) ≡ 0
-      go true = refl
-      go false = others (streams_told e).answer
+      go : (b c : Bool) → lost_in calls.Event (answers.Event (if b then Some events.Message else (if c then Some events.HandshakeConfirmed else tells_of (streams_told e).answer e.closing))) ≡ 0
+      go true c = refl
+      go false true = refl
+      go false false = others (streams_told e).answer
 
 -- any call
 call_over : (p : Policy) (e : End) (theirs : List (List ℕ)) (call : Call) (a : Answer) → IsOver e.closing → IsOver (after_call p e theirs call a).closing
 call_over p e theirs (calls.Close close) a i = closed_over e i e.closing.state refl close.now close.error_code close.reason
 call_over p e theirs calls.UseNextId a i = by_next_id (λ (x : End). IsOver x.closing) e a i (λ c. i) (λ c most. i)
+call_over p e theirs calls.HandshakeDone a i = by_done (λ (x : End). IsOver x.closing) e a i i
 call_over p e theirs (calls.Poll now) a i = polled_over e i e.closing.state refl p now
 call_over p e theirs (calls.Timeout now) a i = timed_over e i e.closing.state refl p now
 call_over p e theirs (calls.Deliver delivery) a i = delivered_over e i (slice_get theirs delivery.index) p (delivered_by (says_last a) delivery)
@@ -181,7 +185,7 @@ reason_told false o reason is = is
 
 -- an event doesn't tell that the end is lost, or that is over
 event_lost : (e : End) → IsExplained e → (lost_in calls.Event (answers.Event (end_tells e)) ≡ 0) ⊎ IsOver (end_after_event e).closing
-event_lost e explained = go (tells_message e)
+event_lost e explained = go (tells_message e) (tells_done e)
   where
     Told : Option LostReason → Type 0
     Told o = (lost_in calls.Event (answers.Event (option_map events.Lost o)) ≡ 0) ⊎ IsOver (after_told o e.closing)
@@ -194,9 +198,10 @@ event_lost e explained = go (tells_message e)
     others None = loss (loss_to_tell e.closing) refl
     others (Some event) = inl refl
 
-    go : (b : Bool) → (lost_in calls.Event (answers.Event (if b then Some events.Message else tells_of (streams_told e).answer e.closing)) ≡ 0) ⊎ IsOver (if b then message_told e else others_told e).closing
-    go true = inl refl
-    go false = others (streams_told e).answer
+    go : (b c : Bool) → (lost_in calls.Event (answers.Event (if b then Some events.Message else (if c then Some events.HandshakeConfirmed else tells_of (streams_told e).answer e.closing))) ≡ 0) ⊎ IsOver (if b then message_told e else (if c then confirmation_told e else others_told e)).closing
+    go true c = inl refl
+    go false true = inl refl
+    go false false = others (streams_told e).answer
 
 call_lost : (p : Policy) (e : End) (theirs : List (List ℕ)) (call : Call) (a : Answer) → IsAnswer p e theirs call a → IsExplained e → (lost_in call a ≡ 0) ⊎ IsOver (after_call p e theirs call a).closing
 call_lost p e theirs calls.Event a is explained = elim (event_lost e explained) [

@@ -26,6 +26,7 @@ use Rattle.quic_machine.specs.FrameCases.{Settling, acked_keeps, losses_keep, na
 use Rattle.quic_machine.specs.Steps as steps
 use Rattle.quic_machine.specs.InjectionCases.{by_injection}
 use Rattle.quic_machine.specs.LeaveCases.{by_expired, by_expiry, by_event}
+use Rattle.quic_machine.specs.CallCases.{by_done}
 use Rattle.quic_machine.specs.Machine.{says_last, after_call, after_delivered}
 use Rattle.quic_headline.proofs.Packets.Apart.{by_waits, by_next_id}
 use Rattle.quic_headline.proofs.Packets.Moved.{by_migrated}
@@ -125,6 +126,7 @@ call_owes p e theirs (calls.Close close) a i = go e.closing.state
     go states.Drained f is = i f is
     go states.Failed f is = i f is
 call_owes p e theirs calls.UseNextId a i = by_next_id OwesShort e a i (λ c. i) (λ c most. i)
+call_owes p e theirs calls.HandshakeDone a i = by_done OwesShort e a i i
 call_owes p e theirs (calls.Poll now) a i = polled_owes p e now i
 call_owes p e theirs (calls.Timeout now) a i = by_expiry p e now OwesShort i
     (λ b. by_waits OwesShort b (with_closing e (ticked e.closing now)) (λ f is. cc) i)
@@ -146,5 +148,5 @@ call_owes p e theirs (calls.Deliver delivery) a i = go (slice_get theirs deliver
       moves = λ q o remote x j. by_migrated OwesShort q o remote x (λ c. j) (λ c most. j);
     }) p e (delivered_by (says_last a) delivery) d i
 call_owes p e theirs (calls.Inject injection) a i = by_injection p e (says_last a) injection OwesShort i (λ now. error_owes reasons.KeyLimit (with_closing e (ticked e.closing now)))
-call_owes p e theirs calls.Event a i = by_event e OwesShort i (λ told. i)
+call_owes p e theirs calls.Event a i = by_event e OwesShort i i (λ told. i)
 call_owes p e theirs call a i = i

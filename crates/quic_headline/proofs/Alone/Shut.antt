@@ -39,6 +39,7 @@ use Rattle.quic_machine.specs.End.{End, with_closing, with_numbers}
 use Rattle.quic_machine.specs.Receive.{Fault, broke, too_many_pieces, closed_by_peer, violation, is_empty, asks_in, is_urged, take_frame, unless_fault, take_items, take_payload, Outcome, dropped, ends_as, by_state, opened_to, opened_as, opening, unopened_in, headed, received_in, received, is_read, items_taken, drawn_if, with_ids_drawn, has_migrated, with_migration}
 use Rattle.quic_machine.specs.Poll.{Polled, gives_datagram, datagram_of, bounds, may_seal, polled}
 use Rattle.quic_machine.specs.Timeouts.{TimedOut, Expiry, expiry_at, loss_judged, loss_expired, after_busy, unless_idle, close_expired, timed_out_in, timed_out}
+use Rattle.quic_machine.specs.CallCases.{by_done}
 use Rattle.quic_machine.specs.Machine.{IsAnswer, IsDelivered, says_last, injected_if, after_injected_if, after_delivered, after_call, fails}
 use Rattle.quic_machine.specs.DraftLaws.{IsClose}
 use Rattle.quic_machine.specs.LeaveCases.{Expired, by_busy, by_event}
@@ -394,5 +395,6 @@ call_shuts p theirs e (calls.Inject injection) a is served =
     subst (λ (b : Answer). Shut p theirs e (calls.Inject injection) b (after_injected_if (would_open p e injection.remote injection.bytes) (says_last a) p e injection).closing) (sym is) (injected_shuts p theirs e injection (says_last a))
 call_shuts p theirs e (calls.Close close) a is served = close_shuts p theirs e close a
 call_shuts p theirs e calls.UseNextId a is served = by_next_id (λ (x : End). Shut p theirs e calls.UseNextId a x.closing) e a (stays refl refl) (λ c. stays refl refl) (λ c most. stays refl refl)
-call_shuts p theirs e calls.Event a is served = by_event e (λ (x : End). Shut p theirs e calls.Event a x.closing) (stays refl refl) (λ told. stays refl refl)
+call_shuts p theirs e calls.HandshakeDone a is served = by_done (λ (x : End). Shut p theirs e calls.HandshakeDone a x.closing) e a (stays refl refl) (stays refl refl)
+call_shuts p theirs e calls.Event a is served = by_event e (λ (x : End). Shut p theirs e calls.Event a x.closing) (stays refl refl) (stays refl refl) (λ told. stays refl refl)
 call_shuts p theirs e call a is served = stays refl refl

@@ -34,7 +34,7 @@ use Rattle.quic_machine.specs.Machine.{IsAnswer, says_last, after_delivered, aft
 use Rattle.quic_machine.specs.FrameCases.{Settling, losses_keep}
 use Rattle.quic_machine.specs.Steps as steps
 use Rattle.quic_machine.specs.LeaveCases.{by_expired, by_event}
-use Rattle.quic_machine.specs.CallCases.{is_delivery, by_call}
+use Rattle.quic_machine.specs.CallCases.{is_delivery, by_call, by_done}
 use Rattle.quic_headline.specs.Runs.{Next}
 use Rattle.quic_headline.specs.FewEvents.{blocked_in}
 use Rattle.quic_headline.proofs.Packets.Apart.{by_waits, by_next_id}
@@ -167,10 +167,11 @@ module _ (Fits : StreamValue → Type 0) (P : StreamsState → Type 0) (c : IsKe
       closes = λ reason f now own. i;
       waits = λ now b set. by_waits (λ (f : End). P f.streams) b (with_closing e (ticked e.closing now)) i i;
       changes_id = λ uses answer. by_next_id (λ (f : End). P f.streams) e a i (λ c. i) (λ c most. i);
+      says_handshake = λ says answer. by_done (λ (f : End). P f.streams) e a i i;
       times = λ now expiry set. by_expired p.words e now (λ (f : End). P f.streams) (λ pending tracking timers waits asked runs packets. i) (λ pending timers waits asked runs. losses_keep (λ (x : End). P x.streams) settles (with_closing e (ticked e.closing now)) i) (λ x j. j) expiry;
       polls = λ now set. poll_state P p e now (composed_quiet P c.kept.quiet) i;
       hears = λ arrival d set. cc;
-      tells = λ asks. by_event e (λ (f : End). P f.streams) i (λ told. c.kept.quiet.polls e.streams i);
+      tells = λ asks. by_event e (λ (f : End). P f.streams) i i (λ told. c.kept.quiet.polls e.streams i);
     })
 
     -- a datagram whose STREAM frames fit

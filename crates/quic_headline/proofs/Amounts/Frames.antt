@@ -7,7 +7,7 @@ use Rattle.std.specs.List.{list_any}
 use Rattle.std.proofs.lemmas.Bool.{cond_both, cases_eq, cases_Bool, eq-eqb, ne_eqb, ltb-true, ltb-false, and_from}
 use Rattle.quic_wire_core.specs.declared.stream_id.Side.{Side}
 use Rattle.quic_wire_core.specs.StreamId.{dir_of, index_of}
-use Rattle.quic_wire.specs.Value.{FrameValue, StopSendingValue, StreamLimitValue, ack, stream, reset_stream, stop_sending, max_data, max_stream_data, max_streams, datagram, new_connection_id, retire_connection_id, path_response, ack_frequency, path_challenge}
+use Rattle.quic_wire.specs.Value.{FrameValue, StopSendingValue, StreamLimitValue, ack, stream, reset_stream, stop_sending, max_data, max_stream_data, max_streams, datagram, new_connection_id, retire_connection_id, path_response, handshake_done, ack_frequency, path_challenge}
 use Rattle.quic_streams_parts.specs.declared.answers.Breach.{Breach}
 use Rattle.quic_streams_parts.specs.declared.answers.Breach.TheVariants as breaches
 use Rattle.quic_streams_parts.specs.Dirs.{is_own, is_two_way}
@@ -209,6 +209,9 @@ module _ (t : Tally) where
   frame_tallies (path_response token) e none i =
       let same = plain t (path_response token) e.streams (λ id. refl) (λ id. refl) refl i in
       apart_leaves (λ (x : End). Tallies (and_frame (path_response token) t) x.streams) (path_response token) e tt (λ c. same) (λ c most. same)
+  frame_tallies handshake_done e none i =
+      let same = plain t handshake_done e.streams (λ id. refl) (λ id. refl) refl i in
+      apart_leaves (λ (x : End). Tallies (and_frame handshake_done t) x.streams) handshake_done e tt (λ c. same) (λ c most. same)
   frame_tallies (ack_frequency r) e none i =
       let same = plain t (ack_frequency r) e.streams (λ id. refl) (λ id. refl) refl i in
       apart_leaves (λ (x : End). Tallies (and_frame (ack_frequency r) t) x.streams) (ack_frequency r) e tt (λ c. same) (λ c most. same)

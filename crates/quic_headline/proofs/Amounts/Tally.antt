@@ -36,7 +36,7 @@ use Rattle.quic_machine.specs.Puts as puts
 use Rattle.quic_machine.specs.FrameCases.{Settling}
 use Rattle.quic_machine.specs.Steps as steps
 use Rattle.quic_machine.specs.LeaveCases.{by_expired, by_event}
-use Rattle.quic_machine.specs.CallCases.{is_delivery, by_call}
+use Rattle.quic_machine.specs.CallCases.{is_delivery, by_call, by_done}
 use Rattle.quic_machine.specs.Machine.{IsAnswer, after_call}
 use Rattle.quic_machine.specs.Closing.{ticked}
 use Rattle.quic_headline.proofs.Packets.Apart.{by_waits, by_next_id}
@@ -214,10 +214,11 @@ module _ (t : Tally) where
         closes = λ reason f now own. i;
         waits = λ now b set. by_waits (λ (f : End). Tallies t f.streams) b (with_closing e (ticked e.closing now)) i i;
         changes_id = λ uses answer. by_next_id (λ (f : End). Tallies t f.streams) e a i (λ c. i) (λ c most. i);
+        says_handshake = λ says answer. by_done (λ (f : End). Tallies t f.streams) e a i i;
         times = λ now expiry set. by_expired p.words e now (λ (f : End). Tallies t f.streams) (λ pending tracking timers waits asked runs packets. i) (λ pending timers waits asked runs. expiry_stays (λ (s : Streams). Tallies t s.state) e now (losing e.tracking.packets) i pending timers waits asked) (λ x j. j) expiry;
         polls = λ now set. poll_tallies p e now i;
         hears = λ arrival d set. cc;
-        tells = λ asks. by_event e (λ (f : End). Tallies t f.streams) i (λ told. by_polled (Tallies t) tallies_kept e.streams i);
+        tells = λ asks. by_event e (λ (f : End). Tallies t f.streams) i i (λ told. by_polled (Tallies t) tallies_kept e.streams i);
       })
 
   -- ---- an ACK frame

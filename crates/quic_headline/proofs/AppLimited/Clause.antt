@@ -65,6 +65,7 @@ use Rattle.quic_headline.proofs.Steps.Made.{one_behind, served_before, made_serv
 use Rattle.quic_headline.proofs.Steps.Probing.{same_answer}
 use Rattle.quic_headline.proofs.Timers.Still.{was_open}
 use Rattle.quic_headline.proofs.Timers.Watched.{Observed, timers_behind}
+use Rattle.quic_headline.proofs.Marking.Clause.{marked_at}
 use Rattle.quic_headline.proofs.AppLimited.Rests.{IsResting, paced, full, idle, resting, blocked_rests}
 use Rattle.quic_headline.proofs.Packets.Heard.{by_taken}
 
@@ -431,3 +432,4 @@ module _ (r : Run) (end : World) (honest : IsHonest r) (run : IsRun r end) (quie
 
 pub controllers_are_told : (r : Run) (end : World) → IsHonest r → IsRun r end → HaveHeardNothing r.start → ControllersAreTold r
 controllers_are_told r end honest run quiet_first = everything.controllers_are_told Ready ready r end honest run (λ i side w within leads served opened. counts_at r end honest run quiet_first i side w within leads served opened)
+    (λ i side w within leads served. marked_at r end honest run side i w within served leads)

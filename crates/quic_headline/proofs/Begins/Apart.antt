@@ -9,7 +9,7 @@ use Rattle.std.proofs.lemmas.Bool.{or_left, or_right, or_cases, and_from, and_pa
 use Rattle.std.proofs.Math.Bool.{or-false}
 use Rattle.quic_wire_core.specs.TransportError.{ErrorValue}
 use Rattle.quic_wire.specs.declared.frame.NewConnectionId.{NewConnectionId}
-use Rattle.quic_wire.specs.Value.{FrameValue, AckValue, ack, stream, reset_stream, stop_sending, max_data, max_stream_data, max_streams, datagram, path_challenge, path_response, new_connection_id, retire_connection_id, ack_frequency}
+use Rattle.quic_wire.specs.Value.{FrameValue, AckValue, ack, stream, reset_stream, stop_sending, max_data, max_stream_data, max_streams, datagram, handshake_done, path_challenge, path_response, new_connection_id, retire_connection_id, ack_frequency}
 use Rattle.quic_ids.specs.CidState.{retirement_answer}
 use Rattle.quic_ids.specs.CidQueue.{PeerIds, exceeds, retires_active, left_by, accepted_answer, insert_answer, next_after}
 use Rattle.quic_ids.specs.CidQueue as queue
@@ -51,7 +51,7 @@ use Rattle.quic_headline.proofs.Waited.Group.{polled_flags}
 use Rattle.quic_headline.proofs.AcksDue.Gaps.{any_in_range}
 use Rattle.quic_headline.proofs.Begins.Controls.{any_more}
 use Rattle.quic_headline.proofs.Begins.Walk.{PendsAt, Pends, ids_pend}
-use Rattle.quic_headline.proofs.Packets.Apart.{by_frequency}
+use Rattle.quic_headline.proofs.Packets.Apart.{by_frequency, by_heard_done}
 
 -- ---- what waits
 
@@ -183,6 +183,7 @@ apart_waits (path_response token) e apart = go (is_asked e.validation.challenge 
     go : (b : Bool) → LeavesBy false false none e.waiting (validated_if b e).waiting
     go true = signals_move false e.waiting (path_validated e).waiting.signals ((λ is. cc), λ is. inl is)
     go false = unmoved false false none e.waiting
+apart_waits handshake_done e apart = by_heard_done (λ (x : End). LeavesBy false false none e.waiting x.waiting) e (unmoved false false none e.waiting) (λ c. unmoved false false none e.waiting)
 apart_waits (ack_frequency r) e apart = by_frequency (λ (x : End). LeavesBy false false none e.waiting x.waiting) r e (λ threshold reordering frequency. unmoved false false none e.waiting)
 apart_waits f e apart = unmoved false false none e.waiting
 

@@ -177,7 +177,7 @@ module _ (x y : Party) (call : Call) (a : Answer) (s : Stepped x y call a) where
 
   -- what the observer knows behind the call
   behind_is : watch_of next y ≡ seen.behind
-  behind_is = folded_more (watch_told (lens x y)) x.told (told_of call a x.end.closing.state) (first_watch x.final x.began x.made.path.remote x.initial_rtt x.initial_delay)
+  behind_is = folded_more (watch_told (lens x y)) x.told (told_of call a x.end.closing.state) (first_watch x.final x.began x.made.path.remote x.first_rtt x.initial_delay)
 
   -- the observer finds whether the path changes
   changes : has_changed seen.before seen.behind ≡ has_moved x.end next.end
@@ -188,8 +188,8 @@ module _ (x y : Party) (call : Call) (a : Answer) (s : Stepped x y call a) where
   -- what came
   came_is : came seen ≡ news (came_to x y) (came_to next y)
   came_is =
-      ap (λ (i : Intake). news i seen.behind.intake) (watched_intake (lens x y) x.told (first_watch x.final x.began x.made.path.remote x.initial_rtt x.initial_delay))
-      ∙ ap (λ (i : Intake). news (came_to x y) i) (ap (λ (w : Watch). w.intake) (sym behind_is) ∙ watched_intake (lens x y) next.told (first_watch x.final x.began x.made.path.remote x.initial_rtt x.initial_delay))
+      ap (λ (i : Intake). news i seen.behind.intake) (watched_intake (lens x y) x.told (first_watch x.final x.began x.made.path.remote x.first_rtt x.initial_delay))
+      ∙ ap (λ (i : Intake). news (came_to x y) i) (ap (λ (w : Watch). w.intake) (sym behind_is) ∙ watched_intake (lens x y) next.told (first_watch x.final x.began x.made.path.remote x.first_rtt x.initial_delay))
 
 -- what goes at a call is what its end sends
 pub went_here : (x y : Party) (call : Call) (a : Answer) (s : Stepped x y call a) → went (seen_of x y call a s).before (seen_of x y call a s).behind ≡ sents_by x.policy x.end call a
@@ -380,7 +380,7 @@ module _ (x y : Party) (delivery : Delivery) (a : Answer) (s : Stepped x y (call
   i = came_to x y
 
   intake : w.intake ≡ i
-  intake = watched_intake (lens x y) x.told (first_watch x.final x.began x.made.path.remote x.initial_rtt x.initial_delay)
+  intake = watched_intake (lens x y) x.told (first_watch x.final x.began x.made.path.remote x.first_rtt x.initial_delay)
 
   -- nothing came
   same_arrived : Arrived x y delivery x.end i
@@ -544,7 +544,7 @@ known_next : (x y : Party) (call : Call) (a : Answer) (s : Stepped x y call a) �
 known_next x y call a s =
     next_is (brought (came_to x y).took) x.end.ids.peer (s.gives.0.1.1.knows (was x y call a s))
     ∙ ap (λ (n : ℕ). next_of n (brought (came_to x y).took)) s.used
-    ∙ ap (λ (i : Intake). next_of s.using (brought i.took)) (sym (watched_intake (lens x y) x.told (first_watch x.final x.began x.made.path.remote x.initial_rtt x.initial_delay)))
+    ∙ ap (λ (i : Intake). next_of s.using (brought i.took)) (sym (watched_intake (lens x y) x.told (first_watch x.final x.began x.made.path.remote x.first_rtt x.initial_delay)))
 
 -- where these are in flight behind the call, and these were acknowledged, and frames that it
 -- brought are among these
@@ -597,7 +597,7 @@ module _ (x y : Party) (delivery : Delivery) (a : Answer) (s : Stepped x y (call
       ap (λ (b : Bool). (watch_given b (lens x y) (timed_with (lens x y) (told_of told a x.end.closing.state) (watch_of x y))).flight) (only_polls_give x.policy x.end y.given told a refl s.answer)
       ∙ ap (λ (b : Bool). (watch_moment b x.terms (came_with (lens x y) (told_of told a x.end.closing.state) (watch_of x y))).flight) (untimely x.end.closing.state told refl)
       ∙ ap (λ (j : Intake). (with_delivery x.terms (watch_of x y) x.end.closing.state delivery j).flight)
-      (ap (λ (i : Intake). and_told x.policy y.final (told_of told a x.end.closing.state) i) (watched_intake (lens x y) x.told (first_watch x.final x.began x.made.path.remote x.initial_rtt x.initial_delay)) ∙ sym (came_more x y told a))
+      (ap (λ (i : Intake). and_told x.policy y.final (told_of told a x.end.closing.state) i) (watched_intake (lens x y) x.told (first_watch x.final x.began x.made.path.remote x.first_rtt x.initial_delay)) ∙ sym (came_more x y told a))
 
   begun_at : BegunAt (λ q. IsPending x.end q) x.end.ids.peer.active (watch_of x y).flight.flying (watch_of x y).flight.acked r.frames of_call.behind.flight.flying of_call.behind.flight.acked r.left.streams r.left.waiting.frames
   begun_at = subst (λ (f : Flight). BegunAt (λ q. IsPending x.end q) x.end.ids.peer.active (watch_of x y).flight.flying (watch_of x y).flight.acked r.frames f.flying f.acked r.left.streams r.left.waiting.frames) (sym flight_behind) r.begins
@@ -622,7 +622,7 @@ module _ (x y : Party) (delivery : Delivery) (a : Answer) (s : Stepped x y (call
         let next : next_after r.left.ids.peer ≡ next_of s.using (brought of_call.behind.intake.took) =
         m.next
         ∙ ap (λ (k : ℕ). next_of k (brought (came_to behind y).took)) s.used
-        ∙ ap (λ (i : Intake). next_of s.using (brought i.took)) (sym (ap (λ (v : Watch). v.intake) (sym (behind_is x y told a s)) ∙ watched_intake (lens x y) behind.told (first_watch x.final x.began x.made.path.remote x.initial_rtt x.initial_delay))) in
+        ∙ ap (λ (i : Intake). next_of s.using (brought i.took)) (sym (ap (λ (v : Watch). v.intake) (sym (behind_is x y told a s)) ∙ watched_intake (lens x y) behind.told (first_watch x.final x.began x.made.path.remote x.first_rtt x.initial_delay))) in
         let passes : is_passed n s.using (next_of s.using (brought of_call.behind.intake.took)) ≡ true =
         ap (λ (o : Option ℕ). is_passed n s.using o) (sym next) ∙ ap (λ (k : ℕ). is_passed n k (next_after r.left.ids.peer)) (sym s.used ∙ sym same) ∙ both.1 in
         let passed : moves_past of_call n ≡ true =

@@ -39,7 +39,7 @@ use Rattle.quic_machine.specs.Receive.{take_frame}
 use Rattle.quic_headline.specs.Runs.{reset_by}
 use Rattle.quic_headline.specs.Duties.{AllData, StreamData, StreamCount, has_reset, has_stop}
 use Rattle.quic_headline.specs.Unread.{stopped_by}
-use Rattle.quic_headline.specs.Begins.{Control, ResetOf, StopOf, LimitOf, Blocked, BlockedOn, NewId, Retirement, control_waits, uses_up, reads_on, finds_blocked, brings_data, Request}
+use Rattle.quic_headline.specs.Begins.{Control, ResetOf, StopOf, LimitOf, Blocked, BlockedOn, NewId, Retirement, control_waits, uses_up, reads_on, finds_blocked, brings_data, Request, Done}
 use Rattle.quic_headline.proofs.Begins.Controls.{has_either}
 use Rattle.std.proofs.lemmas.List.Folds.{list_any-append}
 
@@ -71,6 +71,7 @@ call_asks call a (BlockedOn id) = finds_blocked (λ j. j == id) call a
 call_asks call a (NewId number) = false
 call_asks call a (Retirement number) = false
 call_asks call a Request = false
+call_asks call a Done = false
 
 -- a limit that is decided is asked for by a call that uses up what came
 grew_asked : (c : Control) (s : StreamsState) (call : Call) (a : Answer) → uses_up call a ≡ true → Grew s c → call_asks call a c ≡ true

@@ -43,7 +43,7 @@ use Rattle.quic_headline.specs.Moments.{went}
 use Rattle.quic_headline.specs.Requests.{asking_at}
 use Rattle.quic_headline.specs.AcksDue.{is_immediate_ack, haste_told, no_haste, is_due}
 use Rattle.quic_headline.specs.Waited.{stands, is_ping, wants, wants_told, no_wants}
-use Rattle.quic_headline.specs.Begins.{Control, LimitOf, Blocked, BlockedOn, NewId, Retirement, Thing, Ack, Ping, Immediate, Challenge, Response, Probe, Message, Byte, Fin, Frame, IsPending, Seen, brings, finds_blocked, may_end, brings_data, says_blocked, says_blocked_on, has_said, has_said_on, retires, uses_past, moves_past, passes_over, asks_for, HasCause, HasGone, seen_at, still, BeginsAt, WaitingBegins, Request}
+use Rattle.quic_headline.specs.Begins.{Control, LimitOf, Blocked, BlockedOn, NewId, Retirement, Thing, Ack, Ping, Immediate, Challenge, Response, Probe, Message, Byte, Fin, Frame, IsPending, Seen, brings, finds_blocked, may_end, brings_data, says_blocked, says_blocked_on, has_said, has_said_on, retires, uses_past, moves_past, passes_over, asks_for, HasCause, HasGone, seen_at, still, BeginsAt, WaitingBegins, Request, Done}
 use Rattle.quic_headline.specs.Begins as new
 use Rattle.quic_headline.proofs.Packets.Intakes.{folded_more}
 use Rattle.quic_headline.proofs.Packets.Watching.{watched_intake}
@@ -63,7 +63,7 @@ use Rattle.quic_headline.proofs.Amounts.Group.{tally_of, Tallied, tallied_group}
 use Rattle.quic_headline.proofs.Requests.Drafts.{polled_requests, none_waits}
 use Rattle.quic_headline.proofs.Steps.Made.{MadeAt, made_at, made_served, left_at, made_end, served_before, told_next, told_here, one_behind, calling, reads_either, CallHolds, call_holds, whole}
 use Rattle.quic_headline.proofs.Waited.Pings.{of_ping, of_immediate, polled_pinged}
-use Rattle.quic_headline.proofs.Waited.Flags.{Flag, all, counts, blocked, challenge, response, flag, says as flag_says}
+use Rattle.quic_headline.proofs.Waited.Flags.{Flag, confirmed, all, counts, blocked, challenge, response, flag, says as flag_says}
 use Rattle.quic_headline.proofs.Waited.Group.{polled_flags, wants_of}
 use Rattle.quic_headline.proofs.Begins.Queued.{call_queues}
 use Rattle.quic_headline.proofs.Begins.Called.{call_asks, AsksOn, IsUnsaid}
@@ -134,7 +134,7 @@ module _ (x y : Party) (call : Call) (a : Answer) (s : Stepped x y call a) (h : 
   tallies = t.still open_now
 
   intake_is : (watch_of x y).intake ≡ came_to x y
-  intake_is = watched_intake (lens x y) x.told (first_watch x.final x.began x.made.path.remote x.initial_rtt x.initial_delay)
+  intake_is = watched_intake (lens x y) x.told (first_watch x.final x.began x.made.path.remote x.first_rtt x.initial_delay)
 
   all_limit : x.end.streams.sending.limit ≡ data_limit before.params before.before.intake.took
   all_limit =
@@ -186,6 +186,7 @@ module _ (x y : Party) (call : Call) (a : Answer) (s : Stepped x y call a) (h : 
   asked_is (BlockedOn id) is unsaid = and_from (finds_blocked (λ j. j == id) call a) (not (has_said_on id before)) is (ap not (on_unsaid id unsaid))
   asked_is (NewId number) is unsaid = cc
   asked_is Request is unsaid = cc
+  asked_is Done is unsaid = cc
   asked_is (Retirement number) is unsaid = cc
   asked_is c is unsaid = is
 
@@ -218,7 +219,7 @@ other_begins x y call a apart silent other s h t = go (is_on_streams call) refl
     go true on = streams_left (Almost x y call a s) x.policy x.end y.given start call a (λ c is unsaid. inr (inl (asked_is x y call a s h t c is unsaid))) (λ id is. inr (inl is)) (λ id h is. sent_within (wrote x.told) x.end.streams (holds x y s.gives) id h is)
         (λ id h is none o above. inr (subst (λ (n : ℕ). n ≤ o) (written_is (wrote x.told id) h (half_holds (wrote x.told) x.end.streams (holds x y s.gives) id h is) none) above)) s.answer on
     go false off = quiet_left (Almost x y call a s) x.policy x.end y.given start call a (λ n skips. inr (inl (or_left (passes_over (seen_of x y call a s) n) (brings (retires s.using n) (seen_of x y call a s))
-        (or_left (uses_past (seen_of x y call a s) n) (moves_past (seen_of x y call a s) n) (sym (skipped_is x y call a s n) ∙ skips))))) off apart silent other
+        (or_left (uses_past (seen_of x y call a s) n) (moves_past (seen_of x y call a s) n) (sym (skipped_is x y call a s n) ∙ skips))))) (λ said. inr (inl said)) off apart silent other
 
 -- ---- all of it
 
@@ -269,6 +270,7 @@ gone_waits x y (calls.Poll now) a s Response there set = flag_gone x y now a s r
 gone_waits x y (calls.Poll now) a s (Frame (LimitOf AllData)) there set = flag_gone x y now a s all there set
 gone_waits x y (calls.Poll now) a s (Frame (LimitOf (StreamCount dir))) there set = flag_gone x y now a s (counts (is_one_way dir)) there (ap (λ (d : Dir). of d (called x y.given (calls.Poll now) a).end.waiting.frames.max_stream_id) (dir_same dir) ∙ set)
 gone_waits x y (calls.Poll now) a s (Frame Blocked) there set = flag_gone x y now a s blocked there set
+gone_waits x y (calls.Poll now) a s (Frame Done) there set = flag_gone x y now a s confirmed there set
 gone_waits x y (calls.Poll now) a s (Frame Request) there set = both_ways (polled x.policy x.end now).end.waiting.frames.ack_frequency
     (none_waits x.end now (polled x.policy x.end now).end _ (polled_requests x.policy x.end now (packets x y s.gives).owes) (ap (λ (b : Answer). stands is_ack_frequency (sent_if (gave b) (sent_by x.policy x.end now))) (sym (poll_answer x.policy x.end now a s.answer s.served)) ∙ there)) set
 gone_waits x y (calls.Poll now) a s (Byte id o) there set = (polled_goes x.policy x.end now s.opened).0 id o (subst (λ (b : Answer). HoldsOffset (sent_if (gave b) (sent_by x.policy x.end now)) id o) (poll_answer x.policy x.end now a s.answer s.served) there) set
@@ -282,6 +284,7 @@ gone_waits x y call a s (Frame (LimitOf AllData)) there set = cc
 gone_waits x y call a s (Frame (LimitOf (StreamCount dir))) there set = cc
 gone_waits x y call a s (Frame Blocked) there set = cc
 gone_waits x y call a s (Frame Request) there set = cc
+gone_waits x y call a s (Frame Done) there set = cc
 gone_waits x y call a s (Byte id o) there set = there.among
 gone_waits x y call a s (Fin id) there set = there.among
 gone_waits x y call a s q there set = absurd there
@@ -322,7 +325,7 @@ reads_closing control heard call e = refl
 
 -- what the observer knows behind a call
 watched_behind : (x y : Party) (call : Call) (a : Answer) → watch_of (called x y.given call a) y ≡ watch_next x y call a
-watched_behind x y call a = folded_more (watch_told (lens x y)) x.told (told_of call a x.end.closing.state) (first_watch x.final x.began x.made.path.remote x.initial_rtt x.initial_delay)
+watched_behind x y call a = folded_more (watch_told (lens x y)) x.told (told_of call a x.end.closing.state) (first_watch x.final x.began x.made.path.remote x.first_rtt x.initial_delay)
 
 -- a call at one end leaves the other
 other_stays : (side : Side) (w : World) (e : End) (ds : List (List ℕ)) (control : window.Control) (heard : Heard) → end_at (other_side side) (changed side w e ds control heard) ≡ end_at (other_side side) w
@@ -370,11 +373,11 @@ module _ (r : Run) (end : World) (honest : IsHonest r) (run : IsRun r end) (side
       ∙ ap (λ (ts : List Told). until r side i ++ ts) (told_here side (state_at r side i) call a ∙ ap (λ (z : State). told_of call a z ∷ []) state)
 
   -- what an observer wants, by what was told
-  wants_same : (told : List Told) → folded (wants_told (lens_of r side)) told (no_wants (watch_from (end_at side r.start) (given_of r side))) ≡ folded (wants_told (lens x y)) told (no_wants (first_watch x.final x.began x.made.path.remote x.initial_rtt x.initial_delay))
+  wants_same : (told : List Told) → folded (wants_told (lens_of r side)) told (no_wants (watch_from (end_at side r.start) (given_of r side))) ≡ folded (wants_told (lens x y)) told (no_wants (first_watch x.final x.began x.made.path.remote x.first_rtt x.initial_delay))
   wants_same told = refl
 
   -- and what it finds due
-  haste_same : (told : List Told) → folded (haste_told (lens_of r side)) told (no_haste (watch_from (end_at side r.start) (given_of r side))) ≡ folded (haste_told (lens x y)) told (no_haste (first_watch x.final x.began x.made.path.remote x.initial_rtt x.initial_delay))
+  haste_same : (told : List Told) → folded (haste_told (lens_of r side)) told (no_haste (watch_from (end_at side r.start) (given_of r side))) ≡ folded (haste_told (lens x y)) told (no_haste (first_watch x.final x.began x.made.path.remote x.first_rtt x.initial_delay))
   haste_same told = refl
 
   -- the ids of the peer, as the end met the call, and behind it

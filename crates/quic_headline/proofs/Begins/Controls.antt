@@ -16,12 +16,12 @@ use Rattle.quic_streams_parts.specs.TableLaws.{nat_cmp-same}
 use Rattle.quic_streams_parts.specs.Dirs.{of}
 use Rattle.quic_retransmits.specs.Retransmits.{Retransmits, nothing_waits, merged, with_id, with_ids, has_id, others_of}
 use Rattle.quic_retransmits.specs.declared.retransmits.ControlKind.{ControlKind}
-use Rattle.quic_retransmits.specs.declared.retransmits.ControlKind.TheVariants.{ResetStream, StopSending, MaxData, MaxStreamData, MaxStreams, DataBlocked, StreamDataBlocked, NewConnectionId, RetireConnectionId}
+use Rattle.quic_retransmits.specs.declared.retransmits.ControlKind.TheVariants.{HandshakeDone, ResetStream, StopSending, MaxData, MaxStreamData, MaxStreams, DataBlocked, StreamDataBlocked, NewConnectionId, RetireConnectionId}
 use Rattle.quic_streams_state.specs.Control.{without_first}
 use Rattle.quic_streams_laws.specs.ToldLaws.{first_is}
 use Rattle.quic_headline.specs.InFlight.{resets_in, stops_in, limits_in, blocked_in, new_ids_in, retirements_in, again_in}
 use Rattle.quic_headline.specs.Duties.{AllData, StreamData, StreamCount, has_reset, has_stop, has_retirement, has_new_id}
-use Rattle.quic_headline.specs.Begins.{Control, ResetOf, StopOf, LimitOf, Blocked, BlockedOn, NewId, Retirement, control_waits, says, Request}
+use Rattle.quic_headline.specs.Begins.{Control, ResetOf, StopOf, LimitOf, Blocked, BlockedOn, NewId, Retirement, control_waits, says, Request, Done}
 use Rattle.quic_headline.proofs.Packets.Entries.{without_asks}
 
 -- ---- sets of ids
@@ -83,6 +83,7 @@ merged_one (BlockedOn id) p q is = has_one q.stream_data_blocked p.stream_data_b
 merged_one (NewId number) p q is = any_more (λ (c : IssuedCid). c.sequence == number) p.new_cids q.new_cids is
 merged_one (Retirement number) p q is = any_more (λ (n : ℕ). n == number) p.retire_cids q.retire_cids is
 merged_one Request p q is = or_cases p.ack_frequency q.ack_frequency is
+merged_one Done p q is = or_cases p.handshake_done q.handshake_done is
 
 -- nothing waits
 pub none_waits : (c : Control) → control_waits nothing_waits c ≡ false
@@ -97,6 +98,7 @@ none_waits (BlockedOn id) = refl
 none_waits (NewId number) = refl
 none_waits (Retirement number) = refl
 none_waits Request = refl
+none_waits Done = refl
 
 -- without the first of a kind nothing more waits
 pub fewer_wait : (c : Control) (kind : ControlKind) (p : Retransmits) → control_waits (without_first kind p) c ≡ true → control_waits p c ≡ true
@@ -116,6 +118,7 @@ fewer_wait (BlockedOn id) StreamDataBlocked p is = any_behind (λ (j : ℕ). is_
 fewer_wait (NewId number) NewConnectionId p is = any_behind (λ (c : IssuedCid). c.sequence == number) p.new_cids is
 fewer_wait (Retirement number) RetireConnectionId p is = any_behind (λ (n : ℕ). n == number) p.retire_cids is
 fewer_wait Request kind p is = sym (without_asks kind p) ∙ is
+fewer_wait Done HandshakeDone p is = cc
 fewer_wait c kind p is = is
 
 -- whether or not ACK_FREQUENCY waits, the others wait as before
@@ -125,6 +128,14 @@ asked_one (LimitOf AllData) waits p is = inl is
 asked_one (LimitOf (StreamData id)) waits p is = inl is
 asked_one (LimitOf (StreamCount dir)) waits p is = inl is
 asked_one c waits p is = inl is
+
+-- where HANDSHAKE_DONE waits, the others wait as before
+pub done_one : (c : Control) (p : Retransmits) → control_waits (record p { handshake_done = true }) c ≡ true → (control_waits p c ≡ true) ⊎ (c ≡ Done)
+done_one Done p is = inr refl
+done_one (LimitOf AllData) p is = inl is
+done_one (LimitOf (StreamData id)) p is = inl is
+done_one (LimitOf (StreamCount dir)) p is = inl is
+done_one c p is = inl is
 
 -- ---- what frames say
 
@@ -193,3 +204,4 @@ again_said (BlockedOn id) fs is = blocked_said fs id (has_in (blocked_in fs) id 
 again_said (NewId number) fs is = new_ids_said fs number is
 again_said (Retirement number) fs is = retirements_said fs number is
 again_said Request fs is = is
+again_said Done fs is = is

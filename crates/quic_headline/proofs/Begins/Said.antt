@@ -562,7 +562,7 @@ other_told x y call a s quiet t apart silent other none = go (is_on_streams call
 
     go : (b : Bool) → is_on_streams call ≡ b → IsTold (called x y.given call a).sents (called x y.given call a).end
     go true on = record { says = says; waits = on_streams x y call a s quiet t on left }
-    go false off = told_behind x y call a s quiet t says (λ id set. (quiet_left (Waits x y call a s quiet t) x.policy x.end y.given (start x y call a s quiet t) call a (λ n skips. tt) off apart silent other).controls (BlockedOn id) set) left
+    go false off = told_behind x y call a s quiet t says (λ id set. (quiet_left (Waits x y call a s quiet t) x.policy x.end y.given (start x y call a s quiet t) call a (λ n skips. tt) (λ said. tt) off apart silent other).controls (BlockedOn id) set) left
 
 any_told : (x y : Party) (call : Call) (a : Answer) (s : Stepped x y call a) → Unnamed x y → IsTold x.sents x.end → IsTold (called x y.given call a).sents (called x y.given call a).end
 any_told x y (calls.Deliver delivery) a s quiet t = delivered_told x y delivery a s quiet t

@@ -7,7 +7,7 @@ use Rattle.std.proofs.lemmas.Bool.{cond_both, cases_eq, ltb-true}
 use Rattle.quic_wire_core.specs.declared.stream_id.Dir.{Dir}
 use Rattle.quic_wire_core.specs.declared.stream_id.Side.{Side}
 use Rattle.quic_wire_core.specs.StreamId.{dir_of}
-use Rattle.quic_wire.specs.Value.{FrameValue, StopSendingValue, AckValue, ack, stream, reset_stream, stop_sending, max_data, max_stream_data, max_streams, data_blocked, stream_data_blocked, datagram, new_connection_id, retire_connection_id, path_response, ack_frequency}
+use Rattle.quic_wire.specs.Value.{FrameValue, StopSendingValue, AckValue, ack, stream, reset_stream, stop_sending, max_data, max_stream_data, max_streams, data_blocked, stream_data_blocked, datagram, handshake_done, new_connection_id, retire_connection_id, path_response, ack_frequency}
 use Rattle.quic_assembler.specs.declared.assembler.Chunk.{Chunk}
 use Rattle.quic_send_buffer.specs.Source.{cut_to}
 use Rattle.quic_send_buffer.specs.declared.stream_meta.StreamMeta.{StreamMeta}
@@ -56,7 +56,7 @@ use Rattle.quic_machine.specs.End.{End, with_closing, streams_at}
 use Rattle.quic_machine.specs.Closing.{ticked}
 use Rattle.quic_machine.specs.Receive.{is_above, names_ungiven, take_frame}
 use Rattle.quic_machine.specs.LeaveCases.{by_expired, by_event}
-use Rattle.quic_machine.specs.CallCases.{is_delivery, is_poll, by_call}
+use Rattle.quic_machine.specs.CallCases.{is_delivery, is_poll, by_call, by_done}
 use Rattle.quic_machine.specs.FrameCases.{Settling, named, ack_taken, acked_keeps, losses_keep, message_leaves, apart_leaves}
 use Rattle.quic_machine.specs.Steps as steps
 use Rattle.quic_machine.specs.Machine.{IsAnswer, after_call}
@@ -394,10 +394,11 @@ module _ (given : FrameValue → Type 0) where
     closes = λ reason f now own. i;
     waits = λ now b set. by_waits (λ (f : End). Of f.streams) b (with_closing e (ticked e.closing now)) i i;
     changes_id = λ uses answer. by_next_id (λ (f : End). Of f.streams) e a i (λ c. i) (λ c most. i);
+    says_handshake = λ says answer. by_done (λ (f : End). Of f.streams) e a i i;
     times = λ now expiry set. by_expired p.words e now (λ (f : End). Of f.streams) (λ pending tracking timers waits asked runs packets. i) (λ pending timers waits asked runs. losses_keep (λ (x : End). Of x.streams) settling (with_closing e (ticked e.closing now)) i) (λ x j. j) expiry;
     polls = λ now set. cc;
     hears = λ arrival d set. cc;
-    tells = λ asks. by_event e (λ (f : End). Of f.streams) i (λ told. polled_left e.streams i);
+    tells = λ asks. by_event e (λ (f : End). Of f.streams) i i (λ told. polled_left e.streams i);
   })
 
   -- ---- frames that come
@@ -471,5 +472,6 @@ module _ (given : FrameValue → Type 0) where
       go (new_connection_id g) = apart_leaves (λ (x : End). Of x.streams) (new_connection_id g) e tt (λ c. i) (λ c most. i)
       go (retire_connection_id n) = apart_leaves (λ (x : End). Of x.streams) (retire_connection_id n) e tt (λ c. i) (λ c most. i)
       go (path_response token) = apart_leaves (λ (x : End). Of x.streams) (path_response token) e tt (λ c. i) (λ c most. i)
+      go handshake_done = apart_leaves (λ (x : End). Of x.streams) handshake_done e tt (λ c. i) (λ c most. i)
       go (ack_frequency r) = apart_leaves (λ (x : End). Of x.streams) (ack_frequency r) e tt (λ c. i) (λ c most. i)
       go other = i

@@ -1,5 +1,5 @@
 -- What waits of streams, and beside their bytes, behind a poll and behind a call of an application.
-use Rattle.std.proofs.Common.{◌≡◌, ℕ, zero, suc, ◌<◌, ◌≤◌, Bool, true, false, List, [], ◌∷◌, Some, None, refl, sym, ap, ◌∙◌, subst, inl, inr, arith}
+use Rattle.std.proofs.Common.{◌≡◌, ℕ, zero, suc, ◌<◌, ◌≤◌, Bool, true, false, List, [], ◌∷◌, Some, None, Ok, refl, sym, ap, ◌∙◌, subst, inl, inr, arith}
 use Rattle.std.proofs.lemmas.Bool.{or_cases}
 use Rattle.quic_send_buffer.specs.Buffered.{IsBuffered, written}
 use Rattle.quic_streams_parts.specs.SendHalf.{SendHalf}
@@ -11,6 +11,7 @@ use Rattle.quic_machine.specs.declared.answers.State.TheVariants as states
 use Rattle.quic_machine.specs.declared.run.Call.{Call}
 use Rattle.quic_machine.specs.declared.run.Call.TheVariants as calls
 use Rattle.quic_machine.specs.declared.run.Answer.{Answer}
+use Rattle.quic_machine.specs.declared.run.Answer.TheVariants as answers
 use Rattle.quic_machine.specs.Policy.{Policy}
 use Rattle.quic_machine.specs.Parts.{Waiting}
 use Rattle.quic_machine.specs.Closing.{ticked}
@@ -28,14 +29,15 @@ use Rattle.quic_machine.specs.Machine.{IsAnswer, after_call, says_last}
 use Rattle.quic_machine.specs.Receive.{exhausted}
 use Rattle.quic_machine.specs.declared.answers.State.{State}
 use Rattle.quic_headline.proofs.Packets.Apart.{by_next_id}
-use Rattle.quic_headline.specs.Runs.{In, ended_by}
+use Rattle.quic_headline.specs.Runs.{In, ended_by, says_done}
 use Rattle.quic_headline.specs.Observer.{Sent}
-use Rattle.quic_headline.specs.Begins.{Control, Retirement, control_waits, Thing, Byte, Fin, Frame, Bears, Request}
+use Rattle.quic_headline.specs.Begins.{Control, Retirement, control_waits, Thing, Byte, Fin, Frame, Bears, Request, Done}
 use Rattle.quic_headline.proofs.Packets.Closes.{by_closes}
 use Rattle.quic_headline.proofs.Packets.Probes.{by_readied, ready_state, by_going}
 use Rattle.quic_headline.proofs.Packets.Waited.{IsWaited, AreWaited}
 use Rattle.quic_headline.proofs.Halves.WordsCalls.{call_on_is}
 use Rattle.quic_headline.proofs.Waited.Pings.{ready_still}
+use Rattle.quic_headline.proofs.Begins.Controls.{done_one}
 use Rattle.quic_headline.proofs.Begins.Called.{call_asks, IsUnsaid, call_one}
 use Rattle.quic_headline.proofs.Begins.Halves.{Any, AllPend, pend_kept, pends_more}
 use Rattle.quic_headline.proofs.Begins.OnStreams.{calls_pend}
@@ -124,30 +126,34 @@ module _ (F : Thing → Type 0) (p : Policy) (e : End) (theirs : List (List ℕ)
         })
 
   -- any other, but a poll, a timeout and a delivery
-  pub quiet_left : (call : Call) (a : Answer) → ((n : ℕ) → is_skipped call a e.ids.peer n ≡ true → F (Frame (Retirement n))) → is_on_streams call ≡ false → is_delivery call ≡ false → is_poll call ≡ false → is_timeout call ≡ false → Left F (after_call p e theirs call a)
-  quiet_left (calls.Inject injection) a skips off apart silent other = by_injection p e (says_last a) injection (Left F) (left_of F e i) (λ now. left_of F (exhausted now e) i)
-  quiet_left (calls.Close close) a skips off apart silent other = go e.closing.state
+  pub quiet_left : (call : Call) (a : Answer) → ((n : ℕ) → is_skipped call a e.ids.peer n ≡ true → F (Frame (Retirement n))) → (says_done call a ≡ true → F (Frame Done)) → is_on_streams call ≡ false → is_delivery call ≡ false → is_poll call ≡ false → is_timeout call ≡ false → Left F (after_call p e theirs call a)
+  quiet_left (calls.Inject injection) a skips says off apart silent other = by_injection p e (says_last a) injection (Left F) (left_of F e i) (λ now. left_of F (exhausted now e) i)
+  quiet_left (calls.Close close) a skips says off apart silent other = go e.closing.state
     where
       go : (s : State) → Left F (closed_in s close.now close.error_code close.reason e)
       go states.Open = left_of F (closed_in states.Open close.now close.error_code close.reason e) i
       go states.Closing = left_of F e i
       go states.Drained = left_of F e i
       go states.Failed = left_of F e i
-  quiet_left calls.UseNextId a skips off apart silent other = left_of F (end_on_next_id e a)
+  quiet_left calls.UseNextId a skips says off apart silent other = left_of F (end_on_next_id e a)
       (leaves_pend F e (end_on_next_id e a) false false (λ n. is_skipped calls.UseNextId a e.ids.peer n) (next_waits e a) (by_next_id (λ (x : End). x.streams ≡ e.streams) e a refl (λ c. refl) (λ c most. refl)) (λ none n. cc) skips i)
-  quiet_left calls.Event a skips off apart silent other = by_event e (Left F) (record { controls = i.controls; halves = bare F e.streams i.halves })
+  quiet_left calls.HandshakeDone (answers.HandshakeDone (Ok done)) skips says off apart silent other = record {
+    controls = λ c is. elim (done_one c e.waiting.frames is) [ inl was ↦ i.controls c was | inr same ↦ subst (λ (d : Control). F (Frame d)) (sym same) (says refl) ];
+    halves = bare F e.streams i.halves;
+  }
+  quiet_left calls.Event a skips says off apart silent other = by_event e (Left F) (record { controls = i.controls; halves = bare F e.streams i.halves }) (record { controls = i.controls; halves = bare F e.streams i.halves })
       (λ told. record { controls = i.controls; halves = by_polled (AllPend Any F) (pend_kept Any F tt) e.streams (bare F e.streams i.halves) })
-  quiet_left (calls.Poll now) a skips off apart silent other = cc
-  quiet_left (calls.Timeout now) a skips off apart silent other = cc
-  quiet_left (calls.Deliver delivery) a skips off apart silent other = cc
-  quiet_left (calls.Open dir) a skips off apart silent other = cc
-  quiet_left (calls.Accept dir) a skips off apart silent other = cc
-  quiet_left (calls.Write id bytes) a skips off apart silent other = cc
-  quiet_left (calls.WriteChunks id chunks) a skips off apart silent other = cc
-  quiet_left (calls.Finish id) a skips off apart silent other = cc
-  quiet_left (calls.Reset id code) a skips off apart silent other = cc
-  quiet_left (calls.SetPriority id priority) a skips off apart silent other = cc
-  quiet_left (calls.Read read) a skips off apart silent other = cc
-  quiet_left (calls.Stop id code) a skips off apart silent other = cc
-  quiet_left (calls.ReceivedReset id) a skips off apart silent other = cc
-  quiet_left call a skips off apart silent other = record { controls = i.controls; halves = bare F e.streams i.halves }
+  quiet_left (calls.Poll now) a skips says off apart silent other = cc
+  quiet_left (calls.Timeout now) a skips says off apart silent other = cc
+  quiet_left (calls.Deliver delivery) a skips says off apart silent other = cc
+  quiet_left (calls.Open dir) a skips says off apart silent other = cc
+  quiet_left (calls.Accept dir) a skips says off apart silent other = cc
+  quiet_left (calls.Write id bytes) a skips says off apart silent other = cc
+  quiet_left (calls.WriteChunks id chunks) a skips says off apart silent other = cc
+  quiet_left (calls.Finish id) a skips says off apart silent other = cc
+  quiet_left (calls.Reset id code) a skips says off apart silent other = cc
+  quiet_left (calls.SetPriority id priority) a skips says off apart silent other = cc
+  quiet_left (calls.Read read) a skips says off apart silent other = cc
+  quiet_left (calls.Stop id code) a skips says off apart silent other = cc
+  quiet_left (calls.ReceivedReset id) a skips says off apart silent other = cc
+  quiet_left call a skips says off apart silent other = record { controls = i.controls; halves = bare F e.streams i.halves }

@@ -35,6 +35,7 @@ use Rattle.quic_machine.specs.Opens.{head}
 use Rattle.quic_machine.specs.Receive.{Fault, broke, too_many_pieces, closed_by_peer, violation, is_empty, asks_in, is_urged, take_frame, take_items, take_payload, dropped, ends_as, by_state, opened_to, opened_as, opening, headed, received_in, is_read, items_taken, drawn_if, with_ids_drawn, has_migrated, unopened_in}
 use Rattle.quic_machine.specs.Poll.{Polled, bounds, may_seal, polled}
 use Rattle.quic_machine.specs.Calls.{closed_in}
+use Rattle.quic_machine.specs.CallCases.{by_done}
 use Rattle.quic_machine.specs.Machine.{World, Policies, IsLeft, IsStep, IsAnswer, end_at, view_of, after_call, after_delivered, end_left, reads_window, says_last, fails, Follows}
 use Rattle.quic_machine.specs.FrameCases.{Settling, named, acked_keeps, losses_keep, frame_keeps, frame_leaves, items_keep, apart_leaves}
 use Rattle.quic_machine.specs.InjectionCases.{by_injection}
@@ -188,11 +189,12 @@ call_had p e theirs (calls.Close close) a is = go e.closing.state refl is
     go states.Drained here is = inl is
     go states.Failed here is = inl is
 call_had p e theirs calls.UseNextId a is = inl (by_next_id (Had e) e a (λ same. same) (λ c same. same) (λ c most same. same) is)
+call_had p e theirs calls.HandshakeDone a is = inl (by_done (Had e) e a (λ same. same) (λ same. same) is)
 call_had p e theirs (calls.Poll now) a is = inl (polled_had e p now is)
 call_had p e theirs (calls.Timeout now) a is = inl (timed_had e p now is)
 call_had p e theirs (calls.Deliver delivery) a is = inl (delivered_had e (slice_get theirs delivery.index) p (delivered_by (says_last a) delivery) is)
 call_had p e theirs (calls.Inject injection) a is = inl (by_injection p e (says_last a) injection (Had e) (λ same. same) (λ now same. cc) is)
-call_had p e theirs calls.Event a is = inl (by_event e (Had e) (λ same. same) (λ told same. same) is)
+call_had p e theirs calls.Event a is = inl (by_event e (Had e) (λ same. same) (λ same. same) (λ told same. same) is)
 call_had p e theirs call a is = inl is
 
 -- whatever a poll reads

@@ -41,7 +41,7 @@ use Rattle.quic_machine.specs.End.{End, side_of}
 use Rattle.quic_machine.specs.Ids.{frame_of, retires_for}
 use Rattle.quic_recovery_core.specs.AckFrequency.{is_stale}
 use Rattle.quic_machine.specs.Migration.{as_elsewhere}
-use Rattle.quic_machine.specs.Receive.{Fault, too_many_pieces, fault_of, fault_at, names_ungiven, Progress, message_judged, retired_for, id_judged, retirement_judged, take_frame, unless_fault, take_items, asks_too_soon, frequency_judged}
+use Rattle.quic_machine.specs.Receive.{Fault, too_many_pieces, fault_of, fault_at, names_ungiven, Progress, message_judged, done_taken, retired_for, id_judged, retirement_judged, take_frame, unless_fault, take_items, asks_too_soon, frequency_judged}
 use Rattle.quic_machine.specs.FrameCases.{passed, ack_taken, frames_leave}
 use Rattle.quic_messages.specs.Messages.{received_answer}
 use Rattle.quic_messages.specs.declared.errors.ReceivedError.{ReceivedError}
@@ -136,6 +136,10 @@ server_apart : (side : Side) → fault_at side ≡ Some too_many_pieces → ⊥
 server_apart Client is = cc
 server_apart Server is = cc
 
+done_apart : (side : Side) (e : End) → (done_taken side e).fault ≡ Some too_many_pieces → ⊥
+done_apart Client e is = cc
+done_apart Server e is = cc
+
 ack_apart : (b : Bool) (a : AckValue) (e : End) → (ack_taken b a e).fault ≡ Some too_many_pieces → ⊥
 ack_apart true a e is = cc
 ack_apart false a e is = cc
@@ -169,7 +173,7 @@ crowds : (f : FrameValue) (e : End) → (take_frame f e).fault ≡ Some too_many
 crowds (stream g) e is = record { frame = g; is = refl; breach = pieces_of (stream_breach e.streams g) is }
 crowds (reset_stream g) e is = absurd (refusal_apart e.streams g.id g.final_size true (pieces_of (reset_breach e.streams g) is))
 crowds (new_token t) e is = absurd (server_apart (side_of e) is)
-crowds handshake_done e is = absurd (server_apart (side_of e) is)
+crowds handshake_done e is = absurd (done_apart (side_of e) e is)
 crowds (datagram m) e is = absurd (message_apart (received_answer e.transport.datagram_receive_buffer_size m e.messages.queues) m e is)
 crowds (ack a) e is = absurd (ack_apart (names_ungiven a e) a e is)
 crowds (connection_close c) e is = cc

@@ -41,7 +41,7 @@ use Rattle.quic_machine.specs.Poll.{Polled, gives_datagram, datagram_of, bounds,
 use Rattle.quic_time.specs.Timers.{has_come}
 use Rattle.quic_machine.specs.Timeouts.{expiry_at, timed_out_in, timed_out}
 use Rattle.quic_machine.specs.Machine.{IsAnswer, IsDelivered, says_last, injected_if, after_injected_if, after_delivered, after_call, fails, gave}
-use Rattle.quic_machine.specs.CallCases.{is_delivery}
+use Rattle.quic_machine.specs.CallCases.{is_delivery, by_done}
 use Rattle.quic_machine.specs.LeaveCases.{at_timeout, at_losses, at_expiry, by_expired, at_event, by_event}
 use Rattle.quic_machine.specs.FrameCases.{Settling, named, begun, acked_keeps, frame_keeps, frame_leaves, items_keep, apart_leaves}
 use Rattle.quic_machine.specs.Steps as steps
@@ -170,6 +170,7 @@ only_deliveries_ask p e theirs calls.NextTimeout a other is = ap asks_again is
 only_deliveries_ask p e theirs calls.State a other is = ap asks_again is
 only_deliveries_ask p e theirs (calls.Close close) a other is = ap asks_again is
 only_deliveries_ask p e theirs calls.UseNextId a other is = either_asks a _ _ refl refl is
+only_deliveries_ask p e theirs calls.HandshakeDone a other is = ap asks_again is
 only_deliveries_ask p e theirs (calls.Send message makes_room) a other is = either_asks a _ _ refl refl is
 only_deliveries_ask p e theirs calls.Recv a other is = ap asks_again is
 only_deliveries_ask p e theirs call a other is = streams_ask (is_open e.closing.state) e.streams call a is
@@ -409,7 +410,11 @@ turns p e theirs calls.UseNextId a is served = by_next_id (λ (x : End). Turns e
   where
     here : Turns e.closing calls.UseNextId a e.closing
     here = kept (same_as e.closing) refl (λ closing. (only_polls_give p e theirs calls.UseNextId a refl is, only_deliveries_ask p e theirs calls.UseNextId a refl is))
-turns p e theirs calls.Event a is served = by_event e (λ (x : End). Turns e.closing calls.Event a x.closing) (told e refl refl refl refl) (λ b. told (at_event e b) refl refl refl refl)
+turns p e theirs calls.HandshakeDone a is served = by_done (λ (x : End). Turns e.closing calls.HandshakeDone a x.closing) e a here here
+  where
+    here : Turns e.closing calls.HandshakeDone a e.closing
+    here = kept (same_as e.closing) refl (λ closing. (only_polls_give p e theirs calls.HandshakeDone a refl is, only_deliveries_ask p e theirs calls.HandshakeDone a refl is))
+turns p e theirs calls.Event a is served = by_event e (λ (x : End). Turns e.closing calls.Event a x.closing) (told e refl refl refl refl) (told e refl refl refl refl) (λ b. told (at_event e b) refl refl refl refl)
   where
     told : (x : End) → x.closing.state ≡ e.closing.state → x.closing.reason ≡ e.closing.reason → x.closing.close ≡ e.closing.close → x.closing.owed ≡ e.closing.owed → Turns e.closing calls.Event a x.closing
     told = event_turns e calls.Event a (only_polls_give p e theirs calls.Event a refl is) (only_deliveries_ask p e theirs calls.Event a refl is)

@@ -32,6 +32,7 @@ use Rattle.quic_machine.specs.Receive.{Fault, broke, too_many_pieces, closed_by_
 use Rattle.quic_machine.specs.Poll.{Polled, bounds, polled, polled_in}
 use Rattle.quic_machine.specs.Timeouts.{Expiry, expiry_at, loss_judged, loss_expired, unless_idle, timed_out_in}
 use Rattle.quic_machine.specs.Calls.{closed_in}
+use Rattle.quic_machine.specs.CallCases.{by_done}
 use Rattle.quic_machine.specs.Machine.{after_call, after_delivered, after_injected_if, end_left, says_last}
 use Rattle.quic_machine.specs.FrameCases.{Settling, named, acked_keeps, losses_keep, frame_keeps, frame_leaves, items_keep, apart_leaves}
 use Rattle.quic_machine.specs.Steps as steps
@@ -216,6 +217,7 @@ call_why p e theirs (calls.Close close) a why = go e.closing.state refl
     go states.Drained here is = was is
     go states.Failed here is = was is
 call_why p e theirs calls.UseNextId a why = by_next_id (HasCause p e calls.UseNextId a why) e a (λ is. was is) (λ c is. was is) (λ c most is. was is)
+call_why p e theirs calls.HandshakeDone a why = by_done (HasCause p e calls.HandshakeDone a why) e a (λ is. was is) (λ is. was is)
 call_why p e theirs (calls.Poll now) a why = polled_why p e (calls.Poll now) a why now
 call_why p e theirs (calls.Timeout now) a why = timed_why p e (calls.Timeout now) a why now refl e.closing.state refl
 call_why p e theirs (calls.Deliver delivery) a why = delivered_why p e (calls.Deliver delivery) a why (slice_get theirs delivery.index) p (delivered_by (says_last a) delivery) refl
@@ -224,7 +226,7 @@ call_why p e theirs (calls.Inject injection) a why = go (would_open p e injectio
     go : (b : Bool) → (after_injected_if b (says_last a) p e injection).closing.reason ≡ Some why → Cause p e (calls.Inject injection) a why
     go true is = was is
     go false is = received_why p e (calls.Inject injection) a why e.closing.state p (injected_by (says_last a) injection) injection.bytes refl is
-call_why p e theirs calls.Event a why = by_event e (HasCause p e calls.Event a why) (λ is. was is) (λ told is. was is)
+call_why p e theirs calls.Event a why = by_event e (HasCause p e calls.Event a why) (λ is. was is) (λ is. was is) (λ told is. was is)
 call_why p e theirs call a why = λ is. was is
 
 -- whatever a poll reads

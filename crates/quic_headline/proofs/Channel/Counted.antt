@@ -8,7 +8,7 @@ use Rattle.quic_wire_core.specs.declared.stream_id.Side.{Side}
 use Rattle.quic_wire_core.specs.declared.stream_id.Dir.{Dir}
 use Rattle.quic_wire_core.specs.declared.stream_id.Dir.TheVariants.{Bi, Uni}
 use Rattle.quic_wire_core.specs.StreamId.{dir_of}
-use Rattle.quic_wire.specs.Value.{FrameValue, StopSendingValue, StreamCountValue, ack, stream, reset_stream, stop_sending, max_data, max_stream_data, max_streams, datagram, new_connection_id, retire_connection_id, path_response, ack_frequency}
+use Rattle.quic_wire.specs.Value.{FrameValue, StopSendingValue, StreamCountValue, ack, stream, reset_stream, stop_sending, max_data, max_stream_data, max_streams, datagram, new_connection_id, retire_connection_id, path_response, handshake_done, ack_frequency}
 use Rattle.quic_assembler.specs.declared.assembler.Chunk.{Chunk}
 use Rattle.quic_send_buffer.specs.declared.stream_meta.StreamMeta.{StreamMeta}
 use Rattle.quic_streams_parts.specs.declared.answers.Breach.{Breach}
@@ -53,7 +53,7 @@ use Rattle.quic_machine.specs.Poll as poll
 use Rattle.quic_machine.specs.DraftLaws.{Writing, by_writing}
 use Rattle.quic_machine.specs.Puts as puts
 use Rattle.quic_machine.specs.LeaveCases.{by_expired, by_event}
-use Rattle.quic_machine.specs.CallCases.{is_delivery, asks_event, by_call}
+use Rattle.quic_machine.specs.CallCases.{is_delivery, asks_event, by_call, by_done}
 use Rattle.quic_machine.specs.FrameCases.{Settling, named, ack_taken, acked_keeps, losses_keep, message_leaves, apart_leaves}
 use Rattle.quic_machine.specs.Steps as steps
 use Rattle.quic_machine.specs.Machine.{IsAnswer, after_call}
@@ -258,10 +258,11 @@ module _ (K : Side → Counts → Counts → Events → List ℕ → Type 0) (mo
         closes = λ reason f now own. i;
         waits = λ now b set. by_waits (λ (f : End). Listed f.streams) b (with_closing e (ticked e.closing now)) i i;
         changes_id = λ uses answer. by_next_id (λ (f : End). Listed f.streams) e a i (λ c. i) (λ c most. i);
+        says_handshake = λ says answer. by_done (λ (f : End). Listed f.streams) e a i i;
         times = λ now expiry set. by_expired p.words e now (λ (f : End). Listed f.streams) (λ pending tracking timers waits asked runs packets. i) (λ pending timers waits asked runs. losses_keep (λ (x : End). Listed x.streams) settling (with_closing e (ticked e.closing now)) i) (λ x j. j) expiry;
         polls = λ now set. poll_counts p e now i;
         hears = λ arrival d set. cc;
-        tells = λ asks. by_event e (λ (f : End). Listed f.streams) i (λ told. asked asks);
+        tells = λ asks. by_event e (λ (f : End). Listed f.streams) i i (λ told. asked asks);
       })
 
   -- ---- what comes
@@ -316,6 +317,7 @@ module _ (K : Side → Counts → Counts → Events → List ℕ → Type 0) (mo
   listed_frame (new_connection_id g) e opens tells i = apart_leaves (λ (x : End). Listed x.streams) (new_connection_id g) e tt (λ c. i) (λ c most. i)
   listed_frame (retire_connection_id n) e opens tells i = apart_leaves (λ (x : End). Listed x.streams) (retire_connection_id n) e tt (λ c. i) (λ c most. i)
   listed_frame (path_response token) e opens tells i = apart_leaves (λ (x : End). Listed x.streams) (path_response token) e tt (λ c. i) (λ c most. i)
+  listed_frame handshake_done e opens tells i = apart_leaves (λ (x : End). Listed x.streams) handshake_done e tt (λ c. i) (λ c most. i)
   listed_frame (ack_frequency r) e opens tells i = apart_leaves (λ (x : End). Listed x.streams) (ack_frequency r) e tt (λ c. i) (λ c most. i)
   listed_frame f e opens tells i = i
 

@@ -265,7 +265,7 @@ module _ (s t : StreamsState) (k : Counted (KnowsCounts s) t) (back : Counted (K
   ids_pass : (f : FrameValue) → Given s f → IdsPass t f
   ids_pass (max_streams f) is = rule_passes (Counting f.count) (omega arith)
   ids_pass (new_token x) is = absurd is
-  ids_pass handshake_done is = absurd is
+  ids_pass handshake_done is = refl
   ids_pass (ack_frequency f) is = refl
   ids_pass f is = rule_passes (id_rule f) is
 

@@ -1,11 +1,12 @@
--- Frames that an end may give: of streams that it knows, and counts that it keeps; and so they
--- stay, since streams only open and counts only grow.
+-- Frames that an end may give: of streams that it knows, counts that it keeps, and HANDSHAKE_DONE of
+-- a server alone; and so they stay, since streams only open and counts only grow.
 use Rattle.std.proofs.Common.{◌≡◌, ℕ, zero, suc, ◌+◌, ◌≤◌, Bool, true, false, not, List, [], ◌∷◌, ◌++◌, replicate, Option, Some, None, refl, sym, ap, ◌∙◌, subst, inl, inr, arith, ltb}
 use Rattle.std.specs.Prelude.{◌&&◌, ◌||◌, max, min, unwrap_or, ◌/◌}
-use Rattle.std.proofs.lemmas.Bool.{and_parts, cond_both, le-ltb}
+use Rattle.std.proofs.lemmas.Bool.{and_parts, or_cases, cond_both, le-ltb}
 use Rattle.quic_wire_core.specs.declared.stream_id.Dir.{Dir}
 use Rattle.quic_wire_core.specs.declared.stream_id.Dir.TheVariants.{Bi, Uni}
 use Rattle.quic_wire_core.specs.declared.stream_id.Side.{Side}
+use Rattle.quic_wire_core.specs.declared.stream_id.Side.TheVariants.{Server}
 use Rattle.quic_wire_core.specs.StreamId.{dir_of, index_of}
 use Rattle.quic_wire.specs.Value.{FrameValue, StopSendingValue, padding, stream, reset_stream, stop_sending, max_stream_data, max_streams, stream_data_blocked, streams_blocked, new_token, handshake_done, ack_frequency}
 use Rattle.quic_streams_parts.specs.Dirs.{of, is_own, is_two_way}
@@ -16,16 +17,17 @@ use Rattle.quic_streams_halves.specs.Halves.{is_done}
 use Rattle.quic_retransmits.specs.Retransmits.{Retransmits, first_of, others_of, merged}
 use Rattle.quic_streams_state.specs.declared.state.StreamsState.{StreamsState}
 use Rattle.quic_retransmits.specs.declared.retransmits.ControlKind.{ControlKind}
-use Rattle.quic_retransmits.specs.declared.retransmits.ControlKind.TheVariants.{StopSending}
+use Rattle.quic_retransmits.specs.declared.retransmits.ControlKind.TheVariants.{HandshakeDone, StopSending}
 use Rattle.quic_streams_state.specs.declared.taking.IdRule.{IdRule}
 use Rattle.quic_streams_state.specs.declared.taking.IdRule.TheVariants.{Free, ReceivingOf, SendingOf, NotOfOwn, Counting}
 use Rattle.quic_streams_state.specs.State.{Streams, Opening, is_opened, is_opened_in, sends_on, receives_on, sending_half, sending_status, receiving_status, one_done, done_if}
 use Rattle.quic_streams_state.specs.Limits.{raised_count}
 use Rattle.quic_streams_state.specs.Opening.{with_remote}
 use Rattle.quic_streams_state.specs.Taking.{id_rule}
-use Rattle.quic_streams_state.specs.Control.{blocked_limit, without_first, frame_told}
+use Rattle.quic_streams_state.specs.Control.{blocked_limit, done_entry, flagged, waiting, without_first, frame_of_first, kind_of, frame_told}
 use Rattle.quic_streams_state.specs.Control as control
 use Rattle.quic_streams_laws.specs.Giving.{Sends, Receives, MayGiveBy}
+use Rattle.quic_streams_laws.specs.KindLaws.{GoesFirst}
 use Rattle.quic_streams_laws.specs.Quiet.{IsSentWithin}
 use Rattle.quic_streams_laws.specs.QuietLaws.{is_quiet, by_tells, by_told}
 use Rattle.quic_streams_laws.specs.Keeping.{KeepsAll}
@@ -118,12 +120,13 @@ frames_grow fs e = frames_keep (λ (x : End). Grown e.streams x.streams) (frame_
 
 -- ---- what may be given
 
--- a frame of such a stream as its rule asks, of a count that the end keeps, or one that asks for no
--- less than the peer lets acknowledgements wait; and none that it never gives
+-- a frame of such a stream as its rule asks, of a count that the end keeps, one that asks for no less
+-- than the peer lets acknowledgements wait, or HANDSHAKE_DONE of a server; and none that it never
+-- gives
 abbrev pub Given : StreamsState → FrameValue → Type 0
 Given s (max_streams f) = f.count ≤ raised_count (dir_named f.one_way) s.opening
 Given s (new_token t) = ⊥
-Given s handshake_done = ⊥
+Given s handshake_done = s.side ≡ Server
 Given s (ack_frequency f) = asks_too_soon f ≡ false
 Given s f = MayGiveBy s (id_rule f)
 
@@ -148,15 +151,15 @@ module _ (s t : StreamsState) (g : Grown s t) where
   pub given_grows : (f : FrameValue) → Given s f → Given t f
   given_grows (max_streams f) is = let more = g.3 (dir_named f.one_way) in omega arith
   given_grows (new_token t) is = is
-  given_grows handshake_done is = is
+  given_grows handshake_done is = g.0 ∙ is
   given_grows (ack_frequency f) is = is
   given_grows f is = rule_grows (id_rule f) is
 
 -- ---- what waits, and goes
 
--- STOP_SENDING waits of streams on which the end receives
+-- STOP_SENDING waits of streams on which the end receives, and HANDSHAKE_DONE at a server
 abbrev pub StopsHold : StreamsState → Retransmits → Type 0
-StopsHold s p = (r : StopSendingValue) → In r p.stop_sending → Receives s r.id
+StopsHold s p = ((r : StopSendingValue) → In r p.stop_sending → Receives s r.id) × (p.handshake_done ≡ true → s.side ≡ Server)
 
 -- what stands behind the first stands in a list
 pub in_others : {X : Type 0} (x : X) (xs : List X) → In x (others_of xs) → In x xs
@@ -168,6 +171,17 @@ first_in : {X : Type 0} (x : X) (xs : List X) → first_of xs ≡ Some x → In 
 first_in x [] is = cc
 first_in x (y ∷ xs) is = let same : x ≡ y = cc in inl same
 
+-- HANDSHAKE_DONE goes only where it waits
+done_waits : (kind : ControlKind) (p : Retransmits) (s : StreamsState) (f : FrameValue) → GoesFirst kind p s f → f ≡ handshake_done → p.handshake_done ≡ true
+done_waits kind p s f goes is = go p.handshake_done refl (subst (λ (k : ControlKind). frame_of_first (waiting k p) s ≡ Some handshake_done) same (goes.first ∙ ap Some is))
+  where
+    same : kind ≡ HandshakeDone
+    same = let kinds : kind_of handshake_done ≡ Some kind = sym (ap kind_of is) ∙ goes.of_kind in cc
+
+    go : (b : Bool) → p.handshake_done ≡ b → frame_of_first (flagged b done_entry) s ≡ Some handshake_done → p.handshake_done ≡ true
+    go true waits first = waits
+    go false waits first = cc
+
 module _ (s : StreamsState) (shape : IsShaped s) where
   -- a half that is in use
   live_sends : (id : ℕ) (h : SendHalf) → at s.sending.halves.live id ≡ Some h → Sends s id
@@ -177,26 +191,27 @@ module _ (s : StreamsState) (shape : IsShaped s) where
   live_receives id h is = and_parts (receives_on s.side id) (is_opened s id) (shape.receiving.allowed id (shape.receiving.placed id h is))
 
   -- a frame that goes may be given
-  goes_given : (p : Retransmits) → StopsHold s p → (f : FrameValue) → control.Goes p s f → Given s f
-  goes_given p stops (reset_stream f) goes = live_sends f.id goes.0 goes.2
-  goes_given p stops (stop_sending f) goes = stops f (first_in f p.stop_sending goes)
-  goes_given p stops (max_stream_data f) goes = live_receives f.id goes.0 goes.2
-  goes_given p stops (max_streams f) goes = omega arith
-  goes_given p stops (stream_data_blocked f) goes = named (sending_half s f.id) refl goes
+  goes_given : (p : Retransmits) → StopsHold s p → (f : FrameValue) → (f ≡ handshake_done → p.handshake_done ≡ true) → control.Goes p s f → Given s f
+  goes_given p stops (reset_stream f) waits goes = live_sends f.id goes.0 goes.2
+  goes_given p stops (stop_sending f) waits goes = stops.0 f (first_in f p.stop_sending goes)
+  goes_given p stops (max_stream_data f) waits goes = live_receives f.id goes.0 goes.2
+  goes_given p stops (max_streams f) waits goes = omega arith
+  goes_given p stops (stream_data_blocked f) waits goes = named (sending_half s f.id) refl goes
     where
       named : (o : Option SendHalf) → sending_half s f.id ≡ o → blocked_limit o ≡ Some f.limit → sends_on s.side f.id ≡ true
       named None is due = cc
       named (Some h) is due = (and_parts (sends_on s.side f.id) (is_opened s f.id) (sends_may s f.id h shape is)).0
-  goes_given p stops (stream f) goes = absurd goes
-  goes_given p stops (streams_blocked f) goes = absurd goes
-  goes_given p stops (new_token t) goes = absurd goes
-  goes_given p stops handshake_done goes = absurd goes
-  goes_given p stops (ack_frequency f) goes = absurd goes
-  goes_given p stops f goes = tt
+  goes_given p stops (stream f) waits goes = absurd goes
+  goes_given p stops (streams_blocked f) waits goes = absurd goes
+  goes_given p stops (new_token t) waits goes = absurd goes
+  goes_given p stops handshake_done waits goes = stops.1 (waits refl)
+  goes_given p stops (ack_frequency f) waits goes = absurd goes
+  goes_given p stops f waits goes = tt
 
 fewer_stops : (s : StreamsState) (kind : ControlKind) (p : Retransmits) → StopsHold s p → StopsHold s (without_first kind p)
-fewer_stops s StopSending p stops r i = stops r (in_others r p.stop_sending i)
-fewer_stops s kind p stops r i = stops r i
+fewer_stops s StopSending p stops = ((λ r i. stops.0 r (in_others r p.stop_sending i)), stops.1)
+fewer_stops s HandshakeDone p stops = (stops.0, λ set. cc)
+fewer_stops s kind p stops = stops
 
 -- the peer takes ACK_FREQUENCY, and then it lets acknowledgements wait for 1 ms
 abbrev pub Obeys : End → Type 0
@@ -260,7 +275,7 @@ module _ (s : StreamsState) (A : Type 0) where
         back = t.1;
         stops = fewer_stops (frame_told f d.end.streams) kind d.end.waiting.frames t.2;
         late = λ set. g.late (sym (without_asks kind d.end.waiting.frames) ∙ set);
-        frames = more_given d.frames f g.frames (given_grows d.end.streams s g.back f (goes_given d.end.streams g.shape d.end.waiting.frames g.stops f is.says), control_asks A d.end.streams d.end.waiting.frames f is.says);
+        frames = more_given d.frames f g.frames (given_grows d.end.streams s g.back f (goes_given d.end.streams g.shape d.end.waiting.frames g.stops f (done_waits kind d.end.waiting.frames d.end.streams f is) is.says), control_asks A d.end.streams d.end.waiting.frames f is.says);
       }
   goes_on (puts.stream id h room) d (found, first, some, is, counts) g = record {
     shape = by_frame IsShaped shape_any d.end.transport.send_fairness d.end.streams id room h found tt g.shape;
@@ -295,7 +310,10 @@ polled_given A e now shape stops carried late =
   where
     -- what waits, with what a packet carried
     more : (n : ℕ) (t : TrackedPacket) → In (n, t) e.tracking.packets → StopsHold e.streams (merged e.waiting.frames t.carried.retransmits)
-    more n t among r i = elim (in_append r e.waiting.frames.stop_sending t.carried.retransmits.stop_sending i) [ inl old ↦ stops r old | inr new ↦ carried n t among r new ]
+    more n t among = (
+      (λ r i. elim (in_append r e.waiting.frames.stop_sending t.carried.retransmits.stop_sending i) [ inl old ↦ stops.0 r old | inr new ↦ (carried n t among).0 r new ]),
+      λ set. elim (or_cases e.waiting.frames.handshake_done t.carried.retransmits.handshake_done set) [ inl old ↦ stops.1 old | inr new ↦ (carried n t among).1 new ],
+    )
 
     stopped : StopsHold e.streams (ready_at e now).end.waiting.frames
     stopped = ready_streams (λ (t : Streams). StopsHold e.streams t.pending) e now stops (λ waits t i. i) more

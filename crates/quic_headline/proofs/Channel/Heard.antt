@@ -6,7 +6,7 @@ use Rattle.std.specs.Option.{IsSome}
 use Rattle.std.proofs.lemmas.Bool.{cond_both}
 use Rattle.std.proofs.lemmas.List.{append-nil}
 use Rattle.quic_wire_core.specs.StreamId.{dir_of}
-use Rattle.quic_wire.specs.Value.{FrameValue, ack, stream, reset_stream, stop_sending, max_data, max_stream_data, max_streams, datagram, new_connection_id, retire_connection_id, path_response, ack_frequency}
+use Rattle.quic_wire.specs.Value.{FrameValue, ack, stream, reset_stream, stop_sending, max_data, max_stream_data, max_streams, datagram, new_connection_id, retire_connection_id, path_response, handshake_done, ack_frequency}
 use Rattle.quic_send_buffer.specs.Buffered.{written}
 use Rattle.quic_streams_parts.specs.Dirs.{is_own, is_two_way}
 use Rattle.quic_streams_parts.specs.Table.{at}
@@ -37,7 +37,7 @@ use Rattle.quic_machine.specs.Puts as puts
 use Rattle.quic_machine.specs.FrameCases.{Settling, acked_keeps, losses_keep, named, ack_taken, message_leaves, passed, frames_leave, apart_leaves}
 use Rattle.quic_machine.specs.Steps as steps
 use Rattle.quic_machine.specs.LeaveCases.{by_expired, by_event}
-use Rattle.quic_machine.specs.CallCases.{is_delivery, by_call}
+use Rattle.quic_machine.specs.CallCases.{is_delivery, by_call, by_done}
 use Rattle.quic_machine.specs.Machine.{IsAnswer, after_call}
 use Rattle.quic_headline.specs.Runs.{In, written_by, first_of}
 use Rattle.quic_headline.proofs.Packets.Apart.{by_waits, by_next_id}
@@ -145,10 +145,11 @@ module _ (t : StreamsState) where
         closes = λ reason f now own. i;
         waits = λ now b set. by_waits (λ (f : End). Heard t f.streams) b (with_closing e (ticked e.closing now)) i i;
         changes_id = λ uses answer. by_next_id (λ (f : End). Heard t f.streams) e a i (λ c. i) (λ c most. i);
+        says_handshake = λ says answer. by_done (λ (f : End). Heard t f.streams) e a i i;
         times = λ now expiry set. by_expired p.words e now (λ (f : End). Heard t f.streams) (λ pending tracking timers waits asked runs packets. i) (λ pending timers waits asked runs. losses_keep (λ (x : End). Heard t x.streams) settles (with_closing e (ticked e.closing now)) i) (λ x j. j) expiry;
         polls = λ now set. poll_heard p e now i;
         hears = λ arrival d set. cc;
-        tells = λ asks. by_event e (λ (f : End). Heard t f.streams) i (λ told. by_polled (Heard t) heard_kept e.streams i);
+        tells = λ asks. by_event e (λ (f : End). Heard t f.streams) i i (λ told. by_polled (Heard t) heard_kept e.streams i);
       })
 
   -- ---- frames
@@ -170,6 +171,7 @@ module _ (t : StreamsState) where
   frame_heard (new_connection_id g) e told i = apart_leaves (λ (x : End). Heard t x.streams) (new_connection_id g) e tt (λ c. i) (λ c most. i)
   frame_heard (retire_connection_id n) e told i = apart_leaves (λ (x : End). Heard t x.streams) (retire_connection_id n) e tt (λ c. i) (λ c most. i)
   frame_heard (path_response token) e told i = apart_leaves (λ (x : End). Heard t x.streams) (path_response token) e tt (λ c. i) (λ c most. i)
+  frame_heard handshake_done e told i = apart_leaves (λ (x : End). Heard t x.streams) handshake_done e tt (λ c. i) (λ c most. i)
   frame_heard (ack_frequency r) e told i = apart_leaves (λ (x : End). Heard t x.streams) (ack_frequency r) e tt (λ c. i) (λ c most. i)
   frame_heard other e told i = i
 

@@ -7,7 +7,7 @@ use Rattle.std.specs.List.{list_any, range_with_len}
 use Rattle.std.specs.declared.ops.Range.{Range}
 use Rattle.quic_wire_core.specs.TransportError.{ErrorValue, plain_error, protocol_violation}
 use Rattle.quic_wire_core.specs.declared.shared.IssuedCid.{IssuedCid}
-use Rattle.quic_wire.specs.Value.{FrameValue, AckValue, NewConnectionIdValue, ack, stream, reset_stream, stop_sending, max_data, max_stream_data, max_streams, datagram, path_response, new_connection_id, retire_connection_id, ack_frequency}
+use Rattle.quic_wire.specs.Value.{FrameValue, AckValue, NewConnectionIdValue, ack, stream, reset_stream, stop_sending, max_data, max_stream_data, max_streams, datagram, path_response, handshake_done, new_connection_id, retire_connection_id, ack_frequency}
 use Rattle.quic_ids.specs.CidState.{is_wrong, without, retirement_answer}
 use Rattle.quic_ids.specs.CidQueue.{kept_ids, insert_answer}
 use Rattle.quic_ids.specs.declared.cid_queue.InsertError.{InsertError}
@@ -20,7 +20,7 @@ use Rattle.quic_machine.specs.declared.run.Answer.{Answer}
 use Rattle.quic_machine.specs.declared.run.Answer.TheVariants as answers
 use Rattle.quic_machine.specs.Policy.{Policy}
 use Rattle.quic_machine.specs.Closing.{ticked}
-use Rattle.quic_machine.specs.CallCases.{is_delivery, uses_next_id, by_call}
+use Rattle.quic_machine.specs.CallCases.{is_delivery, uses_next_id, by_call, by_done}
 use Rattle.quic_machine.specs.LeaveCases.{by_expired, by_event}
 use Rattle.quic_machine.specs.Machine.{after_call}
 use Rattle.quic_machine.specs.MessageCalls.{most_message}
@@ -36,7 +36,7 @@ use Rattle.quic_headline.specs.Runs.{In, Packet, Intake}
 use Rattle.quic_headline.specs.Observer.{Sent}
 use Rattle.quic_headline.proofs.Places.Told.{in_append}
 use Rattle.quic_headline.proofs.Packets.Invariant.{AreTracked}
-use Rattle.quic_headline.proofs.Packets.Apart.{by_waits, by_frequency}
+use Rattle.quic_headline.proofs.Packets.Apart.{by_waits, by_frequency, by_heard_done}
 use Rattle.quic_headline.proofs.Packets.Delivered.{Arrivals, arrived}
 use Rattle.quic_headline.proofs.Packets.Named.{NamesTaken, Stands, SettlesOn, by_frame, frames_settle}
 use Rattle.quic_headline.proofs.Packets.Ids.{SaysIds, Waits, SentSayIds, steps_wait, on_streams_wait, call_waits, in_set}
@@ -171,6 +171,7 @@ module _ (used issued least low : ℕ) where
       go : (b : Bool) → GoAt (validated_if b e)
       go true = i
       go false = i
+  apart_go handshake_done e apart comes i = by_heard_done GoAt e i (λ c. i)
   apart_go (ack_frequency r) e apart comes i = by_frequency GoAt r e (λ threshold reordering frequency. i)
   apart_go f e apart comes i = i
 
@@ -248,6 +249,7 @@ module _ (used issued least low : ℕ) where
       go : (b : Bool) → (let x : End = validated_if b e in Waits (IsIssued x.ids.own.issued) (IsBelow x.ids.peer.active) x.waiting.frames)
       go true = i.waits
       go false = i.waits
+  apart_waits handshake_done e apart comes i = by_heard_done (λ (x : End). Waits (IsIssued x.ids.own.issued) (IsBelow x.ids.peer.active) x.waiting.frames) e i.waits (λ c. i.waits)
   apart_waits (ack_frequency r) e apart comes i = by_frequency (λ (x : End). Waits (IsIssued x.ids.own.issued) (IsBelow x.ids.peer.active) x.waiting.frames) r e (λ threshold reordering frequency. i.waits)
   apart_waits f e apart comes i = i.waits
 
@@ -336,11 +338,12 @@ module _ (used issued least low : ℕ) where
       closes = λ reason f now own. refl;
       waits = λ now b set. by_waits (λ (x : End). x.ids ≡ e.ids) b (with_closing e (ticked e.closing now)) refl refl;
       changes_id = λ uses answer. (let clash : false ≡ true = sym same ∙ uses in cc);
+      says_handshake = λ says answer. by_done (λ (x : End). x.ids ≡ e.ids) e a refl refl;
       times = λ now expiry set. by_expired p.words e now (λ (x : End). x.ids ≡ e.ids) (λ pending tracking timers waits asked runs packets. refl)
           (λ pending timers waits asked runs. losses_keep (λ (x : End). x.ids ≡ e.ids) (settles_ids e) (with_closing e (ticked e.closing now)) refl) (λ x j. j) expiry;
       polls = λ now set. polled_ids p e now;
       hears = λ arrival d set. (let clash : false ≡ true = sym other ∙ set in cc);
-      tells = λ asks. by_event e (λ (x : End). x.ids ≡ e.ids) refl (λ told. refl);
+      tells = λ asks. by_event e (λ (x : End). x.ids ≡ e.ids) refl refl (λ told. refl);
     })
 
     other_stand : (p : Policy) (e : End) (theirs : List (List ℕ)) (call : Call) (a : Answer) → is_delivery call ≡ false → uses_next_id call ≡ false → AreTracked sents e.tracking.packets → StandAt e → StandAt (after_call p e theirs call a)

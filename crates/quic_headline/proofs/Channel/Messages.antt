@@ -4,7 +4,7 @@ use Rattle.std.proofs.Common.{cond, ◌≡◌, ℕ, ◌-◌, min, Bool, true, fa
 use Rattle.std.specs.Prelude.{if◌then◌else◌, nat_le, nat_lt, ◌||◌, is_none, is_ok, ◌+◌}
 use Rattle.std.specs.List.{filter, AllByRecursion}
 use Rattle.std.proofs.lemmas.Bool.{ltb-false, le-leb}
-use Rattle.quic_wire.specs.Value.{FrameValue, ack, padding, datagram, new_connection_id, retire_connection_id, path_response, ack_frequency}
+use Rattle.quic_wire.specs.Value.{FrameValue, ack, padding, datagram, new_connection_id, retire_connection_id, path_response, handshake_done, ack_frequency}
 use Rattle.quic_config.specs.Transport.{TransportSettings, told_frame_size}
 use Rattle.quic_parameters.specs.Parameters.{ParameterValues}
 use Rattle.quic_streams_laws.specs.WrittenFrames.{all_append}
@@ -31,7 +31,7 @@ use Rattle.quic_machine.specs.MessageCalls.{limits_of, after_on_messages}
 use Rattle.quic_machine.specs.FrameCases.{Settling, named, ack_taken, acked_keeps, losses_keep, by_received, apart_leaves}
 use Rattle.quic_machine.specs.Steps as steps
 use Rattle.quic_machine.specs.LeaveCases.{by_expired, by_event}
-use Rattle.quic_machine.specs.CallCases.{by_call}
+use Rattle.quic_machine.specs.CallCases.{by_call, by_done}
 use Rattle.quic_machine.specs.Machine.{IsAnswer, after_call, gave}
 use Rattle.quic_headline.specs.Runs.{In}
 use Rattle.quic_headline.specs.Observer.{Sent}
@@ -238,6 +238,7 @@ module _ (window : Option ℕ) where
   frame_leaves (new_connection_id f) e i = apart_leaves (Waits window) (new_connection_id f) e tt (λ c. i) (λ c most. some_taken window (is_within most) e.messages.queues.outgoing i)
   frame_leaves (retire_connection_id n) e i = apart_leaves (Waits window) (retire_connection_id n) e tt (λ c. i) (λ c most. some_taken window (is_within most) e.messages.queues.outgoing i)
   frame_leaves (path_response token) e i = apart_leaves (Waits window) (path_response token) e tt (λ c. i) (λ c most. some_taken window (is_within most) e.messages.queues.outgoing i)
+  frame_leaves handshake_done e i = apart_leaves (Waits window) handshake_done e tt (λ c. i) (λ c most. some_taken window (is_within most) e.messages.queues.outgoing i)
   frame_leaves (ack_frequency r) e i = apart_leaves (Waits window) (ack_frequency r) e tt (λ c. i) (λ c most. some_taken window (is_within most) e.messages.queues.outgoing i)
   frame_leaves f e i = i
 
@@ -252,6 +253,7 @@ module _ (window : Option ℕ) where
     closes = λ reason f now own. i;
     waits = λ now b set. by_waits (Waits window) b (with_closing e (ticked e.closing now)) i i;
     changes_id = λ uses answer. by_next_id (Waits window) e a i (λ c. i) (λ c most. some_taken window (is_within most) e.messages.queues.outgoing i);
+    says_handshake = λ says answer. by_done (Waits window) e a i i;
     polls = λ now set. poll_leaves window p e now i;
     hears = λ arrival d set. by_received (Waits window) (record {
       notes = λ n x j. j;
@@ -265,7 +267,7 @@ module _ (window : Option ℕ) where
       draws = λ words x j. j;
       moves = λ q o remote x j. by_migrated (Waits window) q o remote x (λ c. j) (λ c most. some_taken window (is_within most) x.messages.queues.outgoing j);
     }) p e arrival d i;
-    tells = λ asks. by_event e (Waits window) i (λ was_told. i);
+    tells = λ asks. by_event e (Waits window) i i (λ was_told. i);
   })
 
 -- ---- the group

@@ -3,7 +3,8 @@
 -- written.
 use Rattle.std.proofs.Common.{◌≡◌, ℕ, List, ◌++◌, Some, subst, inl, inr, Bool, true, false, Option, None, refl, sym, ap, ◌∙◌}
 use Rattle.std.proofs.lemmas.Bool.{and_parts}
-use Rattle.quic_wire.specs.Value.{FrameValue, StopSendingValue, stop_sending, AckFrequencyValue, ack_frequency}
+use Rattle.quic_wire_core.specs.declared.stream_id.Side.TheVariants.{Server}
+use Rattle.quic_wire.specs.Value.{FrameValue, StopSendingValue, stop_sending, handshake_done, AckFrequencyValue, ack_frequency}
 use Rattle.quic_streams_parts.specs.RecvHalf.{RecvHalf}
 use Rattle.quic_streams_state.specs.declared.state.StreamsState.{StreamsState}
 use Rattle.quic_streams_state.specs.State.{is_opened, receives_on, receiving_half}
@@ -76,12 +77,15 @@ module _ (B : Way) (rests : RestsOn B) (x y : Party) (call : Call) (a : Answer) 
     abbrev Known : ℕ → Type 0
     Known id = Receives t id
 
+    abbrev IsServer : Type 0
+    IsServer = x.end.streams.side ≡ Server
+
     -- what the peer told stays
     obeys_behind : Obeys x.end → Obeys (called x y.given call a).end
     obeys_behind is = ap (λ (p : ParameterValues). p.min_ack_delay) (placed_call x.policy x.end y.given call a).peer ∙ is
 
-    stops_before : StopsOf Known (Obeys x.end) x.end.waiting.frames
-    stops_before = ((λ r i. receives_grow x.end.streams t grows_behind r.id (n.stops r i)), n.asks)
+    stops_before : StopsOf Known (Obeys x.end) IsServer x.end.waiting.frames
+    stops_before = ((λ r i. receives_grow x.end.streams t grows_behind r.id (n.stops.0 r i)), n.asks, n.stops.1)
 
     -- what is stopped is a stream on which the end receives
     stopped_known : (id : ℕ) (h : RecvHalf) → receiving_half x.end.streams id ≡ Some h → Known id
@@ -92,17 +96,17 @@ module _ (B : Way) (rests : RestsOn B) (x y : Party) (call : Call) (a : Answer) 
     sent_known s i g j = given_grows x.end.streams t grows_behind (stop_sending g) (n.given s i (stop_sending g) j)
 
     -- and so was what is tracked
-    tracked_stops : (Q : ℕ → Type 0) → ((s : Sent) → In s x.sents → (g : StopSendingValue) → In (stop_sending g) s.frames → Q g.id) → TrackedStops Q (Obeys x.end) x.end.tracking.packets
+    tracked_stops : (Q : ℕ → Type 0) → ((s : Sent) → In s x.sents → (g : StopSendingValue) → In (stop_sending g) s.frames → Q g.id) → TrackedStops Q (Obeys x.end) IsServer x.end.tracking.packets
     tracked_stops Q sent k p among =
         let was = tracked_carried x.sents x.end.tracking.packets (rests.packets x y c.gives).tracked k p among in
-        from_stops Q (Obeys x.end) p.carried was.sent.frames was.is (sent was.sent was.among, n.asked was.sent was.among)
+        from_stops Q (Obeys x.end) IsServer p.carried was.sent.frames was.is (sent was.sent was.among, n.asked was.sent was.among, n.given was.sent was.among handshake_done)
 
-    arrivals_stop : (now : ℕ) (s : Sent) → In s y.sents → (here : Bool) → Arrivals x.end now s.number s.frames (frames_at here s.frames) (came_to x y) (λ (o : Outcome) (i : Intake). StopsOf Known (Obeys x.end) o.end.waiting.frames)
+    arrivals_stop : (now : ℕ) (s : Sent) → In s y.sents → (here : Bool) → Arrivals x.end now s.number s.frames (frames_at here s.frames) (came_to x y) (λ (o : Outcome) (i : Intake). StopsOf Known (Obeys x.end) IsServer o.end.waiting.frames)
     arrivals_stop now s among here = record {
       ignored = λ reason. stops_before;
       noted = λ state reason. stops_before;
       takes = λ words state new none urged mark. passed_stops;
-      moves = λ p o same remote z opened j. by_migrated (λ (e : End). StopsOf Known (Obeys x.end) e.waiting.frames) p o remote z (λ c. j) (λ c most. j);
+      moves = λ p o same remote z opened j. by_migrated (λ (e : End). StopsOf Known (Obeys x.end) IsServer e.waiting.frames) p o remote z (λ c. j) (λ c most. j);
       drains = λ words state new close is. passed_stops;
       refuses = λ words state new f is. passed_stops;
       exhausts = λ state. stops_before;
@@ -117,16 +121,16 @@ module _ (B : Way) (rests : RestsOn B) (x y : Party) (call : Call) (a : Answer) 
         back : PacketsHold y x
         back = rests.packets y x c.takes
 
-        takes_on : TakesOn took x.sents (frames_at here s.frames) (λ (e : End). StopsOf Known (Obeys x.end) e.waiting.frames)
-        takes_on = record { settles = settles_stops Known (Obeys x.end) took x.sents (λ u i. (sent_known u i, n.asked u i)); names = λ a e i j. j; on_streams = λ f e i on j. frame_stops Known (Obeys x.end) f e on j; message = λ m e j. j; apart = λ f e i apart j. apart_leaves (λ (g : End). StopsOf Known (Obeys x.end) g.waiting.frames) f e apart (λ c. j) (λ c most. j) }
+        takes_on : TakesOn took x.sents (frames_at here s.frames) (λ (e : End). StopsOf Known (Obeys x.end) IsServer e.waiting.frames)
+        takes_on = record { settles = settles_stops Known (Obeys x.end) IsServer took x.sents (λ u i. (sent_known u i, n.asked u i, n.given u i handshake_done)); names = λ a e i j. j; on_streams = λ f e i on j. frame_stops Known (Obeys x.end) IsServer f e on j; message = λ m e j. j; apart = λ f e i apart j. apart_leaves (λ (g : End). StopsOf Known (Obeys x.end) IsServer g.waiting.frames) f e apart (λ c. j) (λ c most. j) }
 
-        passed_stops : StopsOf Known (Obeys x.end) (arrived x.end now s.number (frames_at here s.frames)).end.waiting.frames
-        passed_stops = frames_settle took x.sents (record { taken = p.taken; rising = p.gives.rising }) (frames_at here s.frames) (λ (e : End). StopsOf Known (Obeys x.end) e.waiting.frames) takes_on (begun x.end now s.number)
+        passed_stops : StopsOf Known (Obeys x.end) IsServer (arrived x.end now s.number (frames_at here s.frames)).end.waiting.frames
+        passed_stops = frames_settle took x.sents (record { taken = p.taken; rising = p.gives.rising }) (frames_at here s.frames) (λ (e : End). StopsOf Known (Obeys x.end) IsServer e.waiting.frames) takes_on (begun x.end now s.number)
             (acks_at (NamesTaken took) here s.frames (λ b i k named. back.named s b k among i named)) p.tracked stops_before
 
-    stops_behind : StopsOf Known (Obeys x.end) (called x y.given call a).end.waiting.frames
-    stops_behind = by_coming x y a c.joined c.served (meets y x (rests.packets y x c.takes)) (λ (e : End) (i : Intake). StopsOf Known (Obeys x.end) e.waiting.frames) call c.answer (record {
-      apart = λ apart. call_stops Known (Obeys x.end) x.policy x.end y.given call a apart stopped_known n.obeys (tracked_stops Known sent_known) stops_before;
+    stops_behind : StopsOf Known (Obeys x.end) IsServer (called x y.given call a).end.waiting.frames
+    stops_behind = by_coming x y a c.joined c.served (meets y x (rests.packets y x c.takes)) (λ (e : End) (i : Intake). StopsOf Known (Obeys x.end) IsServer e.waiting.frames) call c.answer (record {
+      apart = λ apart. call_stops Known (Obeys x.end) IsServer x.policy x.end y.given call a c.answer apart stopped_known n.obeys (λ is. is) (tracked_stops Known sent_known) stops_before;
       none = λ delivery is. stops_before;
       comes = λ delivery is s among here. arrivals_stop delivery.now s among here;
     })
@@ -137,14 +141,14 @@ module _ (B : Way) (rests : RestsOn B) (x y : Party) (call : Call) (a : Answer) 
 
     more_given : (k : Call) → IsAnswer x.policy x.end y.given k a → (s : Sent) → In s (sents_by x.policy x.end k a) → (f : FrameValue) → In f s.frames → May x.end.streams (Obeys x.end) f
     more_given (calls.Poll now) is s i f j = sent_fine (May x.end.streams (Obeys x.end)) (λ c. (tt, tt)) (λ c. (tt, tt)) (tt, tt) x.policy x.end now (rests.packets x y c.gives).owes
-        (λ opened. polled_given (Obeys x.end) x.end now written.shape n.stops (λ k p among. (tracked k p among).0)
-        (λ set. (let there : Obeys x.end = (ready_keeps Here (Obeys x.end) x.end now n.obeys tracked (n.stops, n.asks)).1 set in (ap (λ (e : End). e.peer_params.min_ack_delay) (ready_leaves x.end now) ∙ there, there))))
+        (λ opened. polled_given (Obeys x.end) x.end now written.shape n.stops (λ k p among. ((tracked k p among).0, (tracked k p among).2))
+        (λ set. (let there : Obeys x.end = (ready_keeps Here (Obeys x.end) IsServer x.end now n.obeys tracked (n.stops.0, n.asks, n.stops.1)).1 set in (ap (λ (e : End). e.peer_params.min_ack_delay) (ready_leaves x.end now) ∙ there, there))))
         s (subst (λ (b : Answer). In s (sent_if (gave b) (sent_by x.policy x.end now))) (poll_answer x.policy x.end now a is c.served) i) f j
       where
         Here : ℕ → Type 0
         Here id = Receives x.end.streams id
 
-        tracked : TrackedStops Here (Obeys x.end) x.end.tracking.packets
+        tracked : TrackedStops Here (Obeys x.end) IsServer x.end.tracking.packets
         tracked = tracked_stops Here (λ u i g j. n.given u i (stop_sending g) j)
     more_given k is s i f j = absurd i
 
@@ -163,7 +167,7 @@ module _ (B : Way) (rests : RestsOn B) (x y : Party) (call : Call) (a : Answer) 
     pub names_behind : NamesHold (called x y.given call a) y
     names_behind = record {
       given = given_behind;
-      stops = stops_behind.0;
+      stops = (stops_behind.0, λ set. grows_behind.0 ∙ stops_behind.2 set);
       obeys = λ some. obeys_behind (n.obeys (ap (λ (p : ParameterValues). is_some p.min_ack_delay) (sym (placed_call x.policy x.end y.given call a).peer) ∙ some));
       asks = λ set. obeys_behind (stops_behind.1 set);
       asked = λ s i g j. obeys_behind (asked_behind s i g j);
@@ -179,7 +183,7 @@ obeys_first false some = cc
 
 pub names_group : (B : Way) → RestsOn B → Group B NamesHold
 names_group B rests = record {
-  first = λ x y m there back. record { given = λ s i. absurd i; stops = λ r i. absurd i; obeys = obeys_first y.making.settings.ack_frequency_support; asks = λ set. cc; asked = λ s i. absurd i };
+  first = λ x y m there back. record { given = λ s i. absurd i; stops = ((λ r i. absurd i), λ set. cc); obeys = obeys_first y.making.settings.ack_frequency_support; asks = λ set. cc; asked = λ s i. absurd i };
   writer = λ x y call a c n back. names_behind B rests x y call a c n;
   reader = λ x y call a c there n. record { given = n.given; stops = n.stops; obeys = n.obeys; asks = n.asks; asked = n.asked };
   shows = λ x y here there b back n m. record { given = n.given; stops = n.stops; obeys = n.obeys; asks = n.asks; asked = n.asked };

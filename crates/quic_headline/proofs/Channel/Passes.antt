@@ -61,7 +61,7 @@ module _ (B : Way) (packets : (x y : Party) → B x y → PacketsHold x y) (ids 
       ids = λ f e i l. elim i [ inl one ↦ passes_id f one e l | inr pads ↦ subst (IdsPass e.streams) (sym pads) refl ];
       sizes = λ f e i l. elim i [ inl one ↦ sizes.sizes x y h s among f one e.streams l.fits (passes_id f one e l) | inr pads ↦ subst (SizesPass e.streams) (sym pads) tt ];
       plain = λ f e i l. elim i [
-        | inl one ↦ plain_pass x y (packets x y h) (packets y x back) s among f one ((ids x y h).0.0.given s among f one) (messages x y h) e l.next l.skipped l.transport (id_passes_at f one e l)
+        | inl one ↦ plain_pass x y (packets x y h) (packets y x back) s among f one ((ids x y h).0.0.given s among f one) (messages x y h) e l.next l.skipped l.transport (l.grown.0 ∙ (ids x y h).0.1.counts.0) (id_passes_at f one e l)
         | inr pads ↦ subst (PlainPass e) (sym pads) tt
       ];
       stays = λ f e i l. elim i [ inl one ↦ stays_at f one e l | inr pads ↦ subst (λ (g : FrameValue). Lets (take_frame g e).end) (sym pads) l ];

@@ -2,6 +2,8 @@
 -- rules of ids and counts, by those of limits and sizes, and by those apart from streams.
 use Rattle.std.proofs.Common.{◌≡◌, ℕ, Bool, true, false, List, [], ◌∷◌, length, ◌==◌, map, Option, Some, None, Ok, Err, refl, sym, ap, ◌∙◌, subst, inl, inr}
 use Rattle.std.specs.Prelude.{if◌then◌else◌}
+use Rattle.quic_wire_core.specs.declared.stream_id.Side.{Side}
+use Rattle.quic_wire_core.specs.declared.stream_id.Side.TheVariants.{Client}
 use Rattle.quic_wire.specs.Value.{FrameValue, StreamValue, ack, stream, reset_stream, new_token, handshake_done, connection_close, application_close, datagram, path_challenge, path_response, new_connection_id, retire_connection_id, immediate_ack, ack_frequency}
 use Rattle.quic_wire.specs.Close.{CloseValue}
 use Rattle.quic_streams_parts.specs.declared.answers.Breach.{Breach}
@@ -14,7 +16,7 @@ use Rattle.quic_messages.specs.declared.errors.ReceivedError.TheVariants as rece
 use Rattle.quic_messages.specs.Messages.{is_taken}
 use Rattle.quic_machine.specs.declared.answers.State.TheVariants as states
 use Rattle.quic_machine.specs.End.{End, side_of}
-use Rattle.quic_machine.specs.Receive.{Fault, broke, too_many_pieces, closed_by_peer, fault_of, fault_at, names_ungiven, message_judged, take_frame, unless_fault, take_items, asks_too_soon, frequency_judged}
+use Rattle.quic_machine.specs.Receive.{Fault, broke, too_many_pieces, closed_by_peer, fault_of, fault_at, names_ungiven, message_judged, done_taken, take_frame, unless_fault, take_items, asks_too_soon, frequency_judged}
 use Rattle.quic_machine.specs.FrameCases.{passed, ack_taken}
 use Rattle.quic_headline.specs.Runs.{In}
 use Rattle.quic_headline.specs.Observer.{Sent}
@@ -43,7 +45,7 @@ abbrev pub PlainPass : End → FrameValue → Type 0
 PlainPass e (ack a) = names_ungiven a e ≡ false
 PlainPass e (datagram m) = is_taken e.transport.datagram_receive_buffer_size m ≡ true
 PlainPass e (new_token t) = fault_at (side_of e) ≡ None
-PlainPass e handshake_done = fault_at (side_of e) ≡ None
+PlainPass e handshake_done = side_of e ≡ Client
 PlainPass e (new_connection_id f) = (take_frame (new_connection_id f) e).fault ≡ None
 PlainPass e (retire_connection_id n) = (take_frame (retire_connection_id n) e).fault ≡ None
 PlainPass e (ack_frequency f) = asks_too_soon f ≡ false
@@ -89,7 +91,7 @@ frame_passes (reset_stream f) e ids sizes plain fault is = nothing_broken (reset
 frame_passes (datagram m) e ids sizes plain fault is =
     let clash : None ≡ Some fault = sym (ap (λ (b : Bool). (message_judged (if b then Ok (length e.messages.queues.incoming == 0) else Err received_errors.Breach) m e).fault) plain) ∙ is in cc
 frame_passes (new_token t) e ids sizes plain fault is = no_fault (fault_at (side_of e)) plain fault is
-frame_passes handshake_done e ids sizes plain fault is = no_fault (fault_at (side_of e)) plain fault is
+frame_passes handshake_done e ids sizes plain fault is = no_fault (done_taken (side_of e) e).fault (ap (λ (side : Side). (done_taken side e).fault) plain) fault is
 frame_passes (connection_close c) e ids sizes plain fault is = closes_only _ fault is
 frame_passes (application_close c) e ids sizes plain fault is = closes_only _ fault is
 frame_passes (path_challenge token) e ids sizes plain fault is = cc

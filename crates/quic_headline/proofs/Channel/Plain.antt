@@ -1,10 +1,11 @@
--- Frames apart from streams pass: an end acknowledges only numbers that were given, gives none that
--- only servers send, and sends messages that the other takes; those about connection ids pass as
+-- Frames apart from streams pass: an end acknowledges only numbers that were given, gives what only
+-- servers send to a client, and sends messages that the other takes; those about connection ids pass as
 -- both agree on these.
 use Rattle.std.proofs.Common.{◌≡◌, ℕ, ◌<◌, Bool, true, false, List, [], ◌∷◌, Option, Some, None, refl, sym, ap, ◌∙◌, subst, arith}
 use Rattle.std.specs.Prelude.{nat_le}
 use Rattle.std.specs.List.{list_any}
 use Rattle.std.proofs.lemmas.Bool.{leb-true, or_from}
+use Rattle.quic_wire_core.specs.StreamId.{other_side}
 use Rattle.quic_wire.specs.Value.{FrameValue, AckValue, ack, new_token, handshake_done, datagram, new_connection_id, retire_connection_id, ack_frequency}
 use Rattle.quic_config.specs.Transport.{TransportSettings}
 use Rattle.quic_messages.specs.Messages.{is_taken}
@@ -64,20 +65,21 @@ left_unnamed x y p back s among a i (Some n) out = go (names a n) refl
 
 -- ---- all
 
--- at an end that gave as many packets as y, left out the same last, and takes the same messages
+-- at an end that gave as many packets as y, left out the same last, takes the same messages, and is
+-- of the other side
 pub plain_pass : (x y : Party) → PacketsHold x y → PacketsHold y x → (s : Sent) → In s x.sents → (f : FrameValue) → In f s.frames → Given x.end.streams f → MessagesFit x y → (e : End) → e.numbers.next ≡ y.end.numbers.next → e.filter.last ≡ y.end.filter.last
-    → e.transport ≡ y.end.transport → IdPasses e f → PlainPass e f
-plain_pass x y p back s among (ack a) i given fits e same skipped takes ids =
+    → e.transport ≡ y.end.transport → e.streams.side ≡ other_side x.end.streams.side → IdPasses e f → PlainPass e f
+plain_pass x y p back s among (ack a) i given fits e same skipped takes sides ids =
     let below = ack_given x y p back s among a i in
     or_from (nat_le e.numbers.next a.largest) (list_any (λ r. names_skipped e.filter.last r.0 r.1) a.ranges) (not_below e.numbers.next a.largest (omega arith))
     (ap (λ (o : Option ℕ). list_any (λ r. names_skipped o r.0 r.1) a.ranges) skipped ∙ left_unnamed x y p back s among a i y.end.filter.last back.gives.left_out)
-plain_pass x y p back s among (new_token t) i given fits e same skipped takes ids = absurd given
-plain_pass x y p back s among handshake_done i given fits e same skipped takes ids = absurd given
-plain_pass x y p back s among (datagram m) i given fits e same skipped takes ids = subst (λ (t : TransportSettings). is_taken t.datagram_receive_buffer_size m ≡ true) (sym takes) (fits.sent s among m i)
-plain_pass x y p back s among (new_connection_id f) i given fits e same skipped takes ids = ids
-plain_pass x y p back s among (retire_connection_id n) i given fits e same skipped takes ids = ids
-plain_pass x y p back s among (ack_frequency f) i given fits e same skipped takes ids = given
-plain_pass x y p back s among f i given fits e same skipped takes ids = tt
+plain_pass x y p back s among (new_token t) i given fits e same skipped takes sides ids = absurd given
+plain_pass x y p back s among handshake_done i given fits e same skipped takes sides ids = sides ∙ ap other_side given
+plain_pass x y p back s among (datagram m) i given fits e same skipped takes sides ids = subst (λ (t : TransportSettings). is_taken t.datagram_receive_buffer_size m ≡ true) (sym takes) (fits.sent s among m i)
+plain_pass x y p back s among (new_connection_id f) i given fits e same skipped takes sides ids = ids
+plain_pass x y p back s among (retire_connection_id n) i given fits e same skipped takes sides ids = ids
+plain_pass x y p back s among (ack_frequency f) i given fits e same skipped takes sides ids = given
+plain_pass x y p back s among f i given fits e same skipped takes sides ids = tt
 
 -- a frame leaves how many packets its end gave
 pub frame_next : (f : FrameValue) (e : End) → (take_frame f e).end.numbers.next ≡ e.numbers.next

@@ -6,7 +6,7 @@ use Rattle.std.specs.declared.ops.Range.{Range}
 use Rattle.std.proofs.lemmas.Bool.{eq-eqb, ne_eqb, and_parts, ltb-true}
 use Rattle.quic_wire_core.specs.TransportError.{ErrorValue}
 use Rattle.quic_wire_core.specs.declared.shared.IssuedCid.{IssuedCid}
-use Rattle.quic_wire.specs.Value.{FrameValue, AckValue, ack, stream, reset_stream, stop_sending, max_data, max_stream_data, max_streams, datagram, path_response, new_connection_id, retire_connection_id, ack_frequency}
+use Rattle.quic_wire.specs.Value.{FrameValue, AckValue, ack, stream, reset_stream, stop_sending, max_data, max_stream_data, max_streams, datagram, path_response, handshake_done, new_connection_id, retire_connection_id, ack_frequency}
 use Rattle.quic_ids.specs.CidState.{OwnIds, without, after_new, after_retirement, is_wrong, retirement_answer}
 use Rattle.quic_ids.specs.CidQueue.{insert_answer}
 use Rattle.quic_ids.specs.declared.cid_queue.InsertError.{InsertError}
@@ -32,7 +32,7 @@ use Rattle.quic_headline.proofs.Packets.Delivered.{arrived}
 use Rattle.quic_headline.proofs.Packets.Ids.{SaysIds, SentSayIds, AnyNumber, carried_waits}
 use Rattle.quic_headline.proofs.Halves.PileSteps.{acked_same, reset_acked_same, stream_same, reset_same}
 use Rattle.quic_headline.proofs.Destined.Sole.{Stays, kept_or, with_other, with_same, HasNone, IsSole, sole_more, sole_last, sole_get, sole_set, in_sole}
-use Rattle.quic_headline.proofs.Packets.Apart.{by_frequency}
+use Rattle.quic_headline.proofs.Packets.Apart.{by_frequency, by_heard_done}
 
 -- nothing is asked of an id
 abbrev pub AnyId : IssuedCid → Type 0
@@ -232,6 +232,7 @@ module _ (Gone : ℕ → Type 0) (Others : NumberedId → Type 0) (old : ℕ) wh
       go : (b : Bool) → IssuesAt (validated_if b e)
       go true = i
       go false = i
+  apart_issues handshake_done e apart says i = by_heard_done IssuesAt e i (λ c. i)
   apart_issues (ack_frequency r) e apart says i = by_frequency IssuesAt r e (λ threshold reordering frequency. i)
   apart_issues f e apart says i = i
 

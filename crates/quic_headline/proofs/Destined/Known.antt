@@ -112,31 +112,36 @@ module _ (r : Run) (end : World) (honest : IsHonest r) (side : Side) (i : ℕ) (
   own_told : state_at r side i ≡ states.Open → OwnAt here.id at.sents (took r side i) here.end
   own_told opened = subst (λ (packets : List Packet). OwnAt here.id at.sents packets here.end) (sym (ap (λ (j : Intake). j.took) (took_is r honest at.world i side at.sents at.theirs))) (at.gives.1.own (at.state ∙ opened))
 
-  -- an id of which an open end told lives, or its number was retired
-  told_stays : state_at r side i ≡ states.Open → (number : ℕ) (id : List ℕ) → Tells r side i number id → Stays living (WasRetired (took r side i)) (record { number = number; id = id })
+  -- an id of which an open end told lives, with a token or none, or its number was retired
+  told_stays : state_at r side i ≡ states.Open → (number : ℕ) (id : List ℕ) → Tells r side i number id → (token : Option (List ℕ)) × Stays living (WasRetired (took r side i)) (record { number = number; id = id; token = token })
   told_stays opened number id (inl first) =
       let own : here.id ≡ id = sym (first.1 ∙ ap (λ (s : Side). own_id (end_at s r.start).ids.living) (other_twice side)) in
-      subst (λ (k : ℕ). Stays living (WasRetired (took r side i)) (record { number = k; id = id })) (sym first.0)
-      (subst (λ (bytes : List ℕ). Stays living (WasRetired (took r side i)) (record { number = 0; id = bytes })) own (own_told opened).first)
+      let stays = subst (λ (bytes : List ℕ). Stays living (WasRetired (took r side i)) (record { number = 0; id = bytes; token = None })) own (own_told opened).first in
+      (None, subst (λ (k : ℕ). Stays living (WasRetired (took r side i)) (record { number = k; id = id; token = None })) (sym first.0) stays)
   told_stays opened number id (inr told) =
       let given = told.3 in
       let stays = ((own_told opened).sent given.sent (new_connection_id told.0) (subst (λ (ss : List Sent). In given.sent ss) own_sents given.among) given.carried).0 in
-      subst (λ (bytes : List ℕ). Stays living (WasRetired (took r side i)) (record { number = number; id = bytes })) told.2
-      (subst (λ (k : ℕ). Stays living (WasRetired (took r side i)) (record { number = k; id = told.0.id })) told.1 stays)
+      let token : Option (List ℕ) = Some told.0.token in (
+        token,
+        subst (λ (bytes : List ℕ). Stays living (WasRetired (took r side i)) (record { number = number; id = bytes; token = token })) told.2
+            (subst (λ (k : ℕ). Stays living (WasRetired (took r side i)) (record { number = k; id = told.0.id; token = token })) told.1 stays),
+      )
 
   -- so it is known where that wasn't
   told_known : state_at r side i ≡ states.Open → (number : ℕ) (id : List ℕ) → Tells r side i number id → (WasRetired (took r side i) number → ⊥) → In id (known (end_at side at.world).ids)
-  told_known opened number id tells unretired = elim (told_stays opened number id tells) [
-    | inl lives ↦ in_map (λ (k : NumberedId). k.id) (record { number = number; id = id }) living lives
-    | inr gone ↦ absurd (unretired gone)
-  ]
+  told_known opened number id tells unretired =
+      let out = told_stays opened number id tells in
+      elim out.1 [
+        | inl lives ↦ in_map (λ (k : NumberedId). k.id) (record { number = number; id = id; token = out.0 }) living lives
+        | inr gone ↦ absurd (unretired gone)
+      ]
 
   -- a delivery, by whether there is such a datagram
   unknown_here : state_at r side i ≡ states.Open → (delivery : Delivery) (d : List ℕ) (number : ℕ) → slice_get (given_of r (other_side side)) delivery.index ≡ Some d → Tells r side i number (destination d)
       → (o : Option (List ℕ)) → slice_get there.given delivery.index ≡ o → IsDelivered here.policy here.end delivery o (answers.Deliver (receives.Dropped drops.UnknownId)) → WasRetired (took r side i) number
   unknown_here opened delivery d number handed tells None found is = cc
   unknown_here opened delivery d number handed tells (Some given) found (inr is) = cc
-  unknown_here opened delivery d number handed tells (Some given) found (inl is) = elim (told_stays opened number (destination d) tells) [
+  unknown_here opened delivery d number handed tells (Some given) found (inl is) = elim (told_stays opened number (destination d) tells).1 [
     | inl lives ↦ (
         let sent = step_at (IsSent there.policy) at.theirs there.given delivery.index given at.takes.0.0.gives.each found in
         let more = at.joined.y_more in
@@ -145,7 +150,7 @@ module _ (r : Run) (end : World) (honest : IsHonest r) (side : Side) (i : ℕ) (
         let same : d ≡ given = cc in
         let to : destination d ≡ sent.0.id = ap destination same ∙ destination_given there.policy sent.0.id sent.0.number sent.0.reference sent.0.frames given sent.2 at.joined.y_lawful in
         let has : is_known sent.0.id (known here.end.ids) ≡ true =
-        ap (λ (id : List ℕ). is_known id (known here.end.ids)) (sym to) ∙ in_known (destination d) (known here.end.ids) (in_map (λ (k : NumberedId). k.id) (record { number = number; id = destination d }) living lives) in
+        ap (λ (id : List ℕ). is_known id (known here.end.ids)) (sym to) ∙ in_known (destination d) (known here.end.ids) (in_map (λ (k : NumberedId). k.id) (record { number = number; id = destination d; token = (told_stays opened number (destination d) tells).0 }) living lives) in
         let clash : true ≡ false = ap unknown_told is ∙ sent_here there.policy here.policy sent.0 given sent.2 at.joined.y_lawful here.end (delivered_by false delivery) has in
         cc)
     | inr gone ↦ gone

@@ -59,7 +59,7 @@ pub record OwnTold (id : List ℕ) (sents : List Sent) (took : List Packet) (liv
   pub none_left : undrawn ≡ []
   pub waits : (c : IssuedCid) → In c cids → IsOut living took issued c
   pub sent : SentSayIds (IsOut living took issued) AnyNumber sents
-  pub first : Stays living (WasRetired took) (record { number = 0; id = id })
+  pub first : Stays living (WasRetired took) (record { number = 0; id = id; token = None })
 
 abbrev pub OwnAt : List ℕ → List Sent → List Packet → End → Type 0
 OwnAt id sents took e = OwnTold id sents took e.ids.living e.ids.own.issued e.ids.undrawn e.waiting.frames.new_cids
@@ -122,7 +122,7 @@ module _ (x y : Party) (p : PacketsHold x y) (back : PacketsHold y x) (now : ℕ
     none_left = refl;
     waits = λ c j. (stays (with_number c) (i.waits c j).0, (i.waits c j).1);
     sent = λ u f j k. says_wider (IsOut x.end.ids.living before issued_before) (IsOut living (packet ∷ before) issued) AnyNumber AnyNumber out (λ n any. tt) f (t.sent u f j k);
-    first = stays (record { number = 0; id = x.id }) (i.others (record { number = 0; id = x.id }) (t.first, (let some = t.some in omega arith))).0;
+    first = stays (record { number = 0; id = x.id; token = None }) (i.others (record { number = 0; id = x.id; token = None }) (t.first, (let some = t.some in omega arith))).0;
   }
     where
       stays : (o : NumberedId) → Stays living Gone o → Stays living (WasRetired (packet ∷ before)) o

@@ -8,7 +8,7 @@ use Rattle.std.specs.declared.ops.Range.{Range}
 use Rattle.std.proofs.lemmas.Bool.{eqb-true, ltb-true}
 use Rattle.quic_wire_core.specs.TransportError.{ErrorValue}
 use Rattle.quic_wire_core.specs.declared.shared.IssuedCid.{IssuedCid}
-use Rattle.quic_wire.specs.Value.{FrameValue, AckValue, ack, stream, reset_stream, stop_sending, max_data, max_stream_data, max_streams, datagram, path_response, new_connection_id, retire_connection_id, ack_frequency}
+use Rattle.quic_wire.specs.Value.{FrameValue, AckValue, ack, stream, reset_stream, stop_sending, max_data, max_stream_data, max_streams, datagram, path_response, handshake_done, new_connection_id, retire_connection_id, ack_frequency}
 use Rattle.quic_wire.specs.declared.frame.NewConnectionId.{NewConnectionId}
 use Rattle.quic_ids.specs.CidState.{retirement_answer}
 use Rattle.quic_ids.specs.CidQueue.{PeerIds, IsWindow, with_cid, known_with, first_used, brought, exceeds, retires_active, retired_for as retires_in, left_by, after_accepted, after_insert, after_next, insert_answer}
@@ -39,7 +39,7 @@ use Rattle.quic_headline.proofs.Packets.Ids.{SaysIds, Waits, SentSayIds, AnyNumb
 use Rattle.quic_headline.proofs.Halves.KnownIds.{range_below}
 use Rattle.quic_headline.proofs.Duties.OfIds.{AsksNone, next_range, insert_keeps}
 use Rattle.quic_headline.proofs.Destined.Issues.{AnyId}
-use Rattle.quic_headline.proofs.Packets.Apart.{by_frequency}
+use Rattle.quic_headline.proofs.Packets.Apart.{by_frequency, by_heard_done}
 
 -- below a number
 abbrev pub IsBelow : ℕ → ℕ → Type 0
@@ -177,6 +177,7 @@ module _ (T : ℕ → List ℕ → Type 0) (a : ℕ) where
       go : (b : Bool) → UsesAt (validated_if b e)
       go true = u
       go false = u
+  apart_uses handshake_done e apart none says u = by_heard_done UsesAt e u (λ c. u)
   apart_uses (ack_frequency r) e apart none says u = by_frequency UsesAt r e (λ threshold reordering frequency. u)
   apart_uses f e apart none says u = u
 

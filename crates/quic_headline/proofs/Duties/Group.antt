@@ -1,7 +1,10 @@
 -- What has to reach the peer is somewhere, as a group: what is in flight of streams stands in
--- tracked packets, and a reset, and STOP_SENDING while it matters, waits, stands in one, or came.
-use Rattle.std.proofs.Common.{◌≡◌, ℕ, Bool, true, false, List, [], ◌++◌, Option, Some, None, refl, sym, ap, ◌∙◌, subst, inl, inr}
+-- tracked packets, and a reset, STOP_SENDING while it matters, and HANDSHAKE_DONE waits, stands in
+-- one, or came.
+use Rattle.std.proofs.Common.{◌≡◌, ℕ, Bool, true, false, ◌||◌, List, [], ◌∷◌, ◌++◌, Option, Some, None, refl, sym, ap, ◌∙◌, subst, inl, inr}
 use Rattle.std.specs.Option.{IsSome, is_some}
+use Rattle.std.proofs.lemmas.Bool.{or_cases}
+use Rattle.std.proofs.lemmas.List.Folds.{list_any-append}
 use Rattle.quic_config.specs.Transport.{Settings, parameters_of}
 use Rattle.quic_streams_state.specs.State.{new_streams}
 use Rattle.quic_streams_laws.specs.Written.{Wrote, nothing_done}
@@ -19,7 +22,7 @@ use Rattle.quic_machine.specs.Machine.{IsAnswer, after_call, gave}
 use Rattle.quic_streams_laws.specs.Quiet.{IsSentWithin}
 use Rattle.quic_machine.specs.Receive.{Outcome}
 use Rattle.quic_machine.specs.FrameCases.{begun as started, frames_keep}
-use Rattle.quic_headline.specs.Runs.{Packet, Intake, In, first_of, reset_by, reset, nothing_came}
+use Rattle.quic_headline.specs.Runs.{Told, Packet, Intake, In, first_of, reset_by, reset, says_done, was_said_done, nothing_came}
 use Rattle.quic_headline.specs.Observer.{Sent}
 use Rattle.quic_headline.specs.Duties.{Duty, Limited, limit_frame, WasGiven}
 use Rattle.quic_headline.proofs.Packets.Invariant.{IsSent}
@@ -48,7 +51,7 @@ use Rattle.quic_headline.proofs.Duties.Flies.{FliesIn, flies_along}
 use Rattle.quic_headline.proofs.Duties.Carrier.{IsNew}
 use Rattle.quic_headline.proofs.Duties.Tail.{AskBefore, next_new, before_call}
 use Rattle.quic_headline.proofs.Duties.UnderWay.{InPackets, Fly, TrackedEnds, arrivals_fly, call_fly}
-use Rattle.quic_headline.proofs.Duties.Listed.{Listed, ResetOf, StopOf, listed_in, ListedStands, came_on, arrivals_stand, call_resets, call_stands}
+use Rattle.quic_headline.proofs.Duties.Listed.{Listed, ResetOf, StopOf, DoneOf, listed_in, ListedStands, came_on, arrivals_stand, call_resets, call_says_done, call_stands}
 use Rattle.quic_headline.proofs.Duties.OfIds.{IdOwed, NoneAsked, call_asks_none, call_owed, arrivals_owed, first_owed, AsksNone}
 use Rattle.quic_headline.proofs.Duties.Halts.{Halts, halts_first, halts_call}
 use Rattle.quic_headline.proofs.Duties.Stopped.{AreAsked, asked_more, asked_frame, asked_call, asked_first}
@@ -63,10 +66,12 @@ use Rattle.quic_wire.specs.Value.{AckFrequencyValue, ack_frequency, AckValue, ac
 
 -- what is in flight of the streams of x stands in packets that it tracks, and each of its resets is
 -- somewhere, STOP_SENDING of each stream that it stopped and whose final size it doesn't know, each
--- limit that it said, and each request of how often to acknowledge
+-- limit that it said, each request of how often to acknowledge, and HANDSHAKE_DONE where its
+-- application said so
 pub record Flying (x y : Party) : Type 0 where
   pub fly : Fly (wrote x.told) x.end
   pub resets : (id : ℕ) → IsSome (reset id x.told) → ListedStands (came_to y x).took (ResetOf id) x.end
+  pub done : was_said_done x.told ≡ true → ListedStands (came_to y x).took DoneOf x.end
   pub halts : Halts x y
   pub stops : AreAsked (λ id. ListedStands (came_to y x).took (StopOf id) x.end) x.end.streams
   pub limits : (what : Limited) (value : ℕ) → WasGiven x.sents (limit_frame what value) → Stated (came_to y x).took x.sents what value x.end
@@ -168,6 +173,13 @@ module _ (B : Way) (b : IsReadied B) (x y : Party) (call : Call) (a : Answer) (c
           let k = call_on_is x.policy x.end y.given call a on in
           inl (ap (λ (e : End). listed_in (ResetOf id) e.waiting.frames) k.same ∙ call_resets id (is_open x.end.closing.state) (streams_at x.end) call a (k.answer c.answer) some)
       go false off = absurd (none_reset id call a off some)
+
+  -- HANDSHAKE_DONE
+  done_call : was_said_done (called x y.given call a).told ≡ true → ListedStands took DoneOf (called x y.given call a).end
+  done_call said = elim (or_cases (was_said_done x.told) (says_done call a || false) (sym (list_any-append (λ (t : Told). says_done t.call t.answer) x.told (told_of call a x.end.closing.state ∷ [])) ∙ said)) [
+    | inl old ↦ old_listed DoneOf (i.done old)
+    | inr now ↦ elim (or_cases (says_done call a) false now) [ inl here ↦ inl (call_says_done x.policy x.end y.given call a here) | inr none ↦ cc ]
+  ]
 
   -- STOP_SENDING of a stream is somewhere
   abbrev Asks : ℕ → Type 0
@@ -310,6 +322,7 @@ module _ (B : Way) (b : IsReadied B) (x y : Party) (call : Call) (a : Answer) (c
     asked = before_call x.policy x.end y.given call a x.sents gives.owes c.answer c.served gives.gives.below i.asked;
     halts = halts_call B (readied_writing B b) x y call a c i.halts;
     stops = stops_call;
+    done = done_call;
     resets = λ id some. go id (reset id x.told) refl (subst (λ (o : Option ℕ). IsSome o) (reset_more id x.told (told_of call a x.end.closing.state)) some);
   }
     where
@@ -332,6 +345,7 @@ flying_first x y m =
       fly = with_set_params (FliesIn (InPackets [])) (λ id w. Unit {0}) (λ id. nothing_done) (new_streams x.side s.max_uni s.max_bidi s.send_window s.receive_window s.stream_receive_window) (parameters_of y.making.settings) (small_limits y.making.settings m.y_is.range)
           (with_new (FliesIn (InPackets [])) (λ id w. Unit {0}) x.side s.max_uni s.max_bidi s.send_window s.receive_window s.stream_receive_window);
       resets = λ id some. cc;
+      done = λ said. cc;
       halts = halts_first x y;
       stops = asked_first (λ id. ListedStands (came_to (begun_as y x) (begun_as x y)).took (StopOf id) (begun_as x y).end) x y;
       limits = λ what value said. absurd said.among;
@@ -356,6 +370,7 @@ flying_group B b = record {
     stops = asked_more (λ id. ListedStands (came_to x y).took (StopOf id) y.end) (λ id. ListedStands (came_to (called x y.given call a) y).took (StopOf id) y.end) y.end.streams
         (λ id. came_on (came_to x y).took (came_to (called x y.given call a) y).took (StopOf id) y.end (took_more x.policy y.final x.told (told_of call a x.end.closing.state) nothing_came)) i.stops;
     resets = λ id some. came_on (came_to x y).took (came_to (called x y.given call a) y).took (ResetOf id) y.end (took_more x.policy y.final x.told (told_of call a x.end.closing.state) nothing_came) (i.resets id some);
+    done = λ said. came_on (came_to x y).took (came_to (called x y.given call a) y).took DoneOf y.end (took_more x.policy y.final x.told (told_of call a x.end.closing.state) nothing_came) (i.done said);
     limits = λ what value said. (let was = i.limits what value said in record {
       knows = was.knows;
       stand = limit_came_on (came_to x y).took (came_to (called x y.given call a) y).took y.sents what value y.end (took_more x.policy y.final x.told (told_of call a x.end.closing.state) nothing_came) was.stand;
@@ -367,6 +382,7 @@ flying_group B b = record {
     ids = i.ids;
     none_asked = i.none_asked;
     resets = i.resets;
+    done = i.done;
     halts = record { halted = i.halts.halted };
     stops = i.stops;
     limits = λ what value said. (let was = i.limits what value said in record { knows = was.knows; stand = was.stand });

@@ -20,7 +20,7 @@ use Rattle.std.specs.BTreeMap.{is_at}
 use Rattle.quic_streams_parts.specs.Queue.{Place, place_cmp, is_any as is_any_queued}
 use Rattle.quic_streams_parts.specs.SendHalf.{SendHalf, has_pending}
 use Rattle.quic_streams_parts.specs.RecvHalf.{RecvHalf, takes_limits}
-use Rattle.quic_retransmits.specs.declared.retransmits.ControlKind.TheVariants.{ResetStream, StopSending, MaxData, MaxStreamData, MaxStreams, NewConnectionId, RetireConnectionId}
+use Rattle.quic_retransmits.specs.declared.retransmits.ControlKind.TheVariants.{HandshakeDone, ResetStream, StopSending, MaxData, MaxStreamData, MaxStreams, NewConnectionId, RetireConnectionId}
 use Rattle.quic_retransmits.specs.Retransmits.{Retransmits, has_id, is_any, control_kinds}
 use Rattle.quic_streams_halves.specs.Halves.{status_from, has_place}
 use Rattle.quic_streams_state.specs.declared.state.StreamsState.{StreamsState}
@@ -41,7 +41,7 @@ use Rattle.quic_machine.specs.RunLaws.{one_run}
 use Rattle.quic_headline.specs.Runs.{Run, Packet, Intake, AreServed, until, written, ended, EndHasArrived, LeadsTo}
 use Rattle.quic_headline.specs.Unread.{stopped}
 use Rattle.quic_headline.specs.Observer.{Sent, Watch, took, sents_until}
-use Rattle.quic_headline.specs.Duties.{Limited, AllData, StreamData, StreamCount, Duty, Offset, Fin, Reset, Stop, Retire, NewId, Limit, limit_frame, limit_waits, Matters, IsSaid, lacks_size, IsOwed, on_half, is_due, IsInFlight, IsSomewhere, Frequency, IsRequested, HasAsked}
+use Rattle.quic_headline.specs.Duties.{Limited, AllData, StreamData, StreamCount, Duty, Offset, Fin, Reset, Stop, Retire, NewId, Limit, limit_frame, limit_waits, Matters, IsSaid, lacks_size, IsOwed, on_half, is_due, IsInFlight, IsSomewhere, Frequency, Done, IsRequested, HasAsked}
 use Rattle.quic_headline.specs.Headline.{IsHonest}
 use Rattle.quic_headline.proofs.Packets.Group.{PacketsHold}
 use Rattle.quic_headline.proofs.Packets.Sight.{Sight}
@@ -57,7 +57,7 @@ use Rattle.quic_headline.proofs.Duties.Flies.{FliesIn}
 use Rattle.quic_headline.proofs.Duties.UnderWay.{InPackets}
 use Rattle.quic_headline.proofs.Duties.Lasting.{WasUsed, Ends}
 use Rattle.quic_headline.proofs.Duties.Limits.{LimitStands}
-use Rattle.quic_headline.proofs.Duties.Listed.{Listed, ResetOf, StopOf, RetireOf, NewIdOf, listed_in, ListedStands, reset_has_come, stop_has_come, retirement_has_come, id_has_come}
+use Rattle.quic_headline.proofs.Duties.Listed.{Listed, ResetOf, StopOf, RetireOf, NewIdOf, DoneOf, listed_in, ListedStands, reset_has_come, stop_has_come, retirement_has_come, id_has_come, done_has_come}
 use Rattle.quic_headline.proofs.Duties.Halts.{IsHalted}
 use Rattle.quic_headline.proofs.Duties.Stopped.{IsAsked}
 use Rattle.quic_headline.specs.Duties as duties
@@ -97,6 +97,7 @@ not_empty (ResetOf id) p s is = ap not (fills ResetStream p s (any_listed (λ (r
 not_empty (StopOf id) p s is = ap not (fills StopSending p s (any_listed (λ (x : StopSendingValue). x.id == id) p.stop_sending is))
 not_empty (RetireOf number) p s is = ap not (fills RetireConnectionId p s (any_listed (λ (n : ℕ). n == number) p.retire_cids is))
 not_empty (NewIdOf number) p s is = ap not (fills NewConnectionId p s (any_listed (λ (cid : IssuedCid). cid.sequence == number) p.new_cids is))
+not_empty DoneOf p s is = ap not (fills HandshakeDone p s is)
 
 pub listed_queued : (e : End) (what : Listed) → listed_in what e.waiting.frames ≡ true → waits e ≡ true
 listed_queued e what is =
@@ -276,6 +277,12 @@ module _ (x y : Party) (writes : WritesHold x y) (packets : PacketsHold x y) (ar
   id_somewhere number (inr (inl flies)) = inr (inl flies)
   id_somewhere number (inr (inr here)) = inr (inr (id_has_come (came_to y x).took number here))
 
+  -- HANDSHAKE_DONE
+  done_somewhere : ListedStands (came_to y x).took DoneOf x.end → Somewhere Done
+  done_somewhere (inl waits) = inl (record { due = waits; queued = listed_queued x.end DoneOf waits })
+  done_somewhere (inr (inl flies)) = inr (inl flies)
+  done_somewhere (inr (inr here)) = inr (inr (done_has_come (came_to y x).took here))
+
   -- that of a stream that was stopped, and whose final size isn't known
   stop_stands : (id : ℕ) → stopped id x.told ≡ true → lacks_size (at x.end.streams.receiving.halves.live id) ≡ true → ListedStands (came_to y x).took (StopOf id) x.end
   stop_stands id halted lacks = go (at x.end.streams.receiving.halves.live id) (receives_on x.end.streams.side id && is_opened x.end.streams id) (has_place x.end.streams.side x.end.streams.receiving.halves.places id) (flying.halts.halted.each id) (flying.stops.each id) lacks
@@ -304,6 +311,7 @@ module _ (x y : Party) (writes : WritesHold x y) (packets : PacketsHold x y) (ar
   duty_somewhere used reached (NewId number) owed = id_somewhere number (flying.ids (NewIdOf number) owed)
   duty_somewhere used reached (Limit what value) owed = limit_somewhere what value owed
   duty_somewhere used reached (Frequency number) owed = request_somewhere number owed
+  duty_somewhere used reached Done owed = done_somewhere (flying.done owed)
 
 -- ---- the clause
 

@@ -48,7 +48,7 @@ use Rattle.quic_machine.specs.DraftLaws.{Writing, by_streams, by_messages, by_le
 use Rattle.quic_machine.specs.Puts.{with_half_frame}
 use Rattle.quic_machine.specs.Puts as puts
 use Rattle.quic_machine.specs.PollCases.{ready_at, ready_leaves, draft_at, frames_padded, composes, may_leave_at}
-use Rattle.quic_machine.specs.CallCases.{is_delivery, is_poll, by_call}
+use Rattle.quic_machine.specs.CallCases.{is_delivery, is_poll, by_call, by_done}
 use Rattle.quic_machine.specs.LeaveCases.{by_expired, by_event}
 use Rattle.quic_machine.specs.Machine.{IsAnswer, after_call, gave}
 use Rattle.quic_headline.specs.Runs.{Packet, In}
@@ -214,6 +214,12 @@ asked_limit : (what : Limited) (r : Retransmits) (waits : Bool) → limit_waits 
 asked_limit AllData r waits = refl
 asked_limit (StreamData id) r waits = refl
 asked_limit (StreamCount dir) r waits = refl
+
+-- nor is HANDSHAKE_DONE
+done_limit : (what : Limited) (r : Retransmits) (waits : Bool) → limit_waits (record r { handshake_done = waits }) what ≡ limit_waits r what
+done_limit AllData r waits = refl
+done_limit (StreamData id) r waits = refl
+done_limit (StreamCount dir) r waits = refl
 
 -- it waits still, matters no more, or stands in a frame
 abbrev IsMoved : Limited → ℕ → Draft → Type 0
@@ -515,9 +521,10 @@ call_stated took own what value p e theirs call a within apart other is i = go i
       closes = λ reason f now own. inr more;
       waits = λ now b set. by_waits (λ (f : End). LimitStands took own what value f) b (with_closing e (ticked e.closing now)) (inr more) (inr more);
       changes_id = λ uses answer. by_next_id (λ (f : End). LimitStands took own what value f) e a (inr more) (λ c. inr (limit_more what e c more)) (λ c most. inr (limit_more what e c more));
+      says_handshake = λ says answer. by_done (λ (f : End). LimitStands took own what value f) e a (inr more) (inr (elim more [ inl waits ↦ inl (done_limit what e.waiting.frames true ∙ waits) | inr far ↦ inr far ]));
       times = λ now expiry set. by_expired p.words e now (λ (f : End). LimitStands took own what value f) (λ pending tracking timers waits asked runs packets.
           inr (subst (λ (t : Table TrackedPacket). (limit_waits e.waiting.frames what ≡ true) ⊎ FliesFrom own t what value ⊎ LimitHasArrived took what value) (sym packets) more)) (λ pending timers waits asked runs. detected_more took own what value (with_closing e (ticked e.closing now)) more) (λ x j. j) expiry;
       polls = λ now set. cc;
       hears = λ arrival d set. cc;
-      tells = λ asks. by_event e (λ (f : End). LimitStands took own what value f) (inr more) (λ told. inr more);
+      tells = λ asks. by_event e (λ (f : End). LimitStands took own what value f) (inr more) (inr more) (λ told. inr more);
     })

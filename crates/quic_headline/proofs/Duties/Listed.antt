@@ -1,6 +1,6 @@
 -- What waits in a list and goes as a frame of its own, RESET_STREAM, STOP_SENDING,
--- RETIRE_CONNECTION_ID and NEW_CONNECTION_ID, waits, stands in a packet that is tracked, or has
--- come: each call keeps that.
+-- RETIRE_CONNECTION_ID and NEW_CONNECTION_ID, and HANDSHAKE_DONE, which goes so too, waits, stands in
+-- a packet that is tracked, or has come: each call keeps that.
 use Rattle.std.proofs.Common.{◌≡◌, ℕ, zero, suc, Bool, true, false, ◌||◌, ◌==◌, List, [], ◌∷◌, ◌-◌, ◌++◌, length, map, Option, Some, None, Result, Ok, Err, refl, sym, ap, ◌∙◌, subst, ◌⊎◌, inl, inr}
 use Rattle.std.specs.Prelude.{if◌then◌else◌, map, nat_le, set, slice_get}
 use Rattle.std.specs.declared.ops.Range.{Range}
@@ -9,7 +9,7 @@ use Rattle.std.specs.List.{list_any, range_with_len}
 use Rattle.std.proofs.lemmas.Bool.{both_ways, or_parts, or_cases, or_left, or_right, eqb-true, eq-eqb}
 use Rattle.std.proofs.lemmas.List.Folds.{list_any-append}
 use Rattle.std.proofs.lemmas.Option.{same_Some}
-use Rattle.quic_wire.specs.Value.{FrameValue, AckValue, ResetStreamValue, StopSendingValue, NewConnectionIdValue, ack, new_connection_id, retire_connection_id, path_response, stream, reset_stream, stop_sending, max_data, max_stream_data, max_streams, asks, datagram, ack_frequency}
+use Rattle.quic_wire.specs.Value.{FrameValue, AckValue, ResetStreamValue, StopSendingValue, NewConnectionIdValue, ack, handshake_done, new_connection_id, retire_connection_id, path_response, stream, reset_stream, stop_sending, max_data, max_stream_data, max_streams, asks, datagram, ack_frequency}
 use Rattle.quic_send_buffer.specs.declared.stream_meta.StreamMeta.{StreamMeta}
 use Rattle.quic_streams_parts.specs.declared.answers.UpdateError.{UpdateError}
 use Rattle.quic_streams_parts.specs.declared.answers.UpdateError.TheVariants as update_errors
@@ -26,7 +26,7 @@ use Rattle.quic_paths.specs.Paths.{is_asked}
 use Rattle.quic_retransmits.specs.Retransmits.{Retransmits, nothing_waits, merged, others_of, most_retirements, can_retire, after_retire}
 use Rattle.quic_streams_state.specs.declared.state.StreamsState.{StreamsState}
 use Rattle.quic_retransmits.specs.declared.retransmits.ControlKind.{ControlKind}
-use Rattle.quic_retransmits.specs.declared.retransmits.ControlKind.TheVariants.{ResetStream, StopSending, NewConnectionId, RetireConnectionId}
+use Rattle.quic_retransmits.specs.declared.retransmits.ControlKind.TheVariants.{HandshakeDone, ResetStream, StopSending, NewConnectionId, RetireConnectionId}
 use Rattle.quic_streams_state.specs.State.{Streams, streams_of, sending_half, receiving_half}
 use Rattle.quic_streams_state.specs.Sends.{reset_half}
 use Rattle.quic_streams_state.specs.Limits.{decided, settled}
@@ -34,7 +34,7 @@ use Rattle.quic_streams_state.specs.Acked.{after_stream_acked, after_reset_acked
 use Rattle.quic_streams_state.specs.Taking.{after_stream, after_reset_frame}
 use Rattle.quic_streams_state.specs.Writing.{after_write, after_write_chunks, after_reset, reset_at, is_reset_at, after_set_priority}
 use Rattle.quic_streams_state.specs.Reading.{told_bytes, after_read_begun, after_finalize, with_stop, stopped_if, stopped_at, stop_answer, is_closed_at, after_stop, after_received_reset}
-use Rattle.quic_streams_state.specs.Control.{Entry, reset_frame, reset_entry, stop_entry, new_id_entry, retire_entry, told_id, waiting, without_first, control_frames, kind_of, Goes}
+use Rattle.quic_streams_state.specs.Control.{Entry, done_entry, reset_frame, reset_entry, stop_entry, new_id_entry, retire_entry, told_id, flagged, waiting, without_first, control_frames, kind_of, Goes}
 use Rattle.quic_streams_state.specs.Control as control
 use Rattle.quic_streams_laws.specs.KindLaws.{GoesFirst, first_others, without_of}
 use Rattle.quic_streams_laws.specs.ControlWalk.{by_control}
@@ -61,13 +61,13 @@ use Rattle.quic_machine.specs.DraftLaws.{by_streams, by_messages, MayLeave, by_s
 use Rattle.quic_machine.specs.Puts.{with_half_frame}
 use Rattle.quic_machine.specs.PollCases.{ready_at, ready_leaves, draft_at, by_poll_to, composes, may_leave_at}
 use Rattle.quic_machine.specs.FrameCases.{OnStreams, named, ack_taken, begun, passed, frames_leave, by_marks, IsApart}
-use Rattle.quic_machine.specs.CallCases.{is_delivery, by_call}
+use Rattle.quic_machine.specs.CallCases.{is_delivery, by_call, by_done}
 use Rattle.quic_machine.specs.LeaveCases.{by_expired, by_event}
 use Rattle.quic_machine.specs.Machine.{after_call}
-use Rattle.quic_headline.specs.Runs.{Packet, Intake, In, reset_by, ResetHasArrived}
+use Rattle.quic_headline.specs.Runs.{Packet, Intake, In, reset_by, says_done, ResetHasArrived, DoneHasArrived}
 use Rattle.quic_headline.specs.Observer.{Sent}
 use Rattle.quic_headline.specs.Amounts.{stops_stream, was_stopped}
-use Rattle.quic_headline.specs.InFlight.{again_in}
+use Rattle.quic_headline.specs.InFlight.{is_handshake_done, again_in}
 use Rattle.quic_headline.specs.Duties.{AnyIn, has_reset, has_stop, has_retirement, has_new_id, WasRetired, WasToldId}
 use Rattle.quic_headline.proofs.Packets.Searches.{by_losses}
 use Rattle.quic_headline.proofs.Packets.Invariant.{IsCarriedFrom, AreTracked, carried_again}
@@ -86,18 +86,20 @@ use Rattle.quic_headline.proofs.Duties.Carrier.{any_is, any_either, any_member, 
 use Rattle.quic_headline.proofs.Duties.Tail.{AskBefore, Quiet, tail_quiet, ready_before}
 use Rattle.quic_machine.specs.Sizes.{search_acked}
 use Rattle.quic_headline.proofs.Packets.Closes.{by_closes}
-use Rattle.quic_headline.proofs.Packets.Apart.{by_waits, by_frequency}
+use Rattle.quic_headline.proofs.Packets.Apart.{by_waits, by_frequency, by_heard_done}
 use Rattle.quic_headline.proofs.Packets.Entries.{by_request}
 use Rattle.quic_headline.proofs.Packets.Moving.{moving_keeps}
 
 -- ---- what waits in a list
 
--- RESET_STREAM of a stream, or STOP_SENDING of one; the retirement of a number, or the id of one
+-- RESET_STREAM of a stream, or STOP_SENDING of one; the retirement of a number, or the id of one; or
+-- HANDSHAKE_DONE
 pub data Listed : Type 0 where
   ResetOf : (id : ℕ) → Listed
   StopOf : (id : ℕ) → Listed
   RetireOf : (number : ℕ) → Listed
   NewIdOf : (number : ℕ) → Listed
+  DoneOf : Listed
 
 -- whether a frame resets a stream
 abbrev pub resets_stream : ℕ → FrameValue → Bool
@@ -120,6 +122,7 @@ says (ResetOf id) = resets_stream id
 says (StopOf id) = stops_stream id
 says (RetireOf number) = retires_number number
 says (NewIdOf number) = tells_number number
+says DoneOf = is_handshake_done
 
 -- whether one of some does
 abbrev pub said : Listed → List FrameValue → Bool
@@ -131,6 +134,7 @@ listed_in (ResetOf id) r = has_reset id r.reset_stream
 listed_in (StopOf id) r = has_stop id r.stop_sending
 listed_in (RetireOf number) r = has_retirement number r.retire_cids
 listed_in (NewIdOf number) r = has_new_id number r.new_cids
+listed_in DoneOf r = r.handshake_done
 
 -- ACK_FREQUENCY is none of them
 asked_listed : (what : Listed) (r : Retransmits) (waits : Bool) → listed_in what (record r { ack_frequency = waits }) ≡ listed_in what r
@@ -138,8 +142,17 @@ asked_listed (ResetOf id) r waits = refl
 asked_listed (StopOf id) r waits = refl
 asked_listed (RetireOf number) r waits = refl
 asked_listed (NewIdOf number) r waits = refl
+asked_listed DoneOf r waits = refl
 
--- nor has it to have a form there
+-- where HANDSHAKE_DONE waits, the others wait as before
+done_listed : (what : Listed) (r : Retransmits) → listed_in what r ≡ true → listed_in what (record r { handshake_done = true }) ≡ true
+done_listed (ResetOf id) r is = is
+done_listed (StopOf id) r is = is
+done_listed (RetireOf number) r is = is
+done_listed (NewIdOf number) r is = is
+done_listed DoneOf r is = refl
+
+-- ACK_FREQUENCY hasn't to have a form there
 asked_ready : (live : Table SendHalf) (r : Retransmits) (waits : Bool) → AreReady live r → AreReady live (record r { ack_frequency = waits })
 asked_ready live r waits a = record { resets = a.resets; stops = a.stops; ids = a.ids; retired = a.retired }
 
@@ -165,6 +178,7 @@ nothing_listed (ResetOf id) = refl
 nothing_listed (StopOf id) = refl
 nothing_listed (RetireOf number) = refl
 nothing_listed (NewIdOf number) = refl
+nothing_listed DoneOf = refl
 
 -- where the same waits
 same_listed : (what : Listed) (p q : Retransmits) → SamePile p q → listed_in what q ≡ listed_in what p
@@ -172,6 +186,7 @@ same_listed (ResetOf id) p q same = ap (has_reset id) same.resets
 same_listed (StopOf id) p q same = ap (has_stop id) same.stops
 same_listed (RetireOf number) p q same = ap (has_retirement number) same.retired
 same_listed (NewIdOf number) p q same = ap (has_new_id number) same.ids
+same_listed DoneOf p q same = same.done
 
 -- where limits are decided
 decided_listed : (what : Listed) (s : StreamsState) (p : Retransmits) → listed_in what (decided s p) ≡ listed_in what p
@@ -179,6 +194,7 @@ decided_listed (ResetOf id) s p = refl
 decided_listed (StopOf id) s p = refl
 decided_listed (RetireOf number) s p = refl
 decided_listed (NewIdOf number) s p = refl
+decided_listed DoneOf s p = refl
 
 -- what waits, and what waits again
 merged_listed : (what : Listed) (p lost : Retransmits) → listed_in what (merged p lost) ≡ (listed_in what p || listed_in what lost)
@@ -186,6 +202,7 @@ merged_listed (ResetOf id) p lost = list_any-append (λ (r : ℕ × ℕ). r.0 ==
 merged_listed (StopOf id) p lost = list_any-append (λ (s : StopSendingValue). s.id == id) p.stop_sending lost.stop_sending
 merged_listed (RetireOf number) p lost = list_any-append (λ (n : ℕ). n == number) p.retire_cids lost.retire_cids
 merged_listed (NewIdOf number) p lost = list_any-append (λ (cid : IssuedCid). cid.sequence == number) p.new_cids lost.new_cids
+merged_listed DoneOf p lost = refl
 
 -- a reset waits besides
 reset_added : (what : Listed) (p : Retransmits) (r : ℕ × ℕ) → listed_in what p ≡ true → listed_in what (record p { reset_stream = p.reset_stream ++ r ∷ [] }) ≡ true
@@ -193,6 +210,7 @@ reset_added (ResetOf id) p r is = list_any-append (λ (x : ℕ × ℕ). x.0 == i
 reset_added (StopOf id) p r is = is
 reset_added (RetireOf number) p r is = is
 reset_added (NewIdOf number) p r is = is
+reset_added DoneOf p r is = is
 
 -- or a stop
 stop_added : (what : Listed) (p : Retransmits) (s : StopSendingValue) → listed_in what p ≡ true → listed_in what (record p { stop_sending = p.stop_sending ++ s ∷ [] }) ≡ true
@@ -200,6 +218,7 @@ stop_added (ResetOf id) p s is = is
 stop_added (StopOf id) p s is = list_any-append (λ (x : StopSendingValue). x.id == id) p.stop_sending (s ∷ []) ∙ or_left (has_stop id p.stop_sending) (has_stop id (s ∷ [])) is
 stop_added (RetireOf number) p s is = is
 stop_added (NewIdOf number) p s is = is
+stop_added DoneOf p s is = is
 
 -- or retirements
 retired_added : (what : Listed) (p : Retransmits) (ns : List ℕ) → listed_in what p ≡ true → listed_in what (record p { retire_cids = p.retire_cids ++ ns }) ≡ true
@@ -207,6 +226,7 @@ retired_added (ResetOf id) p ns is = is
 retired_added (StopOf id) p ns is = is
 retired_added (RetireOf number) p ns is = list_any-append (λ (n : ℕ). n == number) p.retire_cids ns ∙ or_left (has_retirement number p.retire_cids) (has_retirement number ns) is
 retired_added (NewIdOf number) p ns is = is
+retired_added DoneOf p ns is = is
 
 -- or an id
 told_added : (what : Listed) (p : Retransmits) (c : IssuedCid) → listed_in what p ≡ true → listed_in what (record p { new_cids = p.new_cids ++ c ∷ [] }) ≡ true
@@ -214,6 +234,7 @@ told_added (ResetOf id) p c is = is
 told_added (StopOf id) p c is = is
 told_added (RetireOf number) p c is = is
 told_added (NewIdOf number) p c is = list_any-append (λ (cid : IssuedCid). cid.sequence == number) p.new_cids (c ∷ []) ∙ or_left (has_new_id number p.new_cids) (has_new_id number (c ∷ [])) is
+told_added DoneOf p c is = is
 
 -- what frames say has to be sent again
 pub again_says : (what : Listed) (fs : List FrameValue) → listed_in what (again_in fs) ≡ said what fs
@@ -221,6 +242,7 @@ again_says (ResetOf id) [] = refl
 again_says (StopOf id) [] = refl
 again_says (RetireOf number) [] = refl
 again_says (NewIdOf number) [] = refl
+again_says DoneOf fs = refl
 again_says (ResetOf id) (reset_stream f ∷ fs) = ap (λ (b : Bool). (f.id == id) || b) (again_says (ResetOf id) fs)
 again_says (StopOf id) (stop_sending f ∷ fs) = ap (λ (b : Bool). (f.id == id) || b) (again_says (StopOf id) fs)
 again_says (RetireOf number) (retire_connection_id n ∷ fs) = ap (λ (b : Bool). (n == number) || b) (again_says (RetireOf number) fs)
@@ -230,17 +252,19 @@ again_says (StopOf id) (f ∷ fs) = again_says (StopOf id) fs
 again_says (RetireOf number) (f ∷ fs) = again_says (RetireOf number) fs
 again_says (NewIdOf number) (f ∷ fs) = again_says (NewIdOf number) fs
 
--- a frame that goes says what waited first
-first_listed : (what : Listed) (p : Retransmits) (s : StreamsState) (f : FrameValue) → Goes p s f → listed_in what p ≡ (says what f || listed_in what (without_of (kind_of f) p))
-first_listed (ResetOf id) p s (reset_stream f) goes = ap (has_reset id) (first_others p.reset_stream (f.id, f.code) goes.1)
-first_listed (StopOf id) p s (stop_sending f) goes = ap (has_stop id) (first_others p.stop_sending f goes)
-first_listed (RetireOf number) p s (retire_connection_id n) goes = ap (has_retirement number) (first_others p.retire_cids n goes)
-first_listed (NewIdOf number) p s (new_connection_id f) goes =
-    ap (has_new_id number) (first_others p.new_cids goes.0 goes.1) ∙ ap (λ (g : NewConnectionIdValue). (g.sequence == number) || has_new_id number (others_of p.new_cids)) (sym goes.2)
-first_listed (ResetOf id) p s f goes = refl
-first_listed (StopOf id) p s f goes = refl
-first_listed (RetireOf number) p s f goes = refl
-first_listed (NewIdOf number) p s f goes = refl
+-- a frame that goes says what waited first, or that waits still
+first_listed : (what : Listed) (p : Retransmits) (s : StreamsState) (f : FrameValue) → Goes p s f → listed_in what p ≡ true → (says what f || listed_in what (without_of (kind_of f) p)) ≡ true
+first_listed (ResetOf id) p s (reset_stream f) goes is = sym (ap (has_reset id) (first_others p.reset_stream (f.id, f.code) goes.1)) ∙ is
+first_listed (StopOf id) p s (stop_sending f) goes is = sym (ap (has_stop id) (first_others p.stop_sending f goes)) ∙ is
+first_listed (RetireOf number) p s (retire_connection_id n) goes is = sym (ap (has_retirement number) (first_others p.retire_cids n goes)) ∙ is
+first_listed (NewIdOf number) p s (new_connection_id f) goes is =
+    sym (ap (has_new_id number) (first_others p.new_cids goes.0 goes.1) ∙ ap (λ (g : NewConnectionIdValue). (g.sequence == number) || has_new_id number (others_of p.new_cids)) (sym goes.2)) ∙ is
+first_listed DoneOf p s handshake_done goes is = refl
+first_listed (ResetOf id) p s f goes is = is
+first_listed (StopOf id) p s f goes is = is
+first_listed (RetireOf number) p s f goes is = is
+first_listed (NewIdOf number) p s f goes is = is
+first_listed DoneOf p s f goes is = is
 
 -- a frame that says it asks for an acknowledgement
 says_asks : (what : Listed) (f : FrameValue) → says what f ≡ true → asks f ≡ true
@@ -248,10 +272,12 @@ says_asks (ResetOf id) (reset_stream f) is = refl
 says_asks (StopOf id) (stop_sending f) is = refl
 says_asks (RetireOf number) (retire_connection_id n) is = refl
 says_asks (NewIdOf number) (new_connection_id f) is = refl
+says_asks DoneOf handshake_done is = refl
 says_asks (ResetOf id) f is = cc
 says_asks (StopOf id) f is = cc
 says_asks (RetireOf number) f is = cc
 says_asks (NewIdOf number) f is = cc
+says_asks DoneOf f is = cc
 
 -- the frame that resets a stream
 frame_resets : (fs : List FrameValue) (id : ℕ) → said (ResetOf id) fs ≡ true → (f : ResetStreamValue) × In (reset_stream f) fs × (f.id ≡ id)
@@ -297,6 +323,16 @@ pub id_has_come : (took : List Packet) (number : ℕ) → Came took (NewIdOf num
 id_has_come took number came =
     let found = frame_tells came.packet.frames number came.carried in
     (found.0.id, record { packet = came.packet; was_taken = came.was_taken; frame = found.0; carried = found.1; of_number = found.2; is = refl })
+
+-- HANDSHAKE_DONE among frames
+frame_done : (fs : List FrameValue) → said DoneOf fs ≡ true → In handshake_done fs
+frame_done [] is = cc
+frame_done (handshake_done ∷ fs) is = inl refl
+frame_done (f ∷ fs) is = inr (frame_done fs is)
+
+-- and it came
+pub done_has_come : (took : List Packet) → Came took DoneOf → DoneHasArrived took
+done_has_come took came = record { packet = came.packet; was_taken = came.was_taken; carried = frame_done came.packet.frames came.carried }
 
 -- what came stays so
 pub came_on : (old later : List Packet) (what : Listed) (e : End) → ((packet : Packet) → In packet old → In packet later) → ListedStands old what e → ListedStands later what e
@@ -401,6 +437,7 @@ drawn_waits : (what : Listed) (words : ℕ → ℕ) (e : End) → listed_in what
 drawn_waits (ResetOf id) words e is = is
 drawn_waits (StopOf id) words e is = is
 drawn_waits (RetireOf number) words e is = is
+drawn_waits DoneOf words e is = is
 drawn_waits (NewIdOf number) words e is = places_same number e.ids.undrawn (words_behind (words_drawn e) words) (record { living = e.ids.living; waiting = e.waiting.frames.new_cids }) ∙ is
 
 module _ (took : List Packet) (what : Listed) where
@@ -467,6 +504,7 @@ module _ (took : List Packet) (what : Listed) where
       go : (b : Bool) → ListedStands took what (validated_if b e)
       go true = i
       go false = i
+  apart_stands handshake_done e apart i = by_heard_done (ListedStands took what) e i (λ c. i)
   apart_stands (ack_frequency r) e apart i = by_frequency (ListedStands took what) r e (λ threshold reordering frequency. i)
   apart_stands f e apart i = i
 
@@ -612,6 +650,14 @@ id_due c e es (r ∷ rs) is none =
     let no : Some (new_connection_id (told_id r)) ≡ None = ap (λ (x : Entry). x.frame c.state) entry ∙ none in
     cc
 
+-- HANDSHAKE_DONE has one too
+done_due : (c : control.Draft) (e : Entry) (es : List Entry) (on : Bool) → flagged on done_entry ≡ e ∷ es → e.frame c.state ≡ None → ⊥
+done_due c e es false is none = cc
+done_due c e es true is none =
+    let entry : done_entry ≡ e = cc in
+    let no : Some handshake_done ≡ None = ap (λ (x : Entry). x.frame c.state) entry ∙ none in
+    cc
+
 module _ (s : StreamsState) (p : Retransmits) (ready : AreReady s.sending.halves.live p) (what : Listed) where
   -- frames of control went: what waited waits still or went, and the resets that wait still waited
   record Moved (c : control.Draft) : Type 0 where
@@ -640,10 +686,12 @@ module _ (s : StreamsState) (p : Retransmits) (ready : AreReady s.sending.halves
   dropped (StopOf id) kind c e es is none m waits = waits
   dropped (RetireOf number) kind c e es is none m waits = waits
   dropped (NewIdOf number) kind c e es is none m waits = waits
+  dropped DoneOf HandshakeDone c e es is none m waits = absurd (done_due c e es c.pending.handshake_done is none)
+  dropped DoneOf kind c e es is none m waits = waits
 
   -- a frame that goes
-  goes_listed : (kind : ControlKind) (c : control.Draft) (f : FrameValue) → GoesFirst kind c.pending c.state f → listed_in what c.pending ≡ (says what f || listed_in what (without_first kind c.pending))
-  goes_listed kind c f is = subst (λ (o : Option ControlKind). listed_in what c.pending ≡ (says what f || listed_in what (without_of o c.pending))) is.of_kind (first_listed what c.pending c.state f is.says)
+  goes_listed : (kind : ControlKind) (c : control.Draft) (f : FrameValue) → GoesFirst kind c.pending c.state f → listed_in what c.pending ≡ true → (says what f || listed_in what (without_first kind c.pending)) ≡ true
+  goes_listed kind c f is = subst (λ (o : Option ControlKind). listed_in what c.pending ≡ true → (says what f || listed_in what (without_of o c.pending)) ≡ true) is.of_kind (first_listed what c.pending c.state f is.says)
 
   -- whichever go
   control_moved : (most used : ℕ) → Moved (control_frames most used s p nothing_waits)
@@ -657,7 +705,7 @@ module _ (s : StreamsState) (p : Retransmits) (ready : AreReady s.sending.halves
       same = λ r. told_reads (reset_frame r) (λ h limit. refl) f c.state r.0 ∙ m.same r;
       waited = λ r i. m.waited r ((without_fewer kind c.pending).resets r i);
       moves = λ was. elim (m.moves was) [
-        | inl waits ↦ elim (or_cases (says what f) (listed_in what (without_first kind c.pending)) (sym (goes_listed kind c f is) ∙ waits)) [
+        | inl waits ↦ elim (or_cases (says what f) (listed_in what (without_first kind c.pending)) (goes_listed kind c f is waits)) [
           | inl goes ↦ inr (said_behind what c.frames (f ∷ []) (or_left (says what f) false goes))
           | inr stays ↦ inl stays
         ]
@@ -878,6 +926,11 @@ stop_added_by s p id code h found goes free = subst (λ (o : Option RecvHalf). h
     go false off None is = asks
     go false off (Some reset) is = cc
 
+-- where it was said that the handshake is done, the peer is to be told so
+pub call_says_done : (p : Policy) (e : End) (theirs : List (List ℕ)) (call : Call) (a : Answer) → says_done call a ≡ true → listed_in DoneOf (after_call p e theirs call a).waiting.frames ≡ true
+call_says_done p e theirs calls.HandshakeDone (answers.HandshakeDone (Ok done)) is = refl
+call_says_done p e theirs call a is = cc
+
 -- ---- any call
 
 module _ (took : List Packet) (sents : List Sent) (what : Listed) where
@@ -892,8 +945,9 @@ module _ (took : List Packet) (sents : List Sent) (what : Listed) where
     closes = λ reason f now own. i;
     waits = λ now b set. by_waits (ListedStands took what) b (with_closing e (ticked e.closing now)) i i;
     changes_id = λ uses answer. next_stands took what e a i;
+    says_handshake = λ says answer. by_done (ListedStands took what) e a i (elim i [ inl waits ↦ inl (done_listed what e.waiting.frames waits) | inr more ↦ inr more ]);
     times = λ now expiry set. by_expired p.words e now (ListedStands took what) (λ pending tracking timers waits asked runs packets. rw packets i) (λ pending timers waits asked runs. detected_stands took what (with_closing e (ticked e.closing now)) i) (λ x j. j) expiry;
     polls = λ now set. polled_stands took sents what e now ascends were before new p (ready now) i;
     hears = λ arrival d set. cc;
-    tells = λ asks. by_event e (ListedStands took what) i (λ told. i);
+    tells = λ asks. by_event e (ListedStands took what) i i (λ told. i);
   })

@@ -13,7 +13,7 @@ use Rattle.std.proofs.lemmas.List.Folds.{list_any-append}
 use Rattle.std.proofs.lemmas.Option.{same_Some}
 use Rattle.quic_wire_core.specs.TransportError.{ErrorValue}
 use Rattle.quic_wire_core.specs.declared.shared.IssuedCid.{IssuedCid}
-use Rattle.quic_wire.specs.Value.{FrameValue, AckValue, NewConnectionIdValue, ack, stream, reset_stream, stop_sending, max_data, max_stream_data, max_streams, datagram, new_connection_id, retire_connection_id, path_response, padding, ack_frequency}
+use Rattle.quic_wire.specs.Value.{FrameValue, AckValue, NewConnectionIdValue, ack, stream, reset_stream, stop_sending, max_data, max_stream_data, max_streams, datagram, handshake_done, new_connection_id, retire_connection_id, path_response, padding, ack_frequency}
 use Rattle.quic_wire.specs.declared.frame.NewConnectionId.{NewConnectionId}
 use Rattle.quic_ids.specs.CidState.{OwnIds, is_in, below, without, is_wrong, after_retirement, retirement_answer}
 use Rattle.quic_ids.specs.CidQueue.{PeerIds, insert_answer, after_insert, after_accepted, retires_active, exceeds, left_by, first_used, known_with, with_cid, brought}
@@ -45,7 +45,7 @@ use Rattle.quic_machine.specs.Puts as puts
 use Rattle.quic_machine.specs.Poll.{Polled, Draft, zeros_behind, polled}
 use Rattle.quic_machine.specs.DraftLaws.{Writing, by_leave}
 use Rattle.quic_machine.specs.PollCases.{at_poll, ready_at, draft_at, frames_at, frames_padded, by_poll, composes, may_leave_at}
-use Rattle.quic_machine.specs.CallCases.{is_delivery, by_call}
+use Rattle.quic_machine.specs.CallCases.{is_delivery, by_call, by_done}
 use Rattle.quic_machine.specs.LeaveCases.{by_expired, by_event}
 use Rattle.quic_machine.specs.Machine.{IsAnswer, after_call, fails, gave}
 use Rattle.quic_machine.specs.Migration.{migrated}
@@ -56,7 +56,7 @@ use Rattle.quic_headline.proofs.Packets.Growth.{in_more}
 use Rattle.quic_headline.proofs.Packets.Invariant.{AreTracked}
 use Rattle.quic_headline.proofs.Packets.Closes.{by_closes}
 use Rattle.quic_headline.proofs.Packets.Owing.{Owes, sent_fine}
-use Rattle.quic_headline.proofs.Packets.Apart.{by_waits, by_frequency}
+use Rattle.quic_headline.proofs.Packets.Apart.{by_waits, by_frequency, by_heard_done}
 use Rattle.quic_headline.proofs.Packets.Probes.{may_leave}
 use Rattle.quic_headline.proofs.Packets.Delivered.{Arrivals, arrived}
 use Rattle.quic_headline.proofs.Packets.Named.{NamesTaken, Stands, by_frame, frame_fewer}
@@ -64,7 +64,7 @@ use Rattle.quic_headline.proofs.Places.Told.{in_append}
 use Rattle.quic_headline.proofs.Places.Steps.{poll_answer}
 use Rattle.quic_config.specs.Transport.{parameters_of}
 use Rattle.quic_headline.proofs.Places.Parties.{sent_by, sent_if, sents_by, Beginning, begun_as}
-use Rattle.quic_headline.proofs.Duties.Listed.{Listed, ResetOf, StopOf, RetireOf, NewIdOf, ListedStands, frame_stands, drawn_stands, shortened_stands, next_stands}
+use Rattle.quic_headline.proofs.Duties.Listed.{Listed, ResetOf, StopOf, RetireOf, NewIdOf, DoneOf, ListedStands, frame_stands, drawn_stands, shortened_stands, next_stands}
 use Rattle.quic_packet.specs.Datagram.{Opening}
 use Rattle.quic_headline.proofs.Packets.Moving.{moving_keeps}
 
@@ -74,6 +74,7 @@ IdOwed (ResetOf id) ids = ⊥
 IdOwed (StopOf id) ids = ⊥
 IdOwed (RetireOf number) ids = number < ids.peer.active
 IdOwed (NewIdOf number) ids = (1 ≤ number) × (is_in number ids.own.living ≡ true)
+IdOwed DoneOf ids = ⊥
 
 -- ---- frames of ours ask for no retirements
 
@@ -152,6 +153,7 @@ drawn_owed (ResetOf id) d ids owed = owed
 drawn_owed (StopOf id) d ids owed = owed
 drawn_owed (RetireOf number) d ids owed = owed
 drawn_owed (NewIdOf number) d ids owed = owed
+drawn_owed DoneOf d ids owed = owed
 
 -- ---- lists
 
@@ -227,6 +229,7 @@ taken_up_owed (ResetOf id) f e none owed = owed
 taken_up_owed (StopOf id) f e none owed = owed
 taken_up_owed (RetireOf number) f e none owed = let same = insert_keeps e.ids.peer (frame_of f) none in subst (λ (n : ℕ). number < n) same owed
 taken_up_owed (NewIdOf number) f e none owed = owed
+taken_up_owed DoneOf f e none owed = owed
 
 -- what is owed where the next known id of the peer is used
 pub next_range : (ids : Ids) (r : Range ℕ) → retires_for_next ids ≡ Some r → (r.start ≡ ids.peer.active) × (r.end ≡ (next_used ids).peer.active)
@@ -249,11 +252,13 @@ module _ (took : List Packet) where
   retired_owed (StopOf id) n e owed = owed
   retired_owed (RetireOf number) n e owed = owed
   retired_owed (NewIdOf number) n e owed = (owed.0, retired_in e.ids.own n number owed.1)
+  retired_owed DoneOf n e owed = owed
 
   -- another id is issued
   issued_owed : (what : Listed) (e : End) → IdOwed what (issued e).ids → Or what e (issued e)
   issued_owed (ResetOf id) e owed = absurd owed
   issued_owed (StopOf id) e owed = absurd owed
+  issued_owed DoneOf e owed = absurd owed
   issued_owed (RetireOf number) e owed = inl owed
   issued_owed (NewIdOf number) e owed = elim (or_cases (number == e.ids.own.issued) (is_in number e.ids.own.living) (sym (in_inserted e.ids.own.living e.ids.own.issued number) ∙ owed.1)) [
     | inl here ↦ (
@@ -301,6 +306,7 @@ module _ (took : List Packet) where
       go : (b : Bool) → IdOwed what (validated_if b e).ids → Or what e (validated_if b e)
       go true owes = inl owes
       go false owes = inl owes
+  apart_owed what handshake_done e apart none owed = by_heard_done (λ (x : End). IdOwed what x.ids → Or what e x) e (λ owes. inl owes) (λ c owes. inl owes) owed
   apart_owed what (ack_frequency r) e apart none owed = by_frequency (λ (x : End). IdOwed what x.ids → Or what e x) r e (λ threshold reordering frequency owes. inl owes) owed
   apart_owed what f e apart none owed = inl owed
 
@@ -322,6 +328,7 @@ module _ (took : List Packet) where
       more : (it : Listed) (r : Range ℕ) → retires_for_next e.ids ≡ Some r → IdOwed it (next_used e.ids) → IdOwed it e.ids ⊎ ListedStands took it (uses r)
       more (ResetOf id) r is owes = absurd owes
       more (StopOf id) r is owes = absurd owes
+      more DoneOf r is owes = absurd owes
       more (NewIdOf number) r is owes = inl owes
       more (RetireOf number) r is owes = before (ltb number e.ids.peer.active) refl
         where
@@ -400,11 +407,12 @@ module _ (took : List Packet) where
     closes = λ reason f now own owed. inl owed;
     waits = λ now b set. by_waits (λ (x : End). IdOwed what x.ids → Or what e x) b (with_closing e (ticked e.closing now)) (λ owed. inl owed) (λ owed. inl owed);
     changes_id = λ uses answer. next_owed what e a;
+    says_handshake = λ says answer. by_done (λ (x : End). IdOwed what x.ids → Or what e x) e a (λ owed. inl owed) (λ owed. inl owed);
     times = λ now expiry set owed. inl (by_expired p.words e now (λ (x : End). IdOwed what x.ids → IdOwed what e.ids) (λ pending tracking timers waits asked runs packets owes. owes)
         (λ pending timers waits asked runs owes. subst (IdOwed what) (losses_keep (λ (x : End). x.ids ≡ e.ids) (settles_ids e) (with_closing e (ticked e.closing now)) refl) owes) (λ x j. j) expiry owed);
     polls = λ now set owed. inl (subst (IdOwed what) (polled_ids p e now) owed);
     hears = λ arrival d set. (let clash : false ≡ true = sym apart ∙ set in cc);
-    tells = λ asks. by_event e (λ (x : End). IdOwed what x.ids → Or what e x) (λ owed. inl owed) (λ told owed. inl owed);
+    tells = λ asks. by_event e (λ (x : End). IdOwed what x.ids → Or what e x) (λ owed. inl owed) (λ owed. inl owed) (λ told owed. inl owed);
   })
 
 -- ---- the start
@@ -413,6 +421,7 @@ module _ (took : List Packet) where
 pub first_owed : (took : List Packet) (x y : Beginning) (what : Listed) → IdOwed what (begun_as x y).end.ids → ListedStands took what (begun_as x y).end
 first_owed took x y (ResetOf id) owed = absurd owed
 first_owed took x y (StopOf id) owed = absurd owed
+first_owed took x y DoneOf owed = absurd owed
 first_owed took x y (RetireOf number) owed = let less : number < 0 = owed in absurd (omega arith)
 first_owed took x y (NewIdOf number) owed =
     let limit : ℕ = most_ids (parameters_of y.making.settings).active_connection_id_limit in

@@ -36,7 +36,7 @@ use Rattle.quic_machine.specs.Poll as poll
 use Rattle.quic_machine.specs.DraftLaws.{Writing, by_leave, MayLeave, IsClose}
 use Rattle.quic_machine.specs.Puts as puts
 use Rattle.quic_machine.specs.PollCases.{ready_at, ready_leaves, draft_at, frames_padded, composes, may_leave_at, by_probed, search_leaves, gate_leaves}
-use Rattle.quic_machine.specs.CallCases.{is_delivery, is_poll, by_call}
+use Rattle.quic_machine.specs.CallCases.{is_delivery, is_poll, by_call, by_done}
 use Rattle.quic_machine.specs.LeaveCases.{by_expired, by_event}
 use Rattle.quic_machine.specs.FrameCases.{OnStreams, Settling, named, ack_taken, acked_keeps, losses_keep, begun as started, passed, frames_leave, by_marks, apart_leaves}
 use Rattle.quic_machine.specs.FrameCases as cases
@@ -63,6 +63,7 @@ use Rattle.quic_headline.proofs.Packets.Searches.{by_losses}
 use Rattle.quic_headline.proofs.Packets.Sends.{by_sends}
 use Rattle.quic_headline.proofs.Places.Told.{in_left, in_right, in_append}
 use Rattle.quic_headline.proofs.Places.Parties.{sent_by, sent_if, sent_as}
+use Rattle.quic_headline.proofs.Halves.Pile.{SamePile}
 use Rattle.quic_headline.proofs.Halves.PileSteps.{acked_same, reset_acked_same, stream_same, reset_same}
 use Rattle.quic_headline.proofs.Halves.PileCalls.{write_same, chunks_same, finalize_same, received_reset_same}
 use Rattle.quic_headline.proofs.Steps.Probes.{begun}
@@ -146,10 +147,11 @@ call_next p e theirs call a apart other = by_call p e theirs N call a (record {
   closes = λ reason f now own. refl;
   waits = λ now b set. by_waits N b (with_closing e (ticked e.closing now)) refl refl;
   changes_id = λ uses answer. (next_frequency e a).next;
+  says_handshake = λ says answer. by_done N e a refl refl;
   times = λ now expiry set. by_expired p.words e now N (λ pending tracking timers waits asked runs packets. refl) (λ pending timers waits asked runs. losses_keep N (next_settles e.frequency.next) (with_closing e (ticked e.closing now)) refl) (λ x j. j) expiry;
   polls = λ now set. cc;
   hears = λ arrival d set. cc;
-  tells = λ asks. by_event e N refl (λ told. refl);
+  tells = λ asks. by_event e N refl refl (λ told. refl);
 })
   where
     N : End → Type 0
@@ -166,32 +168,36 @@ flag_settles (steps.acked m) e w = (acked_same e.streams e.waiting.frames m).req
 flag_settles (steps.again c) e w = or_left e.waiting.frames.ack_frequency c.retransmits.ack_frequency w
 flag_settles s e w = w
 
+-- as before, and whether HANDSHAKE_DONE does
+abbrev pub SameFlag : Retransmits → Retransmits → Type 0
+SameFlag p q = (q.ack_frequency ≡ p.ack_frequency) × (q.handshake_done ≡ p.handshake_done)
+
+pub same_flag : (p q : Retransmits) → SamePile p q → SameFlag p q
+same_flag p q same = (same.requests, same.done)
+
 -- frames on streams leave that
-pub streams_flag : (f : FrameValue) (e : End) → OnStreams f → (take_frame f e).end.waiting.frames.ack_frequency ≡ e.waiting.frames.ack_frequency
-streams_flag (stream f) e on = (stream_same e.streams e.waiting.frames f).requests
-streams_flag (reset_stream f) e on = (reset_same e.streams e.waiting.frames f).requests
-streams_flag (stop_sending f) e on = refl
-streams_flag (max_data limit) e on = refl
-streams_flag (max_stream_data f) e on = refl
-streams_flag (max_streams f) e on = refl
+pub streams_flag : (f : FrameValue) (e : End) → OnStreams f → SameFlag e.waiting.frames (take_frame f e).end.waiting.frames
+streams_flag (stream f) e on = same_flag _ _ (stream_same e.streams e.waiting.frames f)
+streams_flag (reset_stream f) e on = same_flag _ _ (reset_same e.streams e.waiting.frames f)
+streams_flag (stop_sending f) e on = (refl, refl)
+streams_flag (max_data limit) e on = (refl, refl)
+streams_flag (max_stream_data f) e on = (refl, refl)
+streams_flag (max_streams f) e on = (refl, refl)
 streams_flag f e on = absurd on
 
 -- what waits waits still, whichever frame comes
 frame_flag : (f : FrameValue) (e : End) → Flag e → Flag (take_frame f e).end
 frame_flag f e w = cases.frame_keeps Flag (record {
   ack = λ rises a x v. acked_keeps Flag flag_settles rises a (named a x) v;
-  on_streams = λ g x on v. streams_flag g x on ∙ v;
+  on_streams = λ g x on v. (streams_flag g x on).0 ∙ v;
   message = λ m x v. v;
   apart = λ g x is v. apart_leaves Flag g x is (λ c. v) (λ c most. v);
 }) f e w
 
 -- a call on streams leaves it
-abbrev pub SameFlag : Retransmits → Retransmits → Type 0
-SameFlag p q = q.ack_frequency ≡ p.ack_frequency
-
 ok_flag : {X E : Type 0} (r : Result X E) (t u : Streams) → SameFlag t.pending u.pending → SameFlag t.pending (if_ok r u t).pending
 ok_flag (Ok x) t u same = same
-ok_flag (Err e) t u same = refl
+ok_flag (Err e) t u same = (refl, refl)
 
 either_flag : (b : Bool) (t u : Streams) (p : Retransmits) → SameFlag p t.pending → SameFlag p u.pending → SameFlag p (if b then t else u).pending
 either_flag true t u p on off = on
@@ -201,32 +207,32 @@ reset_flag : (s : StreamsState) (p : Retransmits) (id code : ℕ) → SameFlag p
 reset_flag s p id code = go (sending_half s id)
   where
     go : (o : Option SendHalf) → SameFlag p (reset_at o s p id code).pending
-    go None = refl
-    go (Some h) = either_flag (is_some h.reset) _ _ p refl refl
+    go None = (refl, refl)
+    go (Some h) = either_flag (is_some h.reset) _ _ p (refl, refl) (refl, refl)
 
 stop_flag : (s : StreamsState) (p : Retransmits) (id code : ℕ) → SameFlag p (after_stop s p id code).pending
 stop_flag s p id code = go (receiving_half s id)
   where
     asked : (o : Option ℕ) → SameFlag p (with_stop o id code p)
-    asked (Some reset) = refl
-    asked None = refl
+    asked (Some reset) = (refl, refl)
+    asked None = (refl, refl)
 
     go : (o : Option RecvHalf) → SameFlag p (stopped_at o s p id code).pending
-    go None = refl
-    go (Some h) = either_flag h.stopped (streams_of s p) (settled (stopped_if (is_some h.final) s id h) (with_stop h.reset id code p)) p refl (asked h.reset)
+    go None = (refl, refl)
+    go (Some h) = either_flag h.stopped (streams_of s p) (settled (stopped_if (is_some h.final) s id h) (with_stop h.reset id code p)) p (refl, refl) (asked h.reset)
 
 pub call_flag : (b : Bool) (t : Streams) (call : Call) (a : Answer) → SameFlag t.pending (after_on_streams b t call a).pending
-call_flag b t (calls.Write s bytes) (answers.Write answer) = (write_same t.state t.pending b answer s bytes).requests
-call_flag b t (calls.WriteChunks s chunks) (answers.WriteChunks answer) = (chunks_same t.state t.pending b answer s chunks.items).requests
-call_flag b t (calls.Finish s) (answers.Finish answer) = refl
+call_flag b t (calls.Write s bytes) (answers.Write answer) = same_flag _ _ (write_same t.state t.pending b answer s bytes)
+call_flag b t (calls.WriteChunks s chunks) (answers.WriteChunks answer) = same_flag _ _ (chunks_same t.state t.pending b answer s chunks.items)
+call_flag b t (calls.Finish s) (answers.Finish answer) = (refl, refl)
 call_flag b t (calls.Reset s code) (answers.Reset answer) = ok_flag answer t (after_reset t.state t.pending s code) (reset_flag t.state t.pending s code)
-call_flag b t (calls.SetPriority s priority) (answers.SetPriority answer) = ok_flag answer t (record t { state = after_set_priority t.state s priority }) refl
+call_flag b t (calls.SetPriority s priority) (answers.SetPriority answer) = ok_flag answer t (record t { state = after_set_priority t.state s priority }) (refl, refl)
 call_flag b t (calls.Read read) (answers.Read (Ok nexts)) =
     let s : StreamsState = after_nexts told_bytes (after_read_begun t.state read.id read.ordered) read.id read.nexts.items nexts in
-    (finalize_same s t.pending read.id).requests
+    same_flag _ _ (finalize_same s t.pending read.id)
 call_flag b t (calls.Stop s code) (answers.Stop answer) = ok_flag answer t (after_stop t.state t.pending s code) (stop_flag t.state t.pending s code)
-call_flag b t (calls.ReceivedReset s) a = (received_reset_same t.state t.pending s).requests
-call_flag b t call a = refl
+call_flag b t (calls.ReceivedReset s) a = same_flag _ _ (received_reset_same t.state t.pending s)
+call_flag b t call a = (refl, refl)
 
 -- what lost packets carried waits, and what waited
 pub lost_wait : (ms : List StreamMeta) (e : End) → (streams_lost ms e).waiting ≡ e.waiting
@@ -645,15 +651,16 @@ call_requested took own n p e theirs call a apart other i = record { below = sub
     stands : RequestStands took own n (after_call p e theirs call a)
     stands = by_call p e theirs (RequestStands took own n) call a (record {
       same = was;
-      on_streams = λ on answer. elim was [ inl waits ↦ inl (call_flag (is_open e.closing.state) (streams_at e) call a ∙ waits) | inr far ↦ inr far ];
+      on_streams = λ on answer. elim was [ inl waits ↦ inl ((call_flag (is_open e.closing.state) (streams_at e) call a).0 ∙ waits) | inr far ↦ inr far ];
       on_messages = λ on answer. was;
       pings = was;
       closes = λ reason f now own. was;
       waits = λ now b set. by_waits (RequestStands took own n) b (with_closing e (ticked e.closing now)) was was;
       changes_id = λ uses answer. by_next_id (RequestStands took own n) e a was (λ c. was) (λ c most. was);
+      says_handshake = λ says answer. by_done (RequestStands took own n) e a was was;
       times = λ now expiry set. by_expired p.words e now (RequestStands took own n) (λ pending tracking timers waits asked runs packets. subst (λ (t : Table TrackedPacket). (e.waiting.frames.ack_frequency ≡ true) ⊎ IsRequested own t n ⊎ HasAsked took n) (sym packets) was)
           (λ pending timers waits asked runs. detected_stands took own n (with_closing e (ticked e.closing now)) was) (λ x j. j) expiry;
       polls = λ now set. cc;
       hears = λ arrival d set. cc;
-      tells = λ asks. by_event e (RequestStands took own n) was (λ told. was);
+      tells = λ asks. by_event e (RequestStands took own n) was was (λ told. was);
     })

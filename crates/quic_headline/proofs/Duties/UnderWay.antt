@@ -26,7 +26,7 @@ use Rattle.quic_machine.specs.DraftLaws.{Writing, by_leave, MayLeave}
 use Rattle.quic_machine.specs.Puts as puts
 use Rattle.quic_machine.specs.PollCases.{ready_at, ready_leaves, draft_at, by_poll_to, composes, may_leave_at}
 use Rattle.quic_machine.specs.FrameCases.{OnStreams, named, ack_taken, begun, passed, resets_acked_keep, frames_leave, by_marks, apart_leaves}
-use Rattle.quic_machine.specs.CallCases.{is_delivery, by_call}
+use Rattle.quic_machine.specs.CallCases.{is_delivery, by_call, by_done}
 use Rattle.quic_machine.specs.LeaveCases.{by_expired, by_event}
 use Rattle.quic_machine.specs.Machine.{IsAnswer, after_call}
 use Rattle.quic_headline.specs.Runs.{Intake, In}
@@ -344,8 +344,9 @@ call_fly done sents p e theirs call a apart is ascends were before new ends i = 
       closes = λ reason f now own. i;
       waits = λ now b set. by_waits (Fly done) b (with_closing e (ticked e.closing now)) i i;
       changes_id = λ uses answer. by_next_id (Fly done) e a i (λ c. i) (λ c most. i);
+      says_handshake = λ says answer. by_done (Fly done) e a i i;
       times = λ now expiry set. by_expired p.words e now (Fly done) (λ pending tracking timers waits asked runs packets. subst (λ (t : Table TrackedPacket). AllFly (InPackets t) done e.streams) (sym packets) i) (λ pending timers waits asked runs. detected_fly done (with_closing e (ticked e.closing now)) ends i) (λ x j. j) expiry;
       polls = λ now set. polled_fly done sents e now ascends were before new p i;
       hears = λ arrival d set. cc;
-      tells = λ asks. by_event e (Fly done) i (λ told. by_polled (AllFly F done) (fly_kept F done) e.streams i);
+      tells = λ asks. by_event e (Fly done) i i (λ told. by_polled (AllFly F done) (fly_kept F done) e.streams i);
     }))

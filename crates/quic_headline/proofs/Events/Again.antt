@@ -9,7 +9,7 @@ use Rattle.std.proofs.lemmas.Bool.{cond_both, cases_eq, cases_Bool, or_cases, or
 use Rattle.std.proofs.lemmas.List.Folds.{list_any-append}
 use Rattle.quic_wire_core.specs.declared.stream_id.Side.{Side}
 use Rattle.quic_wire_core.specs.declared.stream_id.Dir.{Dir}
-use Rattle.quic_wire.specs.Value.{FrameValue, StreamLimitValue, ack, stream, reset_stream, stop_sending, max_data, max_stream_data, max_streams, datagram, new_connection_id, retire_connection_id, path_response, ack_frequency}
+use Rattle.quic_wire.specs.Value.{FrameValue, StreamLimitValue, ack, stream, reset_stream, stop_sending, max_data, max_stream_data, max_streams, datagram, new_connection_id, retire_connection_id, path_response, handshake_done, ack_frequency}
 use Rattle.quic_send_buffer.specs.Buffered.{IsBuffered, is_fully_acked}
 use Rattle.quic_send_buffer.proofs.Buffered.Calls.{ack_lawful, loss_lawful}
 use Rattle.quic_streams_parts.specs.declared.answers.Breach.{Breach}
@@ -42,7 +42,7 @@ use Rattle.quic_streams_laws.specs.WrittenHalves.{nothing_lawful, all_written}
 use Rattle.quic_machine.specs.declared.answers.Event.TheVariants as events
 use Rattle.quic_machine.specs.declared.run.Call.TheVariants as calls
 use Rattle.quic_machine.specs.declared.run.Answer.TheVariants as answers
-use Rattle.quic_machine.specs.Calls.{tells_message, tells_of, streams_told, end_tells, message_told, others_told, end_after_event}
+use Rattle.quic_machine.specs.Calls.{tells_message, tells_done, tells_of, streams_told, end_tells, message_told, confirmation_told, others_told, end_after_event}
 use Rattle.quic_machine.specs.Closing.{Closing}
 use Rattle.quic_machine.specs.Tracking.{dir_named}
 use Rattle.quic_machine.specs.End.{End}
@@ -212,19 +212,21 @@ module _ (id : ℕ) (s : StreamsState) (c : Closing) where
 
 -- a call that asks what is told next is told that, or it stays to be told
 pub event_stays : (id : ℕ) (e : End) → (tells_writable id calls.Event (answers.Event (end_tells e)) ≡ true) ⊎ (Tells id e.streams → Tells id (end_after_event e).streams ⊎ IsPassed id e.streams)
-event_stays id e = go (tells_message e)
+event_stays id e = go (tells_message e) (tells_done e)
   where
-    go : (b : Bool) → (tells_writable id calls.Event (answers.Event (if b then Some events.Message else tells_of (streams_told e).answer e.closing)) ≡ true) ⊎ (Tells id e.streams → Tells id (if b then message_told e else others_told e).streams ⊎ IsPassed id e.streams)
-    go true = inr (λ h. inl h)
-    go false = polled_stays id e.streams e.closing
+    go : (b c : Bool) → (tells_writable id calls.Event (answers.Event (if b then Some events.Message else (if c then Some events.HandshakeConfirmed else tells_of (streams_told e).answer e.closing))) ≡ true) ⊎ (Tells id e.streams → Tells id (if b then message_told e else (if c then confirmation_told e else others_told e)).streams ⊎ IsPassed id e.streams)
+    go true c = inr (λ h. inl h)
+    go false true = inr (λ h. inl h)
+    go false false = polled_stays id e.streams e.closing
 
 -- where it is told nothing, the stream takes no bytes
 pub nothing_writable : (id : ℕ) (e : End) → answers.Event None ≡ answers.Event (end_tells e) → (room e.streams.sending == 0) ≡ false → Tells id e.streams → IsPassed id e.streams
-nothing_writable id e is has h = go (tells_message e) is
+nothing_writable id e is has h = go (tells_message e) (tells_done e) is
   where
-    go : (b : Bool) → answers.Event None ≡ answers.Event (if b then Some events.Message else tells_of (streams_told e).answer e.closing) → IsPassed id e.streams
-    go true is = cc
-    go false is = polled_leaves id e.streams e.closing has is h
+    go : (b c : Bool) → answers.Event None ≡ answers.Event (if b then Some events.Message else (if c then Some events.HandshakeConfirmed else tells_of (streams_told e).answer e.closing)) → IsPassed id e.streams
+    go true c is = cc
+    go false true is = cc
+    go false false is = polled_leaves id e.streams e.closing has is h
 
 -- ---- a half joins those that are blocked
 
@@ -360,6 +362,7 @@ module _ (first : ℕ → ℕ) (id w : ℕ) where
   between_frame (new_connection_id g) e i = apart_leaves (λ (x : End). Between x.streams) (new_connection_id g) e tt (λ c. i) (λ c most. i)
   between_frame (retire_connection_id n) e i = apart_leaves (λ (x : End). Between x.streams) (retire_connection_id n) e tt (λ c. i) (λ c most. i)
   between_frame (path_response token) e i = apart_leaves (λ (x : End). Between x.streams) (path_response token) e tt (λ c. i) (λ c most. i)
+  between_frame handshake_done e i = apart_leaves (λ (x : End). Between x.streams) handshake_done e tt (λ c. i) (λ c most. i)
   between_frame (ack_frequency r) e i = apart_leaves (λ (x : End). Between x.streams) (ack_frequency r) e tt (λ c. i) (λ c most. i)
   between_frame f e i = i
 

@@ -12,7 +12,7 @@ use Rattle.quic_machine.specs.declared.run.Call.TheVariants as calls
 use Rattle.quic_machine.specs.declared.run.Answer.{Answer}
 use Rattle.quic_machine.specs.declared.run.Answer.TheVariants as answers
 use Rattle.quic_machine.specs.Policy.{Policy}
-use Rattle.quic_machine.specs.Calls.{tells_message, tells_of, streams_told, end_tells, message_told, others_told}
+use Rattle.quic_machine.specs.Calls.{tells_message, tells_done, tells_of, streams_told, end_tells, message_told, confirmation_told, others_told}
 use Rattle.quic_machine.specs.End.{End}
 use Rattle.quic_machine.specs.Receive.{Outcome}
 use Rattle.quic_machine.specs.FrameCases.{begun, passed}
@@ -72,11 +72,12 @@ module _ (p : Policy) (e : End) (theirs : List (List ℕ)) (n : ℕ) (told : Boo
 
   -- it is told what is next
   event_holds : MailHolds n (told_behind calls.Event (answers.Event (end_tells e)) n told) (after_call p e theirs calls.Event (answers.Event (end_tells e)))
-  event_holds = go (tells_message e)
+  event_holds = go (tells_message e) (tells_done e)
     where
-      go : (b : Bool) → MailHolds n (told_behind calls.Event (answers.Event (if b then Some events.Message else tells_of (streams_told e).answer e.closing)) n told) (if b then message_told e else others_told e)
-      go true = record { fewer = λ open_now. h.fewer open_now; waits = λ some not. cc }
-      go false = by_others e (λ (f : End). MailHolds n (told_behind calls.Event (answers.Event (tells_of (streams_told e).answer e.closing)) n told) f)
+      go : (b c : Bool) → MailHolds n (told_behind calls.Event (answers.Event (if b then Some events.Message else (if c then Some events.HandshakeConfirmed else tells_of (streams_told e).answer e.closing))) n told) (if b then message_told e else (if c then confirmation_told e else others_told e))
+      go true c = record { fewer = λ open_now. h.fewer open_now; waits = λ some not. cc }
+      go false true = record { fewer = λ open_now. h.fewer open_now; waits = λ some not. h.waits some (untold calls.Event (answers.Event (Some events.HandshakeConfirmed)) n told some not) }
+      go false false = by_others e (λ (f : End). MailHolds n (told_behind calls.Event (answers.Event (tells_of (streams_told e).answer e.closing)) n told) f)
           (λ was. record { fewer = λ open_now. h.fewer open_now; waits = λ some not. h.waits some (untold calls.Event (answers.Event (tells_of (streams_told e).answer e.closing)) n told some not) })
 
   -- any other call, but a delivery
@@ -230,11 +231,11 @@ all = both Nothing (everything.All Ready ready) Mailed (everything.all Ready rea
 
 -- where it is told nothing next, it isn't to be told that messages came
 nothing_told : (e : End) → answers.Event None ≡ answers.Event (end_tells e) → e.messages.to_tell ≤ 0
-nothing_told e is = go (tells_message e) refl is
+nothing_told e is = go (tells_message e) (tells_done e) refl is
   where
-    go : (b : Bool) → nat_lt 0 e.messages.to_tell ≡ b → answers.Event None ≡ answers.Event (if b then Some events.Message else tells_of (streams_told e).answer e.closing) → e.messages.to_tell ≤ 0
-    go true some is = cc
-    go false none is = ltb-false 0 e.messages.to_tell none
+    go : (b c : Bool) → nat_lt 0 e.messages.to_tell ≡ b → answers.Event None ≡ answers.Event (if b then Some events.Message else (if c then Some events.HandshakeConfirmed else tells_of (streams_told e).answer e.closing)) → e.messages.to_tell ≤ 0
+    go true c some is = cc
+    go false c none is = ltb-false 0 e.messages.to_tell none
 
 pub messages_are_told : (r : Run) (end : World) → IsHonest r → IsRun r end → MessagesAreTold r
 messages_are_told r end honest run side i served at some = told_so (mail r side i).told refl

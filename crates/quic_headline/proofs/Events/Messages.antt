@@ -1,7 +1,7 @@
 -- The messages of an end that wait to be received, and how often it is to be told that they came.
 use Rattle.std.proofs.Common.{◌≡◌, ℕ, ◌+◌, ◌<◌, ◌≤◌, ◌⊎◌, inl, inr, Bool, true, false, nat_le, List, [], ◌∷◌, ◌++◌, length, Option, Some, None, Result, Ok, Err, refl, sym, ap, ◌∙◌, subst, arith}
 use Rattle.std.specs.Prelude.{◌==◌, if◌then◌else◌}
-use Rattle.quic_wire.specs.Value.{FrameValue, ack, datagram, new_connection_id, retire_connection_id, path_response, ack_frequency}
+use Rattle.quic_wire.specs.Value.{FrameValue, ack, datagram, new_connection_id, retire_connection_id, path_response, handshake_done, ack_frequency}
 use Rattle.quic_messages.specs.declared.errors.ReceivedError.{ReceivedError}
 use Rattle.quic_messages.specs.declared.errors.ReceivedError.TheVariants as received_errors
 use Rattle.quic_messages.specs.Messages.{Messages, weight, bytes_of, left_for, with_message, is_taken, received_answer, after_received}
@@ -22,7 +22,7 @@ use Rattle.quic_machine.specs.FrameCases.{Settling, losses_keep, named, ack_take
 use Rattle.quic_machine.specs.Steps as steps
 use Rattle.quic_machine.specs.LeaveCases.{by_expired}
 use Rattle.quic_machine.specs.PollCases.{by_poll, at_poll}
-use Rattle.quic_machine.specs.CallCases.{is_delivery, asks_event, by_call}
+use Rattle.quic_machine.specs.CallCases.{is_delivery, asks_event, by_call, by_done}
 use Rattle.quic_headline.specs.Events.{messages_of}
 use Rattle.quic_headline.proofs.Packets.Apart.{by_waits, by_next_id}
 use Rattle.quic_headline.proofs.Packets.Closes.{by_closes}
@@ -76,6 +76,7 @@ module _ (P : List (List ℕ) → ℕ → Type 0) where
     closes = λ reason f now own. here;
     waits = λ now b set. by_waits (λ (f : End). Of f) b (with_closing e (ticked e.closing now)) here here;
     changes_id = λ uses answer. by_next_id (λ (f : End). Of f) e a here (λ c. here) (λ c most. here);
+    says_handshake = λ says answer. by_done (λ (f : End). Of f) e a here here;
     polls = λ now set. polled_leaves p e now here;
     hears = λ arrival d set. cc;
     tells = λ asks. cc;
@@ -103,6 +104,7 @@ module _ (P : List (List ℕ) → ℕ → Type 0) where
   frame_leaves (new_connection_id f) e here takes = apart_leaves (λ (x : End). Of x) (new_connection_id f) e tt (λ c. here) (λ c most. here)
   frame_leaves (retire_connection_id n) e here takes = apart_leaves (λ (x : End). Of x) (retire_connection_id n) e tt (λ c. here) (λ c most. here)
   frame_leaves (path_response token) e here takes = apart_leaves (λ (x : End). Of x) (path_response token) e tt (λ c. here) (λ c most. here)
+  frame_leaves handshake_done e here takes = apart_leaves (λ (x : End). Of x) handshake_done e tt (λ c. here) (λ c most. here)
   frame_leaves (ack_frequency r) e here takes = apart_leaves (λ (x : End). Of x) (ack_frequency r) e tt (λ c. here) (λ c most. here)
   frame_leaves f e here takes = here
 

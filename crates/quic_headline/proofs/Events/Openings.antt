@@ -23,7 +23,7 @@ use Rattle.quic_machine.specs.declared.run.Call.{Call}
 use Rattle.quic_machine.specs.declared.run.Call.TheVariants as calls
 use Rattle.quic_machine.specs.declared.run.Answer.{Answer}
 use Rattle.quic_machine.specs.declared.run.Answer.TheVariants as answers
-use Rattle.quic_machine.specs.Calls.{tells_message, tells_of, streams_told, end_tells, message_told, others_told}
+use Rattle.quic_machine.specs.Calls.{tells_message, tells_done, tells_of, streams_told, end_tells, message_told, confirmation_told, others_told, end_after_event}
 use Rattle.quic_machine.specs.Tracking.{dir_named}
 use Rattle.quic_machine.specs.End.{End}
 use Rattle.quic_machine.specs.Receive.{Outcome, take_frame}
@@ -116,16 +116,17 @@ module _ (s : StreamsState) where
       go Uni false false other = other
 
 -- a call that asks what is told next is told that, or it stays to be told
-event_stays : (dir : Dir) (e : End) → (tells_opened dir calls.Event (answers.Event (end_tells e)) ≡ true) ⊎ (of dir (if tells_message e then message_told e else others_told e).streams.events.opened ≡ false → of dir e.streams.events.opened ≡ false)
-event_stays dir e = go (tells_message e)
+event_stays : (dir : Dir) (e : End) → (tells_opened dir calls.Event (answers.Event (end_tells e)) ≡ true) ⊎ (of dir (end_after_event e).streams.events.opened ≡ false → of dir e.streams.events.opened ≡ false)
+event_stays dir e = go (tells_message e) (tells_done e)
   where
     told_now : (dir : Dir) → tells_opened dir calls.Event (answers.Event (Some (events.Stream (stream_events.Opened dir)))) ≡ true
     told_now Bi = refl
     told_now Uni = refl
 
-    go : (b : Bool) → (tells_opened dir calls.Event (answers.Event (if b then Some events.Message else tells_of (streams_told e).answer e.closing)) ≡ true) ⊎ (of dir (if b then message_told e else others_told e).streams.events.opened ≡ false → of dir e.streams.events.opened ≡ false)
-    go true = inr (λ is. is)
-    go false = elim (polled_stays e.streams dir) [
+    go : (b c : Bool) → (tells_opened dir calls.Event (answers.Event (if b then Some events.Message else (if c then Some events.HandshakeConfirmed else tells_of (streams_told e).answer e.closing))) ≡ true) ⊎ (of dir (if b then message_told e else (if c then confirmation_told e else others_told e)).streams.events.opened ≡ false → of dir e.streams.events.opened ≡ false)
+    go true c = inr (λ is. is)
+    go false true = inr (λ is. is)
+    go false false = elim (polled_stays e.streams dir) [
       | inl told ↦ inl (ap (λ (o : _). tells_opened dir calls.Event (answers.Event (tells_of o e.closing))) told ∙ told_now dir)
       | inr stays ↦ inr stays
     ]
@@ -279,7 +280,7 @@ base = both Nothing (And (everything.All Ready ready) ReadsHold) Openers (everyt
 
 -- where it is told nothing next, it isn't to be told that the peer opened streams
 nothing_opened : (dir : Dir) (e : End) → answers.Event None ≡ answers.Event (end_tells e) → of dir e.streams.events.opened ≡ false
-nothing_opened dir e is = go (tells_message e) is
+nothing_opened dir e is = go (tells_message e) (tells_done e) is
   where
     flags : (b c : Bool) → e.streams.events.opened.bi ≡ b → e.streams.events.opened.uni ≡ c → answers.Event None ≡ answers.Event (tells_of (if b then told_opened Bi e.streams else (if c then told_opened Uni e.streams else told_writable e.streams)).answer e.closing) → (d : Dir) → of d e.streams.events.opened ≡ false
     flags true c at_bi at_uni is d = cc
@@ -287,9 +288,10 @@ nothing_opened dir e is = go (tells_message e) is
     flags false false at_bi at_uni is Bi = at_bi
     flags false false at_bi at_uni is Uni = at_uni
 
-    go : (b : Bool) → answers.Event None ≡ answers.Event (if b then Some events.Message else tells_of (streams_told e).answer e.closing) → of dir e.streams.events.opened ≡ false
-    go true is = cc
-    go false is = flags e.streams.events.opened.bi e.streams.events.opened.uni refl refl is dir
+    go : (b c : Bool) → answers.Event None ≡ answers.Event (if b then Some events.Message else (if c then Some events.HandshakeConfirmed else tells_of (streams_told e).answer e.closing)) → of dir e.streams.events.opened ≡ false
+    go true c is = cc
+    go false true is = cc
+    go false false is = flags e.streams.events.opened.bi e.streams.events.opened.uni refl refl is dir
 
 pub openings_are_told : (r : Run) (end : World) → IsHonest r → IsRun r end → OpeningsAreTold r
 openings_are_told r end honest run side i id dir served at opened = subst (λ (ps : List Packet). WasOpened ps side dir id) (sym same) there

@@ -36,7 +36,7 @@ use Rattle.quic_machine.specs.declared.run.Call.TheVariants as calls
 use Rattle.quic_machine.specs.declared.run.Answer.{Answer}
 use Rattle.quic_machine.specs.declared.run.Answer.TheVariants as answers
 use Rattle.quic_spaces.specs.Numbers.{number_opened}
-use Rattle.quic_machine.specs.Calls.{tells_message, tells_of, streams_told, end_tells, message_told, others_told}
+use Rattle.quic_machine.specs.Calls.{tells_message, tells_done, tells_of, streams_told, end_tells, message_told, confirmation_told, others_told, end_after_event}
 use Rattle.quic_machine.specs.Closing.{Closing, close_asked}
 use Rattle.quic_machine.specs.Tracking.{dir_named}
 use Rattle.quic_machine.specs.End.{End, with_numbers, closed_by, with_closing}
@@ -163,20 +163,22 @@ module _ (id : ℕ) (s : StreamsState) (c : Closing) where
   polled_leaves = cond_both s.events.opened.bi _ _ Leaves (λ e is h. cc) (λ e. cond_both s.events.opened.uni _ _ Leaves (λ f is h. cc) (λ f. writable_leaves))
 
 -- a call that asks what is told next is told that, or it stays to be told
-event_stays : (id : ℕ) (e : End) → (tells_readable id calls.Event (answers.Event (end_tells e)) ≡ true) ⊎ (HasReadable id e.streams → HasReadable id (if tells_message e then message_told e else others_told e).streams)
-event_stays id e = go (tells_message e)
+event_stays : (id : ℕ) (e : End) → (tells_readable id calls.Event (answers.Event (end_tells e)) ≡ true) ⊎ (HasReadable id e.streams → HasReadable id (end_after_event e).streams)
+event_stays id e = go (tells_message e) (tells_done e)
   where
-    go : (b : Bool) → (tells_readable id calls.Event (answers.Event (if b then Some events.Message else tells_of (streams_told e).answer e.closing)) ≡ true) ⊎ (HasReadable id e.streams → HasReadable id (if b then message_told e else others_told e).streams)
-    go true = inr (λ h. h)
-    go false = polled_stays id e.streams e.closing
+    go : (b c : Bool) → (tells_readable id calls.Event (answers.Event (if b then Some events.Message else (if c then Some events.HandshakeConfirmed else tells_of (streams_told e).answer e.closing))) ≡ true) ⊎ (HasReadable id e.streams → HasReadable id (if b then message_told e else (if c then confirmation_told e else others_told e)).streams)
+    go true c = inr (λ h. h)
+    go false true = inr (λ h. h)
+    go false false = polled_stays id e.streams e.closing
 
 -- where it is told nothing, it isn't to be told
 nothing_readable : (id : ℕ) (e : End) → answers.Event None ≡ answers.Event (end_tells e) → HasReadable id e.streams → ⊥
-nothing_readable id e is h = go (tells_message e) is
+nothing_readable id e is h = go (tells_message e) (tells_done e) is
   where
-    go : (b : Bool) → answers.Event None ≡ answers.Event (if b then Some events.Message else tells_of (streams_told e).answer e.closing) → ⊥
-    go true is = cc
-    go false is = polled_leaves id e.streams e.closing is h
+    go : (b c : Bool) → answers.Event None ≡ answers.Event (if b then Some events.Message else (if c then Some events.HandshakeConfirmed else tells_of (streams_told e).answer e.closing)) → ⊥
+    go true c is = cc
+    go false true is = cc
+    go false false is = polled_leaves id e.streams e.closing is h
 
 -- ---- halves that aren't stopped
 

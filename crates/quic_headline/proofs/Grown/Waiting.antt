@@ -52,7 +52,7 @@ use Rattle.quic_machine.specs.DraftLaws.{by_streams, by_messages, by_signals}
 use Rattle.quic_machine.specs.FrameCases.{OnStreams, Settling, named, acked_keeps, losses_keep, passed, frames_keep}
 use Rattle.quic_machine.specs.FrameCases as cases
 use Rattle.quic_machine.specs.Steps as steps
-use Rattle.quic_machine.specs.CallCases.{is_delivery, by_call}
+use Rattle.quic_machine.specs.CallCases.{is_delivery, by_call, by_done}
 use Rattle.quic_machine.specs.LeaveCases.{by_expired, by_event}
 use Rattle.quic_machine.specs.Machine.{IsAnswer, after_call}
 use Rattle.quic_headline.proofs.Packets.Apart.{by_waits, by_next_id}
@@ -340,10 +340,11 @@ call_grown p e theirs call a within apart is w = by_call p e theirs (λ (f : End
   closes = λ reason f now own. w;
   waits = λ now b set. by_waits (λ (f : End). Waits (streams_at f)) b (with_closing e (ticked e.closing now)) w w;
   changes_id = λ uses answer. by_next_id (λ (f : End). Waits (streams_at f)) e a w (λ c. record { all = record { bytes = w.all.bytes; counts = w.all.counts }; each = w.each }) (λ c most. record { all = record { bytes = w.all.bytes; counts = w.all.counts }; each = w.each });
+  says_handshake = λ says answer. by_done (λ (f : End). Waits (streams_at f)) e a w (record { all = record { bytes = w.all.bytes; counts = w.all.counts }; each = w.each });
   times = λ now expiry set. by_expired p.words e now (λ (f : End). Waits (streams_at f)) (λ pending tracking timers waits asked runs packets. w) (λ pending timers waits asked runs. losses_keep (λ (f : End). Waits (streams_at f)) settles (with_closing e (ticked e.closing now)) w) (λ x j. j) expiry;
   polls = λ now set. poll_streams Waits p e now composed_waits w (ready_streams Waits e now w asked_waits (λ n t among. settles (steps.again t.carried) e w));
   hears = λ arrival d set. cc;
-  tells = λ asks. by_event e (λ (f : End). Waits (streams_at f)) w (λ told.
+  tells = λ asks. by_event e (λ (f : End). Waits (streams_at f)) w w (λ told.
       (let ids : List ℕ = e.waiting.frames.max_stream_data in
       waits_of ids _ (polled_keeps (Flagged ids) (decides ids) e.streams e.waiting.frames (flags_of (streams_at e) w)) ((quiet (IsListed ids)).polls e.streams w.each)));
 })

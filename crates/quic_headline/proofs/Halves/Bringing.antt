@@ -105,7 +105,7 @@ frame_stays side id f e i = frame_quiet (IsOpened side id) (is_quiet (IsOpened s
     (λ g is. by_reset_frame (IsOpened side id) (opened_stays side id) e.streams e.waiting.frames g (λ h a u. tt) i)
     i
 
-frame_side : (side : Side) (f : FrameValue) (e : End) → IsOf side e.streams → IsOf side (take_frame f e).end.streams
+pub frame_side : (side : Side) (f : FrameValue) (e : End) → IsOf side e.streams → IsOf side (take_frame f e).end.streams
 frame_side side f e i = frame_quiet (IsOf side) (is_quiet (IsOf side) (side_stays side)) f e
     (λ g is. by_stream (IsOf side) (side_stays side) e.streams e.waiting.frames g (λ h a u. tt) i)
     (λ g is. by_reset_frame (IsOf side) (side_stays side) e.streams e.waiting.frames g (λ h a u. tt) i)

@@ -19,7 +19,7 @@ use Rattle.quic_machine.specs.declared.answers.Event.TheVariants as events
 use Rattle.quic_machine.specs.declared.run.Call.TheVariants as calls
 use Rattle.quic_machine.specs.declared.run.Answer.TheVariants as answers
 use Rattle.quic_machine.specs.Closing.{Closing, loss_to_tell}
-use Rattle.quic_machine.specs.Calls.{tells_message, tells_of}
+use Rattle.quic_machine.specs.Calls.{tells_message, tells_done, tells_of}
 use Rattle.quic_machine.specs.End.{streams_at}
 use Rattle.quic_machine.specs.Machine.{World}
 use Rattle.quic_headline.specs.Runs.{Run, Told, Packet, Intake, In, written, until, AreServed, EndHasArrived}
@@ -74,11 +74,13 @@ told_waited id s is =
     let one : tells id (polled s).answer ≡ 1 = ap (tells id) is ∙ ap (λ (b : Bool). if b then 1 else 0) (eq-eqb id id refl) in
     omega arith
 
--- what is told of a stream is what its streams tell, and no message
-told_stream : (id : ℕ) (message : Bool) (o : Option StreamEvent) (c : Closing) → answers.Event (Some (events.Stream (Finished id))) ≡ answers.Event (if message then Some events.Message else tells_of o c) → o ≡ Some (Finished id)
-told_stream id true o c is = cc
-told_stream id false (Some event) c is = cc
-told_stream id false None c is = go (loss_to_tell c) is
+-- what is told of a stream is what its streams tell, and neither a message nor that the handshake
+-- is confirmed
+told_stream : (id : ℕ) (message done : Bool) (o : Option StreamEvent) (c : Closing) → answers.Event (Some (events.Stream (Finished id))) ≡ answers.Event (if message then Some events.Message else (if done then Some events.HandshakeConfirmed else tells_of o c)) → o ≡ Some (Finished id)
+told_stream id true done o c is = cc
+told_stream id false true o c is = cc
+told_stream id false false (Some event) c is = cc
+told_stream id false false None c is = go (loss_to_tell c) is
   where
     go : (r : Option LostReason) → answers.Event (Some (events.Stream (Finished id))) ≡ answers.Event (option_map events.Lost r) → None ≡ Some (Finished id)
     go None same = cc
@@ -117,7 +119,7 @@ module _ (G : Way) (g : SaysWhatArrived G) (r : Run) (end : World) (honest : IsH
       let x : Party = party_at r i p.world side p.sents in
       let y : Party = party_at r i p.world (other_side side) p.theirs in
       let is = answered r p.world end i side calls.Event (answers.Event (Some (events.Stream (Finished id)))) p.goes_on at in
-      let waited = told_waited id x.end.streams (told_stream id (tells_message x.end) (polled x.end.streams).answer x.end.closing is) in
+      let waited = told_waited id x.end.streams (told_stream id (tells_message x.end) (tells_done x.end) (polled x.end.streams).answer x.end.closing is) in
       let arrived = all_arrived p.sents (until r side i) (came_to y x).took (g.says x y p.gives) (g.packets x y p.gives).taken id ((g.arrives x y p.gives).told id waited) in
       subst (λ (packets : List Packet). headline.AllArrived packets id (until r side i)) (sym (ap (λ (j : Intake). j.took) (took_there r honest p.world i side p.sents p.theirs))) arrived
 

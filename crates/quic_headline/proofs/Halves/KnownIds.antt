@@ -6,7 +6,7 @@ use Rattle.std.specs.List.{range_with_len}
 use Rattle.std.specs.declared.ops.Range.{Range}
 use Rattle.quic_wire_core.specs.TransportError.{ErrorValue}
 use Rattle.quic_wire_core.specs.declared.shared.IssuedCid.{IssuedCid}
-use Rattle.quic_wire.specs.Value.{FrameValue, ack, datagram, new_connection_id, retire_connection_id, path_response, ack_frequency}
+use Rattle.quic_wire.specs.Value.{FrameValue, ack, datagram, new_connection_id, retire_connection_id, path_response, handshake_done, ack_frequency}
 use Rattle.quic_wire.specs.declared.frame.NewConnectionId.{NewConnectionId}
 use Rattle.quic_ids.specs.CidState.{retirement_answer}
 use Rattle.quic_ids.specs.CidQueue.{PeerIds, from, with_cid, known_with, brought, exceeds, retires_active, left_by, first_used, after_insert, after_next, kept_ids, retired_up_to, retired_for, insert_answer}
@@ -35,7 +35,7 @@ use Rattle.quic_machine.specs.CallCases.{Plain, is_delivery, by_plain_call}
 use Rattle.quic_machine.specs.CallCases as cases
 use Rattle.quic_machine.specs.Machine.{after_call}
 use Rattle.quic_headline.specs.Runs.{In}
-use Rattle.quic_headline.proofs.Packets.Apart.{by_waits, by_frequency}
+use Rattle.quic_headline.proofs.Packets.Apart.{by_waits, by_frequency, by_heard_done}
 use Rattle.quic_headline.proofs.Packets.Closes.{by_closes}
 use Rattle.quic_headline.proofs.Packets.Named.{in_filter}
 use Rattle.quic_headline.proofs.Packets.Probes.{may_leave}
@@ -191,6 +191,7 @@ frame_written (path_response token) e small w = go (is_asked e.validation.challe
     go : (b : Bool) → AreWritten (validated_if b e).ids.peer
     go true = w
     go false = w
+frame_written handshake_done e small w = by_heard_done (λ (x : End). AreWritten x.ids.peer) e w (λ c. w)
 frame_written (ack_frequency r) e small w = by_frequency (λ (x : End). AreWritten x.ids.peer) r e (λ threshold reordering frequency. w)
 frame_written f e small w = w
 

@@ -74,13 +74,15 @@ pub record NothingElse (p : Retransmits) : Type 0 where
 pub nothing_else : (p : Retransmits) → p.new_cids ≡ [] → p.retire_cids ≡ [] → NothingElse p
 nothing_else p ids retired = record { ids = λ cid i. absurd (subst (In cid) ids i); retired = λ n i. absurd (subst (In n) retired i) }
 
--- the same resets and stops wait, the same of ids, and ACK_FREQUENCY does or doesn't as before
+-- the same resets and stops wait, the same of ids, and ACK_FREQUENCY and HANDSHAKE_DONE do or don't
+-- as before
 pub record SamePile (p q : Retransmits) : Type 0 where
   pub resets : q.reset_stream ≡ p.reset_stream
   pub stops : q.stop_sending ≡ p.stop_sending
   pub ids : q.new_cids ≡ p.new_cids
   pub retired : q.retire_cids ≡ p.retire_cids
   pub requests : q.ack_frequency ≡ p.ack_frequency
+  pub done : q.handshake_done ≡ p.handshake_done
 
 pub else_same : (p q : Retransmits) → SamePile p q → NothingElse p → NothingElse q
 else_same p q same n = record { ids = λ cid i. n.ids cid (subst (In cid) same.ids i); retired = λ m i. n.retired m (subst (In m) same.retired i) }

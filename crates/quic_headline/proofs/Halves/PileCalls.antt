@@ -41,7 +41,7 @@ use Rattle.quic_machine.specs.End.{End, with_closing, streams_at, with_streams}
 use Rattle.quic_machine.specs.Calls.{AreNexts, after_nexts, is_open}
 use Rattle.quic_machine.specs.StreamCalls.{IsStreamAnswer, if_ok, after_on_streams}
 use Rattle.quic_machine.specs.Machine.{IsAnswer, after_call}
-use Rattle.quic_machine.specs.CallCases.{is_delivery, by_call}
+use Rattle.quic_machine.specs.CallCases.{is_delivery, by_call, by_done}
 use Rattle.quic_machine.specs.LeaveCases.{at_losses, by_expired, at_event, by_event}
 use Rattle.quic_recovery_core.specs.PendingAcks.{Pending}
 use Rattle.quic_time.specs.Timers.{Timers}
@@ -118,8 +118,8 @@ module _ (r : ℕ × ℕ) (s : StreamsState) (p : Retransmits) (bounded : (id : 
 module _ (s : StreamsState) (p : Retransmits) where
   blocked_same : (o : Option SendHalf) (id : ℕ) → SamePile p (blocked_at o s p id).pending
   blocked_same None id = same_pile p
-  blocked_same (Some h) id = both p (room s.sending == 0) _ _ (record { resets = refl; stops = refl; ids = refl; retired = refl; requests = refl })
-      (both p (was_said h.said h.limit) _ _ (same_pile p) (record { resets = refl; stops = refl; ids = refl; retired = refl; requests = refl }))
+  blocked_same (Some h) id = both p (room s.sending == 0) _ _ (record { resets = refl; stops = refl; ids = refl; retired = refl; requests = refl; done = refl })
+      (both p (was_said h.said h.limit) _ _ (same_pile p) (record { resets = refl; stops = refl; ids = refl; retired = refl; requests = refl; done = refl }))
 
   written_same : (answer : Result ℕ WriteError) (id : ℕ) (bytes : List ℕ) → SamePile p (written_by answer s p id bytes).pending
   written_same (Ok n) id bytes = same_pile p
@@ -141,14 +141,14 @@ module _ (s : StreamsState) (p : Retransmits) where
   finalize_same id = go (stream_grew s id)
     where
       go : (b : Bool) → SamePile p (with_stream_if b id (decided s p))
-      go true = record { resets = refl; stops = refl; ids = refl; retired = refl; requests = refl }
-      go false = record { resets = refl; stops = refl; ids = refl; retired = refl; requests = refl }
+      go true = record { resets = refl; stops = refl; ids = refl; retired = refl; requests = refl; done = refl }
+      go false = record { resets = refl; stops = refl; ids = refl; retired = refl; requests = refl; done = refl }
 
   pub received_reset_same : (id : ℕ) → SamePile p (after_received_reset s p id).pending
   received_reset_same id = go (reset_of (receiving_half s id))
     where
       go : (r : Result (Option ℕ) ClosedStream) → SamePile p (reset_told r s p id).pending
-      go (Ok (Some code)) = record { resets = refl; stops = refl; ids = refl; retired = refl; requests = refl }
+      go (Ok (Some code)) = record { resets = refl; stops = refl; ids = refl; retired = refl; requests = refl; done = refl }
       go (Ok None) = same_pile p
       go (Err e) = same_pile p
 
@@ -279,7 +279,7 @@ module _ (e : End) (h : HoldsAll e) where
   stop_holds id code small opened = go (receiving_half e.streams id) refl (λ q u. by_stop (InUse q) (in_use_kept q) e.streams e.waiting.frames id code (λ half is. tt) u)
     where
       stopped : (half : RecvHalf) → receiving_half e.streams id ≡ Some half → (o : Option ℕ) → KeptBy e (settled (stopped_if (is_some half.final) e.streams id half) (with_stop o id code e.waiting.frames)) → HoldsAll (with_streams e (settled (stopped_if (is_some half.final) e.streams id half) (with_stop o id code e.waiting.frames)))
-      stopped half is (Some reset) kept = all_on e _ kept (record { resets = refl; stops = refl; ids = refl; retired = refl; requests = refl }) h
+      stopped half is (Some reset) kept = all_on e _ kept (record { resets = refl; stops = refl; ids = refl; retired = refl; requests = refl; done = refl }) h
       stopped half is None kept = stop_added _ (record { id = id; code = code }) kept (opened half is, small) refl refl (let o = h.holds.others in record { ids = o.ids; retired = o.retired })
 
       either : (half : RecvHalf) → receiving_half e.streams id ≡ Some half → (b : Bool) → KeptBy e (if b then streams_of e.streams e.waiting.frames else settled (stopped_if (is_some half.final) e.streams id half) (with_stop half.reset id code e.waiting.frames))
@@ -393,8 +393,9 @@ step_holds p e theirs call a wrote holds few small is other w ascends h = by_cal
   waits = λ now b set. by_waits HoldsAll b (with_closing e (ticked e.closing now)) (again_all e _ refl refl refl h) (again_all e _ refl refl refl h);
   polls = λ now set. polled_holds p e now ascends h;
   changes_id = λ uses answer. next_holds e a w h;
+  says_handshake = λ says answer. by_done HoldsAll e a h (record { holds = record { pile = h.holds.pile; others = record { ids = h.holds.others.ids; retired = h.holds.others.retired } }; carried = h.carried });
   hears = λ arrival d set. cc;
-  tells = λ asks. by_event e HoldsAll (again_all e _ refl refl refl h) (λ told. told_holds told);
+  tells = λ asks. by_event e HoldsAll (again_all e _ refl refl refl h) (again_all e _ refl refl refl h) (λ told. told_holds told);
 })
   where
     expired : (now : ℕ) (pending : Pending) (timers : Timers) (waits : Bool) (asked : Asked) → HoldsAll (at_losses e now pending timers waits asked)

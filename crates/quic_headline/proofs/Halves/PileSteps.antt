@@ -80,21 +80,21 @@ both p true x y on off = on
 both p false x y on off = off
 
 pub same_pile : (p : Retransmits) → SamePile p p
-same_pile p = record { resets = refl; stops = refl; ids = refl; retired = refl; requests = refl }
+same_pile p = record { resets = refl; stops = refl; ids = refl; retired = refl; requests = refl; done = refl }
 
 pub acked_same : (s : StreamsState) (p : Retransmits) (m : StreamMeta) → SamePile p (after_stream_acked s p m).pending
 acked_same s p m = go (sent_half s m.id)
   where
     go : (o : Option SendHalf) → SamePile p (acked_at o s p m).pending
     go None = same_pile p
-    go (Some h) = both p (is_some h.reset) _ _ (same_pile p) (both p (is_acked (half_acked h m)) _ _ (record { resets = refl; stops = refl; ids = refl; retired = refl; requests = refl }) (same_pile p))
+    go (Some h) = both p (is_some h.reset) _ _ (same_pile p) (both p (is_acked (half_acked h m)) _ _ (record { resets = refl; stops = refl; ids = refl; retired = refl; requests = refl; done = refl }) (same_pile p))
 
 pub reset_acked_same : (s : StreamsState) (p : Retransmits) (id : ℕ) → SamePile p (after_reset_acked s p id).pending
 reset_acked_same s p id = go (sent_half s id)
   where
     go : (o : Option SendHalf) → SamePile p (reset_acked_at o s p id).pending
     go None = same_pile p
-    go (Some h) = both p (is_some h.reset) _ _ (record { resets = refl; stops = refl; ids = refl; retired = refl; requests = refl }) (same_pile p)
+    go (Some h) = both p (is_some h.reset) _ _ (record { resets = refl; stops = refl; ids = refl; retired = refl; requests = refl; done = refl }) (same_pile p)
 
 -- RESET_STREAM of the first besides is acknowledged: the others are of other streams
 reset_step : (e : End) (r : ℕ × ℕ) (resets : List (ℕ × ℕ)) (stops : List StopSendingValue) → Holds e (r ∷ resets) stops → Holds (reset_acked r.0 e) resets stops
@@ -271,7 +271,7 @@ stream_same s p f = go (taking.refusal s f.id _ f.fin)
   where
     half : (o : Option RecvHalf) → SamePile p (taking.stream_at o s p f).pending
     half None = same_pile p
-    half (Some h) = record { resets = refl; stops = refl; ids = refl; retired = refl; requests = refl }
+    half (Some h) = record { resets = refl; stops = refl; ids = refl; retired = refl; requests = refl; done = refl }
 
     go : (o : Option Breach) → SamePile p (taking.stream_unless o s p f).pending
     go (Some b) = same_pile p
@@ -282,7 +282,7 @@ reset_same s p f = go (taking.reset_breach s f)
   where
     half : (o : Option RecvHalf) → SamePile p (taking.reset_at o s p f).pending
     half None = same_pile p
-    half (Some h) = record { resets = refl; stops = refl; ids = refl; retired = refl; requests = refl }
+    half (Some h) = record { resets = refl; stops = refl; ids = refl; retired = refl; requests = refl; done = refl }
 
     go : (o : Option Breach) → SamePile p (taking.reset_unless o s p f).pending
     go (Some b) = same_pile p

@@ -1,7 +1,7 @@
 -- Calls and frames that bring and read nothing leave a fact of streams that words about what an end
 -- sends leave.
 use Rattle.std.proofs.Common.{◌≡◌, ℕ, Bool, true, false, List, length, Result, Ok, Err, refl, sym, subst, inl, inr}
-use Rattle.quic_wire.specs.Value.{FrameValue, AckValue, StreamValue, ResetStreamValue, ack, stream, reset_stream, stop_sending, max_data, max_stream_data, max_streams, datagram, new_connection_id, retire_connection_id, path_response, ack_frequency}
+use Rattle.quic_wire.specs.Value.{FrameValue, AckValue, StreamValue, ResetStreamValue, ack, stream, reset_stream, stop_sending, max_data, max_stream_data, max_streams, datagram, new_connection_id, retire_connection_id, path_response, handshake_done, ack_frequency}
 use Rattle.quic_streams_parts.specs.declared.answers.WriteError.TheVariants as write_errors
 use Rattle.quic_streams_state.specs.declared.state.StreamsState.{StreamsState}
 use Rattle.quic_streams_state.specs.State.{Streams}
@@ -25,7 +25,7 @@ use Rattle.quic_machine.specs.StreamCalls.{if_ok, after_on_streams, IsStreamAnsw
 use Rattle.quic_machine.specs.Machine.{IsAnswer, after_call}
 use Rattle.quic_machine.specs.Receive.{is_above, names_ungiven, take_frame}
 use Rattle.quic_machine.specs.Poll.{Draft, Kind, signals, controls, messages, streams, order, put, with_asking, no_frames, with_ack, ack_if, ack_fits, composed, composed_if, polled, frame_room, left, no_stream_frames, frequency}
-use Rattle.quic_machine.specs.CallCases.{is_delivery, by_call}
+use Rattle.quic_machine.specs.CallCases.{is_delivery, by_call, by_done}
 use Rattle.quic_machine.specs.DraftLaws.{by_messages, by_signals}
 use Rattle.quic_machine.specs.FrameCases.{Settling, acked_keeps, losses_keep, named, ack_taken, message_leaves, apart_leaves}
 use Rattle.quic_machine.specs.Steps as steps
@@ -134,10 +134,11 @@ module _ (P : StreamsState → Type 0) (q : IsQuiet P) where
     closes = λ reason f now own. i;
     waits = λ now b set. by_waits (λ (f : End). P f.streams) b (with_closing e (ticked e.closing now)) i i;
     changes_id = λ uses answer. by_next_id (λ (f : End). P f.streams) e a i (λ c. i) (λ c most. i);
+    says_handshake = λ says answer. by_done (λ (f : End). P f.streams) e a i i;
     times = λ now expiry set. by_expired p.words e now (λ (f : End). P f.streams) (λ pending tracking timers waits asked runs packets. i) (λ pending timers waits asked runs. losses_keep (λ (x : End). P x.streams) settles (with_closing e (ticked e.closing now)) i) (λ x j. j) expiry;
     polls = λ now set. poll_quiet p e now i;
     hears = λ arrival d set. cc;
-    tells = λ asks. by_event e (λ (f : End). P f.streams) i (λ told. q.polls e.streams i);
+    tells = λ asks. by_event e (λ (f : End). P f.streams) i i (λ told. q.polls e.streams i);
   })
 
   -- ---- frames
@@ -163,5 +164,6 @@ module _ (P : StreamsState → Type 0) (q : IsQuiet P) where
       go (new_connection_id g) brings resets = apart_leaves (λ (x : End). P x.streams) (new_connection_id g) e tt (λ c. i) (λ c most. i)
       go (retire_connection_id n) brings resets = apart_leaves (λ (x : End). P x.streams) (retire_connection_id n) e tt (λ c. i) (λ c most. i)
       go (path_response token) brings resets = apart_leaves (λ (x : End). P x.streams) (path_response token) e tt (λ c. i) (λ c most. i)
+      go handshake_done brings resets = apart_leaves (λ (x : End). P x.streams) handshake_done e tt (λ c. i) (λ c most. i)
       go (ack_frequency r) brings resets = apart_leaves (λ (x : End). P x.streams) (ack_frequency r) e tt (λ c. i) (λ c most. i)
       go other brings resets = i

@@ -7,7 +7,7 @@ use Rattle.std.specs.declared.ops.Range.{Range}
 use Rattle.std.proofs.lemmas.Bool.{and_parts, ltb-true}
 use Rattle.quic_wire_core.specs.TransportError.{ErrorValue}
 use Rattle.quic_wire_core.specs.declared.shared.IssuedCid.{IssuedCid}
-use Rattle.quic_wire.specs.Value.{FrameValue, ack, stream, reset_stream, stop_sending, max_data, max_stream_data, max_streams, datagram, new_connection_id, retire_connection_id, path_response, ack_frequency}
+use Rattle.quic_wire.specs.Value.{FrameValue, ack, stream, reset_stream, stop_sending, max_data, max_stream_data, max_streams, datagram, new_connection_id, retire_connection_id, path_response, handshake_done, ack_frequency}
 use Rattle.quic_wire.specs.Writing.{Fits}
 use Rattle.quic_ids.specs.CidState.{OwnIds, is_wrong, without, after_retirement, retirement_answer}
 use Rattle.quic_ids.specs.CidQueue.{kept_ids, insert_answer}
@@ -31,7 +31,7 @@ use Rattle.quic_headline.proofs.Places.Told.{in_append}
 use Rattle.quic_headline.proofs.Halves.Small.{IsSmallNumber}
 use Rattle.quic_headline.proofs.Halves.KnownIds.{AreWritten, range_in, range_below, retires_written, next_retires_written}
 use Rattle.quic_headline.proofs.Halves.Pile.{NothingElse}
-use Rattle.quic_headline.proofs.Packets.Apart.{by_frequency}
+use Rattle.quic_headline.proofs.Packets.Apart.{by_frequency, by_heard_done}
 
 -- ---- lists
 
@@ -197,6 +197,7 @@ apart_else (path_response token) e apart small w n = go (is_asked e.validation.c
     go : (b : Bool) → NothingElse (validated_if b e).waiting.frames
     go true = n
     go false = n
+apart_else handshake_done e apart small w n = by_heard_done (λ (x : End). NothingElse x.waiting.frames) e n (λ c. n)
 apart_else (ack_frequency r) e apart small w n = by_frequency (λ (x : End). NothingElse x.waiting.frames) r e (λ threshold reordering frequency. n)
 apart_else f e apart small w n = n
 

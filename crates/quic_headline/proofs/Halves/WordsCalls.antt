@@ -11,7 +11,7 @@ use Rattle.quic_machine.specs.Calls.{is_open}
 use Rattle.quic_machine.specs.StreamCalls.{is_on_streams}
 use Rattle.quic_machine.specs.Poll.{polled}
 use Rattle.quic_machine.specs.Machine.{after_call, AnswersOnStreams, end_on_streams, IsAnswer}
-use Rattle.quic_machine.specs.CallCases.{is_delivery, by_call}
+use Rattle.quic_machine.specs.CallCases.{is_delivery, by_call, by_done}
 use Rattle.quic_machine.specs.LeaveCases.{by_expired, by_event}
 use Rattle.quic_send_buffer.specs.declared.stream_meta.StreamMeta.{StreamMeta}
 use Rattle.quic_streams_parts.specs.Table.{Table}
@@ -46,6 +46,7 @@ call_on_is p e theirs calls.Recv a on = cc
 call_on_is p e theirs calls.Ping a on = cc
 call_on_is p e theirs (calls.Close close) a on = cc
 call_on_is p e theirs calls.UseNextId a on = cc
+call_on_is p e theirs calls.HandshakeDone a on = cc
 call_on_is p e theirs calls.State a on = cc
 call_on_is p e theirs (calls.Poll now) a on = cc
 call_on_is p e theirs (calls.Timeout now) a on = cc
@@ -85,8 +86,9 @@ module _ (F : (ℕ → Wrote) → StreamsState → Type 0) (words : Words F) whe
         closes = λ reason f now own. i;
         waits = λ now b set. by_waits (λ (f : End). F w f.streams) b (with_closing e (ticked e.closing now)) i i;
         changes_id = λ uses answer. by_next_id (λ (f : End). F w f.streams) e a i (λ c. i) (λ c most. i);
+        says_handshake = λ says answer. by_done (λ (f : End). F w f.streams) e a i i;
         times = λ now expiry set. by_expired p.words e now (λ (f : End). F w f.streams) (λ pending tracking timers waits asked runs packets. i) (λ pending timers waits asked runs. expiry_stays (λ (t : Streams). F w t.state) e now (losing w e.tracking.packets ends) i pending timers waits asked) (λ x j. j) expiry;
         polls = λ now set. poll_keeps p w e now i;
         hears = λ arrival d set. cc;
-        tells = λ asks. by_event e (λ (f : End). F w f.streams) i (λ told. words.polls w e.streams i);
+        tells = λ asks. by_event e (λ (f : End). F w f.streams) i i (λ told. words.polls w e.streams i);
       }))

@@ -28,7 +28,7 @@ use Rattle.quic_machine.specs.Poll.{polled}
 use Rattle.quic_machine.specs.PollCases.{ready_at, draft_at, frames_at, may_leave_at}
 use Rattle.quic_machine.specs.StreamCalls.{is_on_streams, IsStreamAnswer, after_on_streams}
 use Rattle.quic_machine.specs.Machine.{IsAnswer, after_call, gave}
-use Rattle.quic_machine.specs.CallCases.{is_delivery, by_call}
+use Rattle.quic_machine.specs.CallCases.{is_delivery, by_call, by_done}
 use Rattle.quic_machine.specs.LeaveCases.{by_expired, by_event}
 use Rattle.quic_headline.specs.Runs.{Told, Intake, Packet, In}
 use Rattle.quic_headline.specs.Observer.{Sent}
@@ -91,6 +91,7 @@ on_answer p e theirs calls.Recv a on is = cc
 on_answer p e theirs calls.Ping a on is = cc
 on_answer p e theirs (calls.Close close) a on is = cc
 on_answer p e theirs calls.UseNextId a on is = cc
+on_answer p e theirs calls.HandshakeDone a on is = cc
 on_answer p e theirs calls.State a on is = cc
 on_answer p e theirs (calls.Poll now) a on is = cc
 on_answer p e theirs (calls.Timeout now) a on is = cc
@@ -137,6 +138,7 @@ module _ (p : Policy) (e : End) (theirs : List (List ℕ)) (done : ℕ → Wrote
       by_on calls.Ping a on left = cc
       by_on (calls.Close close) a on left = cc
       by_on calls.UseNextId a on left = cc
+      by_on calls.HandshakeDone a on left = cc
       by_on calls.State a on left = cc
       by_on (calls.Poll now) a on left = cc
       by_on (calls.Timeout now) a on left = cc
@@ -154,10 +156,11 @@ module _ (p : Policy) (e : End) (theirs : List (List ℕ)) (done : ℕ → Wrote
     closes = λ reason f now own. w;
     waits = λ now b set. by_waits (λ (f : End). Writes done (streams_at f)) b (with_closing e (ticked e.closing now)) w w;
     changes_id = λ uses answer. by_next_id (λ (f : End). Writes done (streams_at f)) e a w (λ c. record { keeps = w.keeps; waits = w.waits }) (λ c most. record { keeps = w.keeps; waits = w.waits });
+    says_handshake = λ says answer. by_done (λ (f : End). Writes done (streams_at f)) e a w (record { keeps = w.keeps; waits = w.waits });
     times = λ now expiry set. by_expired p.words e now (λ (f : End). Writes done (streams_at f)) (λ pending tracking timers waits asked runs packets. w) (λ pending timers waits asked runs. expiry_stays (Writes done) e now (losing says) w pending timers waits asked) (λ x j. j) expiry;
     polls = λ now set. poll_writes says now;
     hears = λ arrival d set. absurd (off_streams (is_delivery call) apart set);
-    tells = λ asks. by_event e (λ (f : End). Writes done (streams_at f)) w (λ told. record { keeps = by_polled (Keeping done) (keeping_kept done) e.streams w.keeps; waits = w.waits });
+    tells = λ asks. by_event e (λ (f : End). Writes done (streams_at f)) w w (λ told. record { keeps = by_polled (Keeping done) (keeping_kept done) e.streams w.keeps; waits = w.waits });
   }))
 
   -- what was done only grows

@@ -28,7 +28,7 @@ use Rattle.quic_machine.specs.Sizes.{is_resized, after_lost, search_acked, searc
 use Rattle.quic_machine.specs.MessageCalls.{most_message}
 use Rattle.quic_machine.specs.Machine.{after_call}
 use Rattle.quic_machine.specs.LeaveCases.{by_event}
-use Rattle.quic_machine.specs.CallCases.{is_delivery, by_call}
+use Rattle.quic_machine.specs.CallCases.{is_delivery, by_call, by_done}
 use Rattle.quic_machine.specs.Closing.{ticked}
 use Rattle.quic_headline.proofs.Packets.Apart.{by_waits}
 use Rattle.quic_congestion.specs.SearchBounds.{IsSized}
@@ -196,9 +196,10 @@ bounded_call p e theirs call a apart k behind i = by_call p e theirs (λ (x : En
   closes = λ reason f now own. i;
   waits = λ now b set. by_waits (λ (x : End). AreBounded (sizing x)) b (with_closing e (ticked e.closing now)) i i;
   changes_id = λ uses answer. subst AreBounded (sym (next_same e a k)) i;
+  says_handshake = λ says answer. by_done (λ (x : End). AreBounded (sizing x)) e a i i;
   polls = λ now set. cc;
   hears = λ arrival d set. cc;
-  tells = λ asks. by_event e (λ (x : End). AreBounded (sizing x)) i (λ was_told. i);
+  tells = λ asks. by_event e (λ (x : End). AreBounded (sizing x)) i i (λ was_told. i);
 })
   where
     taken : TakesSized (Some (bound (sizing e))) e

@@ -20,7 +20,7 @@ use Rattle.quic_machine.specs.Sizes.{is_resized, after_lost, search_acked, searc
 use Rattle.quic_machine.specs.MessageCalls.{is_on_messages, most_message}
 use Rattle.quic_machine.specs.Machine.{after_call}
 use Rattle.quic_machine.specs.LeaveCases.{by_event}
-use Rattle.quic_machine.specs.CallCases.{is_poll, is_delivery, by_call}
+use Rattle.quic_machine.specs.CallCases.{is_poll, is_delivery, by_call, by_done}
 use Rattle.quic_machine.specs.Receive.{Outcome}
 use Rattle.quic_wire.specs.Value.{FrameValue}
 use Rattle.quic_headline.specs.Runs.{Intake}
@@ -158,9 +158,10 @@ quiet_drops p e theirs call a unpolled apart off known sized = by_call p e their
   closes = λ reason f now own. same;
   waits = λ now b set. by_waits (λ (x : End). Drops s (sizing x)) b (with_closing e (ticked e.closing now)) same same;
   changes_id = λ uses answer. subst (Drops s) (sym (next_same e a known)) same;
+  says_handshake = λ says answer. by_done (λ (x : End). Drops s (sizing x)) e a same same;
   polls = λ now set. (let clash : true ≡ false = sym set ∙ unpolled in cc);
   hears = λ arrival d set. (let clash : true ≡ false = sym set ∙ apart in cc);
-  tells = λ asks. by_event e (λ (x : End). Drops s (sizing x)) same (λ told. same);
+  tells = λ asks. by_event e (λ (x : End). Drops s (sizing x)) same same (λ told. same);
 })
   where
     s : Sizing

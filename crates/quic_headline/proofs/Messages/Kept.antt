@@ -1,7 +1,7 @@
 -- What leaves the messages of an end as they were: all frames but DATAGRAM, and all calls but
 -- polls, deliveries and those on messages.
 use Rattle.std.proofs.Common.{◌≡◌, ℕ, Bool, true, false, List, Result, Ok, Err, refl}
-use Rattle.quic_wire.specs.Value.{FrameValue, ack, datagram, new_connection_id, retire_connection_id, path_response, ack_frequency}
+use Rattle.quic_wire.specs.Value.{FrameValue, ack, datagram, new_connection_id, retire_connection_id, path_response, handshake_done, ack_frequency}
 use Rattle.quic_messages.specs.declared.errors.ReceivedError.{ReceivedError}
 use Rattle.quic_messages.specs.Messages.{Messages, without_longer, received_answer, after_received}
 use Rattle.quic_machine.specs.declared.run.Call.{Call}
@@ -15,7 +15,7 @@ use Rattle.quic_machine.specs.Machine.{after_call}
 use Rattle.quic_machine.specs.FrameCases.{Settling, losses_keep, named, ack_taken, acked_keeps, apart_leaves}
 use Rattle.quic_machine.specs.Steps as steps
 use Rattle.quic_machine.specs.LeaveCases.{by_expired, by_event}
-use Rattle.quic_machine.specs.CallCases.{is_delivery, is_poll, by_call}
+use Rattle.quic_machine.specs.CallCases.{is_delivery, is_poll, by_call, by_done}
 use Rattle.quic_headline.proofs.Packets.Apart.{by_waits, by_next_id}
 
 module _ (P : Messages → Type 0) (drops : (most : ℕ) (q : Messages) → P q → P (without_longer most q)) where
@@ -39,6 +39,7 @@ module _ (P : Messages → Type 0) (drops : (most : ℕ) (q : Messages) → P q 
   frame_messages (new_connection_id f) e same takes = apart_leaves (λ (x : End). P x.messages.queues) (new_connection_id f) e tt (λ c. same) (λ c most. drops most e.messages.queues same)
   frame_messages (retire_connection_id n) e same takes = apart_leaves (λ (x : End). P x.messages.queues) (retire_connection_id n) e tt (λ c. same) (λ c most. drops most e.messages.queues same)
   frame_messages (path_response token) e same takes = apart_leaves (λ (x : End). P x.messages.queues) (path_response token) e tt (λ c. same) (λ c most. drops most e.messages.queues same)
+  frame_messages handshake_done e same takes = apart_leaves (λ (x : End). P x.messages.queues) handshake_done e tt (λ c. same) (λ c most. drops most e.messages.queues same)
   frame_messages (ack_frequency r) e same takes = apart_leaves (λ (x : End). P x.messages.queues) (ack_frequency r) e tt (λ c. same) (λ c most. drops most e.messages.queues same)
   frame_messages f e same takes = same
 
@@ -53,7 +54,8 @@ module _ (P : Messages → Type 0) (drops : (most : ℕ) (q : Messages) → P q 
     closes = λ reason f now own. same;
     waits = λ now b set. by_waits (λ (f : End). P f.messages.queues) b (with_closing e (ticked e.closing now)) same same;
     changes_id = λ uses answer. by_next_id (λ (f : End). P f.messages.queues) e a same (λ c. same) (λ c most. drops most e.messages.queues same);
+    says_handshake = λ says answer. by_done (λ (f : End). P f.messages.queues) e a same same;
     polls = λ now set. cc;
     hears = λ arrival d set. cc;
-    tells = λ asks. by_event e (λ (f : End). P f.messages.queues) same (λ told. same);
+    tells = λ asks. by_event e (λ (f : End). P f.messages.queues) same same (λ told. same);
   })

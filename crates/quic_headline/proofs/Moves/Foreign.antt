@@ -72,7 +72,7 @@ module _ (r : Run) (end : World) (honest : IsHonest r) (side : Side) (i : ℕ) (
       ∙ go side refl
     where
       go : (s : Side) → side ≡ s → (is_client s && not (remote == (watch_of here there).route.address)) ≡ takes_nothing_from r s remote
-      go Client is = ap (λ (route : Route). not (remote == route.address)) (client_stays (lens here there) here.told (first_watch here.final here.began here.made.path.remote here.initial_rtt here.initial_delay) (ap serves is)) ∙ ap (λ (x : Side). not (remote == (end_at x r.start).path.remote)) is
+      go Client is = ap (λ (route : Route). not (remote == route.address)) (client_stays (lens here there) here.told (first_watch here.final here.began here.made.path.remote here.first_rtt here.initial_delay) (ap serves is)) ∙ ap (λ (x : Side). not (remote == (end_at x r.start).path.remote)) is
       go Server is = refl
 
   -- an injection is answered by the ids that the end has, and by the number that the lists say

@@ -108,6 +108,7 @@ module _ (s : State) (packets : List Packet) (used : ℕ) where
   others_use p e theirs calls.State a other is = subst Same (sym is) refl
   others_use p e theirs (calls.Close close) a other is = subst Same (sym is) refl
   others_use p e theirs calls.UseNextId a other is = cc
+  others_use p e theirs calls.HandshakeDone a other is = subst Same (sym is) refl
   others_use p e theirs (calls.Send message makes_room) a other is = either_uses a _ _ refl refl is
   others_use p e theirs calls.Recv a other is = subst Same (sym is) refl
   others_use p e theirs call a other is = streams_use (is_open e.closing.state) e.streams call a is

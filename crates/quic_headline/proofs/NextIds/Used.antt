@@ -154,7 +154,7 @@ module _ (r : Run) (end : World) (honest : IsHonest r) (run : IsRun r end) (side
 
     -- what the observer knows that was taken
     took_is_so : took r side (suc i) ≡ packets
-    took_is_so = ap (λ (v : Watch). v.intake.took) h.seen_behind ∙ ap (λ (j : Intake). j.took) (watched_intake (lens x y) after.told (first_watch x.final x.began x.made.path.remote x.initial_rtt x.initial_delay))
+    took_is_so = ap (λ (v : Watch). v.intake.took) h.seen_behind ∙ ap (λ (j : Intake). j.took) (watched_intake (lens x y) after.told (first_watch x.final x.began x.made.path.remote x.first_rtt x.initial_delay))
 
     -- what is used behind the call
     next_is_so : in_use r stays side (suc i) ≡ used_on (path_changes r side i) (stays (generation_at r side (suc i))) packets (used_behind a (state_at r side i) packets number)

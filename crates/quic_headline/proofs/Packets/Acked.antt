@@ -62,13 +62,13 @@ module _ (x y : Party) where
   seen = watch_of x y
 
   seen_intake : seen.intake ≡ came_to x y
-  seen_intake = watched_intake (lens x y) x.told (first_watch x.final x.began x.made.path.remote x.initial_rtt x.initial_delay)
+  seen_intake = watched_intake (lens x y) x.told (first_watch x.final x.began x.made.path.remote x.first_rtt x.initial_delay)
 
   -- behind a call
   pub acks_behind : (call : Call) (a : Answer) → acks (called x y.given call a) y ≡ acked_with x.terms x.end.closing.state call seen (came_to (called x y.given call a) y)
   acks_behind call a =
       let t : Told = told_of call a x.end.closing.state in
-      ap (λ (w : Watch). w.flight.acked) (folded_more (watch_told (lens x y)) x.told t (first_watch x.final x.began x.made.path.remote x.initial_rtt x.initial_delay))
+      ap (λ (w : Watch). w.flight.acked) (folded_more (watch_told (lens x y)) x.told t (first_watch x.final x.began x.made.path.remote x.first_rtt x.initial_delay))
       ∙ given_acked (gave a) (lens x y) (timed_with (lens x y) t seen)
       ∙ moment_acked (is_timely t.state call) x.terms (came_with (lens x y) t seen)
       ∙ ap (λ (i : Intake). acked_with x.terms x.end.closing.state call seen i) (ap (λ (i : Intake). and_told x.policy y.final t i) seen_intake ∙ sym (came_more x y call a))

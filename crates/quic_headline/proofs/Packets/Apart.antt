@@ -5,7 +5,9 @@ use Rattle.std.proofs.Math.Bool.{or-false}
 use Rattle.std.proofs.lemmas.Bool.{or_left, or_right}
 use Rattle.std.specs.declared.ops.Range.{Range}
 use Rattle.quic_wire_core.specs.TransportError.{ErrorValue}
-use Rattle.quic_wire.specs.Value.{FrameValue, ack, stream, reset_stream, stop_sending, max_data, max_stream_data, max_streams, datagram, path_response, new_connection_id, retire_connection_id, immediate_ack, AckFrequencyValue, ack_frequency}
+use Rattle.quic_wire_core.specs.declared.stream_id.Side.{Side}
+use Rattle.quic_wire_core.specs.declared.stream_id.Side.TheVariants.{Client, Server}
+use Rattle.quic_wire.specs.Value.{FrameValue, ack, stream, reset_stream, stop_sending, max_data, max_stream_data, max_streams, datagram, path_response, handshake_done, new_connection_id, retire_connection_id, immediate_ack, AckFrequencyValue, ack_frequency}
 use Rattle.quic_ids.specs.CidState.{retirement_answer}
 use Rattle.quic_ids.specs.CidQueue.{insert_answer}
 use Rattle.quic_ids.specs.declared.cid_queue.InsertError.{InsertError}
@@ -23,9 +25,10 @@ use Rattle.quic_machine.specs.Timeouts.{close_expired}
 use Rattle.quic_machine.specs.Ids.{destination, frame_of, retires_for, retired, retires_for_next, next_used}
 use Rattle.quic_machine.specs.IdFrames.{retiring, with_taken_up, issued_if, issues_for, next_id_taken, end_on_next_id}
 use Rattle.quic_machine.specs.Validation.{word_of, validated_if}
-use Rattle.quic_machine.specs.End.{End, with_ids, with_queued}
+use Rattle.quic_machine.specs.Parts.{Confirmation, heard_done}
+use Rattle.quic_machine.specs.End.{End, side_of, with_ids, with_confirmation, with_queued}
 use Rattle.quic_machine.specs.FrameCases.{IsApart, Apart, with_apart, ids_changed}
-use Rattle.quic_machine.specs.Receive.{retired_for, id_judged, retirement_judged, take_frame, asks_too_soon, frequency_judged}
+use Rattle.quic_machine.specs.Receive.{retired_for, id_judged, retirement_judged, take_frame, asks_too_soon, frequency_judged, done_taken}
 use Rattle.quic_recovery_core.specs.PendingAcks.{Pending}
 use Rattle.quic_recovery_core.specs.declared.ack_frequency.Request.{Request}
 use Rattle.quic_recovery_core.specs.AckFrequency.{Frequency, micros, asked, longest_delay, is_stale}
@@ -50,6 +53,15 @@ by_frequency P f e each = go (is_stale e.frequency.last f.sequence) (asks_too_so
     go true soon = each e.acknowledging.threshold e.acknowledging.reordering e.frequency
     go false true = each e.acknowledging.threshold e.acknowledging.reordering (record e.frequency { last = Some f.sequence })
     go false false = each f.threshold f.reordering (record e.frequency { last = Some f.sequence; own_delay = micros f.delay })
+
+-- what holds of an end, however its handshake is confirmed, holds behind HANDSHAKE_DONE, taken or
+-- refused
+pub by_heard_done : (P : End → Type 0) (e : End) → P e → ((c : Confirmation) → P (with_confirmation e c)) → P (take_frame handshake_done e).end
+by_heard_done P e here heard = go (side_of e)
+  where
+    go : (side : Side) → P (done_taken side e).end
+    go Client = heard (heard_done e.confirmation)
+    go Server = here
 
 -- Of what is to be acknowledged nothing is other but how often, and whether at once, if it wasn't
 -- to be before.
@@ -104,6 +116,7 @@ apart_asks (path_response token) e apart = go (is_asked e.validation.challenge (
     go : (b : Bool) → AsksThen false e.acknowledging (validated_if b e).acknowledging
     go true = anew_same _ _ refl
     go false = anew_same _ _ refl
+apart_asks handshake_done e apart = by_heard_done (λ (x : End). AsksThen false e.acknowledging x.acknowledging) e (anew_same _ _ refl) (λ c. anew_same _ _ refl)
 apart_asks immediate_ack e apart = record { others = refl; due = sym (or_right e.acknowledging.due true refl) }
 apart_asks (ack_frequency f) e apart = by_frequency (λ (x : End). AsksThen false e.acknowledging x.acknowledging) f e (λ threshold reordering frequency. record { others = refl; due = sym (or-false e.acknowledging.due) })
 apart_asks f e apart = anew_same _ _ refl
@@ -166,6 +179,7 @@ apart_frequency (path_response token) e apart = go (is_asked e.validation.challe
     go : (b : Bool) → AsksOn e.frequency (validated_if b e).frequency
     go true = record { in_flight = refl; next = refl; peer_delay = refl }
     go false = record { in_flight = refl; next = refl; peer_delay = refl }
+apart_frequency handshake_done e apart = by_heard_done (λ (x : End). AsksOn e.frequency x.frequency) e (record { in_flight = refl; next = refl; peer_delay = refl }) (λ c. record { in_flight = refl; next = refl; peer_delay = refl })
 apart_frequency (ack_frequency f) e apart = go (is_stale e.frequency.last f.sequence) (asks_too_soon f)
   where
     go : (stale soon : Bool) → AsksOn e.frequency (frequency_judged stale soon f e).end.frequency

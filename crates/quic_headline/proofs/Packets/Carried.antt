@@ -6,13 +6,13 @@ use Rattle.std.specs.List.{list_any, fold}
 use Rattle.std.proofs.Math.Bool.{or-true, or-false}
 use Rattle.std.proofs.lemmas.List.{append_assoc, append-nil}
 use Rattle.quic_wire_core.specs.declared.shared.IssuedCid.{IssuedCid}
-use Rattle.quic_wire.specs.Value.{FrameValue, StopSendingValue, ack, stream, reset_stream, stop_sending, max_data, max_stream_data, max_streams, data_blocked, stream_data_blocked, new_connection_id, retire_connection_id, ack_frequency, padding}
+use Rattle.quic_wire.specs.Value.{FrameValue, StopSendingValue, ack, stream, handshake_done, reset_stream, stop_sending, max_data, max_stream_data, max_streams, data_blocked, stream_data_blocked, new_connection_id, retire_connection_id, ack_frequency, padding}
 use Rattle.quic_send_buffer.specs.declared.stream_meta.StreamMeta.{StreamMeta}
 use Rattle.quic_streams_parts.specs.SendHalf.{meta_of}
 use Rattle.quic_streams_parts.specs.Dirs.{Flags, with_of}
 use Rattle.quic_retransmits.specs.Retransmits.{Retransmits, nothing_waits, with_ids}
 use Rattle.quic_machine.specs.Tracking.{acked_in, streams_in, dir_named, and_again, retransmits_in, carried_in}
-use Rattle.quic_headline.specs.InFlight.{offsets_in, all_offsets, first_acknowledged, is_max_data, is_data_blocked, is_ack_frequency, is_max_streams, resets_in, stops_in, limits_in, blocked_in, new_ids_in, retirements_in, again_in, carried_by}
+use Rattle.quic_headline.specs.InFlight.{offsets_in, all_offsets, first_acknowledged, is_handshake_done, is_max_data, is_data_blocked, is_ack_frequency, is_max_streams, resets_in, stops_in, limits_in, blocked_in, new_ids_in, retirements_in, again_in, carried_by}
 
 -- the offsets that stand in frames are what the machine carries of them
 offsets_same : (fs : List FrameValue) → all_offsets fs ≡ streams_in fs
@@ -35,6 +35,7 @@ flags_from flags fs = record { bi = flags.bi || list_any (is_max_streams false) 
 -- what has to be sent again, with what more frames say
 abbrev again_from : Retransmits → List FrameValue → Retransmits
 again_from r fs = record r {
+  handshake_done = r.handshake_done || list_any is_handshake_done fs;
   max_data = r.max_data || list_any is_max_data fs;
   data_blocked = r.data_blocked || list_any is_data_blocked fs;
   max_stream_id = flags_from r.max_stream_id fs;
@@ -63,7 +64,8 @@ flags_more false flags more = ap (λ (b : Bool). record { bi = b; uni = flags.un
 
 -- what frames say one behind another is what they say kind by kind
 again_same : (r : Retransmits) (fs : List FrameValue) → fold and_again r fs ≡ again_from r fs
-again_same r [] = rw (append-nil r.reset_stream, append-nil r.stop_sending, or-false r.max_data, or-false r.data_blocked, or-false r.max_stream_id.bi, or-false r.max_stream_id.uni, append-nil r.new_cids, append-nil r.retire_cids, or-false r.ack_frequency) refl
+again_same r [] = rw (or-false r.handshake_done, append-nil r.reset_stream, append-nil r.stop_sending, or-false r.max_data, or-false r.data_blocked, or-false r.max_stream_id.bi, or-false r.max_stream_id.uni, append-nil r.new_cids, append-nil r.retire_cids, or-false r.ack_frequency) refl
+again_same r (handshake_done ∷ fs) = again_same (and_again r handshake_done) fs ∙ ap (λ (b : Bool). record (again_from r fs) { handshake_done = b }) (set_flag r.handshake_done (list_any is_handshake_done fs))
 again_same r (reset_stream f ∷ fs) = again_same (and_again r (reset_stream f)) fs ∙ ap (λ (rs : List (ℕ × ℕ)). record (again_from r fs) { reset_stream = rs }) (one_between r.reset_stream (f.id, f.code) (resets_in fs))
 again_same r (stop_sending f ∷ fs) = again_same (and_again r (stop_sending f)) fs ∙ ap (λ (ss : List StopSendingValue). record (again_from r fs) { stop_sending = ss }) (one_between r.stop_sending f (stops_in fs))
 again_same r (max_data limit ∷ fs) = again_same (and_again r (max_data limit)) fs ∙ ap (λ (b : Bool). record (again_from r fs) { max_data = b }) (set_flag r.max_data (list_any is_max_data fs))

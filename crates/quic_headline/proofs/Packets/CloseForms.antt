@@ -35,7 +35,7 @@ use Rattle.quic_machine.specs.Closing.{Closing, ticked, close_owed}
 use Rattle.quic_machine.specs.Ids.{frame_of, retires_for}
 use Rattle.quic_machine.specs.Calls.{closed_in}
 use Rattle.quic_machine.specs.End.{End, side_of, number_of, with_closing, closed_by}
-use Rattle.quic_machine.specs.Receive.{Fault, Outcome, reason_of, fault_of, fault_at, names_ungiven, message_judged, retired_for, id_judged, retirement_judged, take_frame, unless_fault, take_items, asks_too_soon, frequency_judged}
+use Rattle.quic_machine.specs.Receive.{Fault, Outcome, reason_of, fault_of, fault_at, names_ungiven, message_judged, retired_for, id_judged, retirement_judged, take_frame, unless_fault, take_items, asks_too_soon, frequency_judged, done_taken}
 use Rattle.quic_machine.specs.Poll.{Polled, close_room, close_with, longest_fitting, fitted, may_seal, bounds, can_close, may_close, close_to_go, polled}
 use Rattle.quic_machine.specs.PollCases.{by_poll, at_poll, composes}
 use Rattle.quic_machine.specs.DraftLaws.{IsClose, HasRoom, close_most}
@@ -44,7 +44,7 @@ use Rattle.quic_machine.specs.Steps as steps
 use Rattle.quic_machine.specs.InjectionCases.{by_injection}
 use Rattle.quic_machine.specs.LeaveCases.{by_expired, by_expiry, by_event}
 use Rattle.quic_machine.specs.Machine.{says_last, after_call}
-use Rattle.quic_machine.specs.CallCases.{is_delivery}
+use Rattle.quic_machine.specs.CallCases.{is_delivery, by_done}
 use Rattle.quic_headline.specs.Runs.{Intake}
 use Rattle.quic_headline.specs.Headline.{CodeIsSmall}
 use Rattle.quic_headline.proofs.Packets.Apart.{by_waits, by_next_id}
@@ -205,7 +205,11 @@ frame_small (application_close c) e = omega arith
 frame_small (path_challenge token) e = tt
 frame_small (path_response token) e = tt
 frame_small (new_token t) e = side_small (side_of e)
-frame_small handshake_done e = side_small (side_of e)
+frame_small handshake_done e = go (side_of e)
+  where
+    go : (side : Side) → SmallFault (done_taken side e).fault
+    go Client = tt
+    go Server = omega arith
 frame_small (new_connection_id f) e = judged (retires_for (insert_answer e.ids.peer (frame_of f)))
   where
     retires : (b : Bool) (r : Range ℕ) → SmallFault (retired_for b r f e).fault
@@ -304,11 +308,12 @@ owed_call p e theirs (calls.Close close) a small apart i = go e.closing.state
     go states.Drained f is = i f is
     go states.Failed f is = i f is
 owed_call p e theirs calls.UseNextId a small apart i = by_next_id OwesWell e a i (λ c. i) (λ c most. i)
+owed_call p e theirs calls.HandshakeDone a small apart i = by_done OwesWell e a i i
 owed_call p e theirs (calls.Poll now) a small apart i = polled_owes p e now i
 owed_call p e theirs (calls.Timeout now) a small apart i = by_expiry p e now OwesWell i
     (λ b. by_waits OwesWell b (with_closing e (ticked e.closing now)) (λ f is. cc) i)
     (by_expired p.words e now OwesWell (λ acks tracking timers waits asked runs packets. i) (λ acks timers waits asked runs. losses_keep OwesWell settles (with_closing e (ticked e.closing now)) i) (λ x j. j))
 owed_call p e theirs (calls.Deliver delivery) a small apart i = cc
 owed_call p e theirs (calls.Inject injection) a small apart i = by_injection p e (says_last a) injection OwesWell i (λ now. error_well reasons.KeyLimit (with_closing e (ticked e.closing now)) (omega arith))
-owed_call p e theirs calls.Event a small apart i = by_event e OwesWell i (λ told. i)
+owed_call p e theirs calls.Event a small apart i = by_event e OwesWell i i (λ told. i)
 owed_call p e theirs call a small apart i = i

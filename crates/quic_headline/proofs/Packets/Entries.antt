@@ -15,7 +15,7 @@ HasKind None = ⊥
 HasKind (Some kind) = Unit {0}
 
 -- a frame that asks for an acknowledgement, and has no byte of a stream (RFC 9000, sections 19.4,
--- 19.5 and 19.9 to 19.13)
+-- 19.5, 19.9 to 19.13, 19.15, 19.16 and 19.20)
 abbrev pub IsControl : FrameValue → Type 0
 IsControl f = HasKind (kind_of f)
 

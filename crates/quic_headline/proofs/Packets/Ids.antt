@@ -7,7 +7,7 @@ use Rattle.std.specs.Option.{is_some}
 use Rattle.std.specs.declared.ops.Range.{Range}
 use Rattle.quic_wire_core.specs.TransportError.{ErrorValue}
 use Rattle.quic_wire_core.specs.declared.shared.IssuedCid.{IssuedCid}
-use Rattle.quic_wire.specs.Value.{FrameValue, AckValue, ack, stream, reset_stream, stop_sending, max_data, max_stream_data, max_streams, datagram, path_response, new_connection_id, retire_connection_id, padding, ack_frequency}
+use Rattle.quic_wire.specs.Value.{FrameValue, AckValue, ack, stream, reset_stream, stop_sending, max_data, max_stream_data, max_streams, datagram, path_response, handshake_done, new_connection_id, retire_connection_id, padding, ack_frequency}
 use Rattle.quic_wire.specs.declared.frame.NewConnectionId.{NewConnectionId}
 use Rattle.quic_ids.specs.CidState.{retirement_answer}
 use Rattle.quic_ids.specs.CidQueue.{PeerIds, with_cid, known_with, first_used, exceeds, retires_active, left_by, after_accepted, after_insert, after_next, insert_answer, from, brought}
@@ -36,7 +36,7 @@ use Rattle.quic_machine.specs.declared.run.Answer.TheVariants as answers
 use Rattle.quic_machine.specs.Policy.{Policy}
 use Rattle.quic_machine.specs.Calls.{is_open, after_nexts}
 use Rattle.quic_machine.specs.StreamCalls.{after_on_streams}
-use Rattle.quic_machine.specs.CallCases.{is_delivery, uses_next_id, by_call}
+use Rattle.quic_machine.specs.CallCases.{is_delivery, uses_next_id, by_call, by_done}
 use Rattle.quic_machine.specs.LeaveCases.{by_expired, by_event}
 use Rattle.quic_machine.specs.Machine.{IsAnswer, after_call, fails, gave}
 use Rattle.quic_machine.specs.Closing.{ticked}
@@ -64,7 +64,7 @@ use Rattle.quic_headline.proofs.Packets.Invariant.{IsCarriedFrom, AreTracked, ca
 use Rattle.quic_headline.proofs.Packets.Closes.{by_closes}
 use Rattle.quic_headline.proofs.Packets.Owing.{Owes, sent_fine}
 use Rattle.quic_headline.proofs.Places.Steps.{poll_answer}
-use Rattle.quic_headline.proofs.Packets.Apart.{by_waits, by_frequency}
+use Rattle.quic_headline.proofs.Packets.Apart.{by_waits, by_frequency, by_heard_done}
 use Rattle.quic_headline.proofs.Packets.OfPeer.{peer_settles, peer_frame, peer_call}
 use Rattle.quic_headline.proofs.Packets.Probes.{by_ready, by_going}
 use Rattle.quic_headline.proofs.Packets.Delivered.{Arrivals, arrived}
@@ -342,6 +342,7 @@ apart_long (path_response token) e apart says i = go (is_asked e.validation.chal
     go : (b : Bool) → LongIds (validated_if b e)
     go true = record { waits = i.waits; peer = i.peer }
     go false = i
+apart_long handshake_done e apart says i = by_heard_done LongIds e i (λ c. record { waits = i.waits; peer = i.peer })
 apart_long (ack_frequency r) e apart says i = by_frequency LongIds r e (λ threshold reordering frequency. record { waits = i.waits; peer = i.peer })
 apart_long f e apart says i = record { waits = i.waits; peer = i.peer }
 
@@ -448,12 +449,13 @@ call_waits C R p e theirs call a sents apart say tracked next w = by_call p e th
   closes = λ reason f now own. w;
   waits = λ now b set. by_waits (λ (x : End). Waits C R x.waiting.frames) b (with_closing e (ticked e.closing now)) w w;
   changes_id = λ uses answer. next uses;
+  says_handshake = λ says answer. by_done (λ (x : End). Waits C R x.waiting.frames) e a w (record { tells = w.tells; retires = w.retires });
   times = λ now expiry set. by_expired p.words e now (λ (x : End). Waits C R x.waiting.frames) (λ pending tracking timers waits asked runs packets. w)
       (λ pending timers waits asked runs. expired_on [] sents (λ (x : End). Waits C R x.waiting.frames) (steps_wait C R [] sents say) e now (λ c x i. i) (λ acks timers waits asked x i. i) tracked w pending timers waits asked)
       (λ x j. j) expiry;
   polls = λ now set. polled_waits C R e now sents say tracked w p;
   hears = λ arrival d set. (let clash : false ≡ true = sym apart ∙ set in cc);
-  tells = λ asks. by_event e (λ (x : End). Waits C R x.waiting.frames) w (λ told. w);
+  tells = λ asks. by_event e (λ (x : End). Waits C R x.waiting.frames) w w (λ told. w);
 })
 
 -- what a call sends says so

@@ -3,7 +3,7 @@
 use Rattle.std.proofs.Common.{◌≡◌, ℕ, Bool, true, false, List, Option, Some, None, Result, Ok, Err, refl, sym, ◌∙◌, subst}
 use Rattle.std.specs.declared.ops.Range.{Range}
 use Rattle.quic_wire_core.specs.TransportError.{ErrorValue}
-use Rattle.quic_wire.specs.Value.{FrameValue, NewConnectionIdValue, ack, datagram, new_connection_id, retire_connection_id, path_response, ack_frequency}
+use Rattle.quic_wire.specs.Value.{FrameValue, NewConnectionIdValue, ack, datagram, new_connection_id, retire_connection_id, path_response, handshake_done, ack_frequency}
 use Rattle.quic_ids.specs.CidState.{retirement_answer}
 use Rattle.quic_ids.specs.CidQueue.{PeerIds, after_insert, insert_answer}
 use Rattle.quic_ids.specs.declared.cid_queue.InsertError.{InsertError}
@@ -26,9 +26,9 @@ use Rattle.quic_machine.specs.FrameCases.{Settling, acked_keeps, losses_keep, na
 use Rattle.quic_machine.specs.Steps as steps
 use Rattle.quic_machine.specs.PollCases.{at_poll, by_poll, composes}
 use Rattle.quic_machine.specs.LeaveCases.{by_expired, by_event}
-use Rattle.quic_machine.specs.CallCases.{is_delivery, uses_next_id, by_call}
+use Rattle.quic_machine.specs.CallCases.{is_delivery, uses_next_id, by_call, by_done}
 use Rattle.quic_machine.specs.Machine.{after_call}
-use Rattle.quic_headline.proofs.Packets.Apart.{by_waits, by_frequency}
+use Rattle.quic_headline.proofs.Packets.Apart.{by_waits, by_frequency, by_heard_done}
 use Rattle.quic_headline.proofs.Packets.Closes.{by_closes}
 use Rattle.quic_headline.proofs.Packets.Probes.{may_leave}
 
@@ -73,6 +73,7 @@ module _ (P : PeerIds → Type 0) where
       go : (b : Bool) → Of (validated_if b e)
       go true = i
       go false = i
+  peer_frame handshake_done e brings i = by_heard_done Of e i (λ c. i)
   peer_frame (ack_frequency r) e brings i = by_frequency Of r e (λ threshold reordering frequency. i)
   peer_frame f e brings i = i
 
@@ -111,10 +112,11 @@ module _ (P : PeerIds → Type 0) where
     closes = λ reason f now own. i;
     waits = λ now b set. by_waits Of b (with_closing e (ticked e.closing now)) i i;
     changes_id = λ uses answer. next uses;
+    says_handshake = λ says answer. by_done Of e a i i;
     times = λ now expiry set. by_expired p.words e now Of (λ pending tracking timers waits asked runs packets. i) (λ pending timers waits asked runs. losses_keep Of peer_settles (with_closing e (ticked e.closing now)) i) (λ x j. j) expiry;
     polls = λ now set. polled_peer p e now i;
     hears = λ arrival d set. (let clash : false ≡ true = sym other ∙ set in cc);
-    tells = λ asks. by_event e Of i (λ told. i);
+    tells = λ asks. by_event e Of i i (λ told. i);
   })
 
 -- a call that is neither a delivery nor one for the next id leaves the ids of the peer

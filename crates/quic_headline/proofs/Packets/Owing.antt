@@ -37,7 +37,7 @@ use Rattle.quic_parameters.specs.Parameters.{ParameterValues}
 use Rattle.quic_config.specs.Transport.{Settings}
 use Rattle.quic_machine.specs.Parts.{Windows}
 use Rattle.quic_machine.specs.End.{End, side_of, with_closing, closed_by, new_end}
-use Rattle.quic_machine.specs.Receive.{Fault, closed_by_peer, fault_of, fault_at, names_ungiven, message_judged, retired_for, id_judged, retirement_judged, take_frame, unless_fault, take_items, received, asks_too_soon, frequency_judged}
+use Rattle.quic_machine.specs.Receive.{Fault, closed_by_peer, fault_of, fault_at, names_ungiven, message_judged, retired_for, id_judged, retirement_judged, take_frame, unless_fault, take_items, received, asks_too_soon, frequency_judged, done_taken}
 use Rattle.quic_machine.specs.Poll.{Polled, close_room, zeros_behind, draft_as, may_close, fitted, close_to_go, polled}
 use Rattle.quic_machine.specs.Poll as poll
 use Rattle.quic_machine.specs.PollCases.{ready_at, draft_at, frames_at, frames_padded, by_poll, at_poll, composes}
@@ -45,6 +45,7 @@ use Rattle.quic_machine.specs.DraftLaws.{IsClose}
 use Rattle.quic_machine.specs.FrameCases.{Settling, ack_taken, acked_keeps, losses_keep, named, passed, frame_keeps, frame_leaves, apart_leaves, by_received}
 use Rattle.quic_machine.specs.Steps as steps
 use Rattle.quic_machine.specs.InjectionCases.{by_injection}
+use Rattle.quic_machine.specs.CallCases.{by_done}
 use Rattle.quic_machine.specs.LeaveCases.{by_expired, by_expiry, by_event}
 use Rattle.quic_machine.specs.Machine.{IsAnswer, says_last, after_delivered, after_call, fails, gave}
 use Rattle.quic_headline.specs.Runs.{In}
@@ -139,6 +140,7 @@ owes_call p e theirs (calls.Close close) a i = go e.closing.state
     go states.Drained f is = i f is
     go states.Failed f is = i f is
 owes_call p e theirs calls.UseNextId a i = by_next_id Owes e a i (λ c. i) (λ c most. i)
+owes_call p e theirs calls.HandshakeDone a i = by_done Owes e a i i
 owes_call p e theirs (calls.Poll now) a i = polled_owes p e now i
 owes_call p e theirs (calls.Timeout now) a i = by_expiry p e now Owes i
     (λ b. by_waits Owes b (with_closing e (ticked e.closing now)) (λ f is. cc) i)
@@ -149,7 +151,7 @@ owes_call p e theirs (calls.Deliver delivery) a i = go (slice_get theirs deliver
     go None = i
     go (Some d) = received_owes p e (delivered_by (says_last a) delivery) d i
 owes_call p e theirs (calls.Inject injection) a i = by_injection p e (says_last a) injection Owes i (λ now. error_owes reasons.KeyLimit (with_closing e (ticked e.closing now)))
-owes_call p e theirs calls.Event a i = by_event e Owes i (λ told. i)
+owes_call p e theirs calls.Event a i = by_event e Owes i i (λ told. i)
 owes_call p e theirs call a i = i
 
 -- ---- what it sends
@@ -284,7 +286,11 @@ closing_frame (application_close c) e close is = tt
 closing_frame (path_challenge token) e close is = cc
 closing_frame (path_response token) e close is = cc
 closing_frame (new_token t) e close is = side_closes_not (side_of e) close is
-closing_frame handshake_done e close is = side_closes_not (side_of e) close is
+closing_frame handshake_done e close is = go (side_of e) is
+  where
+    go : (side : Side) → (done_taken side e).fault ≡ Some (closed_by_peer close) → ⊥
+    go Client is = cc
+    go Server is = cc
 closing_frame (new_connection_id f) e close is = judged (retires_for (insert_answer e.ids.peer (frame_of f))) is
   where
     retires : (b : Bool) (r : Range ℕ) → (retired_for b r f e).fault ≡ Some (closed_by_peer close) → ⊥

@@ -3,7 +3,7 @@
 use Rattle.std.proofs.Common.{◌≡◌, ℕ, ◌-◌, ◌<◌, ◌≤◌, ◌^◌, Bool, true, false, List, [], ◌∷◌, Option, Some, None, inl, inr, refl, sym, ap, subst, arith}
 use Rattle.std.specs.Prelude.{unwrap_or}
 use Rattle.std.specs.List.{list_any}
-use Rattle.quic_wire.specs.Value.{FrameValue, AckValue, ack, datagram, new_connection_id, retire_connection_id, path_response, ack_frequency}
+use Rattle.quic_wire.specs.Value.{FrameValue, AckValue, ack, datagram, new_connection_id, retire_connection_id, path_response, handshake_done, ack_frequency}
 use Rattle.quic_machine.specs.declared.run.Call.{Call}
 use Rattle.quic_machine.specs.declared.run.Call.TheVariants as calls
 use Rattle.quic_machine.specs.declared.run.Answer.{Answer}
@@ -88,6 +88,7 @@ module _ (most : ℕ) where
   frame_cuts (new_connection_id f) e small i = apart_leaves CutBelow (new_connection_id f) e tt (λ c. i) (λ c least. i)
   frame_cuts (retire_connection_id n) e small i = apart_leaves CutBelow (retire_connection_id n) e tt (λ c. i) (λ c least. i)
   frame_cuts (path_response token) e small i = apart_leaves CutBelow (path_response token) e tt (λ c. i) (λ c least. i)
+  frame_cuts handshake_done e small i = apart_leaves CutBelow handshake_done e tt (λ c. i) (λ c least. i)
   frame_cuts (ack_frequency r) e small i = apart_leaves CutBelow (ack_frequency r) e tt (λ c. i) (λ c least. i)
   frame_cuts f e small i = i
 

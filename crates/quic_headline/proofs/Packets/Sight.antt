@@ -10,6 +10,7 @@ use Rattle.quic_machine.specs.declared.run.Answer.{Answer}
 use Rattle.quic_machine.specs.declared.run.Answer.TheVariants as answers
 use Rattle.quic_machine.specs.declared.run.Delivery.{Delivery}
 use Rattle.quic_machine.specs.Policy.{Policy}
+use Rattle.quic_config.specs.Transport.{first_estimate}
 use Rattle.quic_spaces.specs.Numbers.{cut_against, expected}
 use Rattle.quic_machine.specs.Closing.{ticked}
 use Rattle.quic_machine.specs.End.{End, side_of, with_closing, closed_by, with_window}
@@ -70,7 +71,7 @@ sight_first x y = record { left = λ rest whole. sym whole; own = refl; watched 
     e : End
     e = new_as x y
 
-    first : Waits (terms_of e) x.making.moment (no_flight e.transport.initial_rtt (e.peer_params.max_ack_delay * 1000000)) (held e)
+    first : Waits (terms_of e) x.making.moment (no_flight (first_estimate e.transport) (e.peer_params.max_ack_delay * 1000000)) (held e)
     first = record { tells = record { terms = refl; clock = refl; named = refl; waits = tt; asked = refl; rtt = refl; delay = refl; request = refl }; loss_time = refl; expiries = refl; probes = refl }
 
 -- ---- what a poll gives
@@ -110,7 +111,7 @@ module _ (x y : Party) (joined : AreJoined x y) (meets : Meets y x) (gives_befor
 
   -- what came to the end, as the observer has it
   seen_intake : seen.intake ≡ came_to x y
-  seen_intake = watched_intake (lens x y) x.told (first_watch x.final x.began x.made.path.remote x.initial_rtt x.initial_delay)
+  seen_intake = watched_intake (lens x y) x.told (first_watch x.final x.began x.made.path.remote x.first_rtt x.initial_delay)
 
   -- what it knows behind the call
   abbrev pub after_told : Call → Answer → Watch
@@ -227,7 +228,7 @@ module _ (x y : Party) (joined : AreJoined x y) (meets : Meets y x) (gives_befor
       → (rest : List (List ℕ)) × ((x.given ++ gives x.policy x.end call a) ++ rest ≡ x.final) → Sight (called x y.given call a) y
   sight_step call a is served behind more =
       let t : Told = told_of call a x.end.closing.state in
-      let first : Watch = first_watch x.final x.began x.made.path.remote x.initial_rtt x.initial_delay in
+      let first : Watch = first_watch x.final x.began x.made.path.remote x.first_rtt x.initial_delay in
       let after : watch_of (called x y.given call a) y ≡ after_told call a = folded_more (watch_told (lens x y)) x.told t first in
       let before : (rest : List (List ℕ)) → (x.given ++ gives x.policy x.end call a) ++ rest ≡ x.final → seen.left ≡ gives x.policy x.end call a ++ rest =
       λ rest whole. sight.left (gives x.policy x.end call a ++ rest) (sym (append_assoc x.given (gives x.policy x.end call a) rest) ∙ whole) in

@@ -4,7 +4,7 @@ use Rattle.std.proofs.Common.{◌≡◌, ℕ, Bool, true, false, List, [], ◌�
 use Rattle.std.specs.Prelude.{max, nat_le, unwrap_or}
 use Rattle.std.proofs.lemmas.Bool.{leb-false, or_parts}
 use Rattle.quic_sets.specs.Runs.{Has}
-use Rattle.quic_wire.specs.Value.{FrameValue, AckValue, ack, datagram, new_connection_id, retire_connection_id, path_response, ack_frequency, immediate_ack}
+use Rattle.quic_wire.specs.Value.{FrameValue, AckValue, ack, datagram, new_connection_id, retire_connection_id, path_response, handshake_done, ack_frequency, immediate_ack}
 use Rattle.quic_recovery_core.specs.PendingAcks.{Pending, after_subtract}
 use Rattle.quic_spaces.specs.Marks.{Counts}
 use Rattle.quic_recovery_core.proofs.AckRunSteps.{above_kept, in_above}
@@ -197,6 +197,7 @@ named_frame (datagram m) e none = message_leaves (λ (x : End). cut_against x.nu
 named_frame (new_connection_id i) e none = apart_leaves (λ (x : End). cut_against x.numbers ≡ max (acknowledged_in (new_connection_id i ∷ [])) (cut_against e.numbers)) (new_connection_id i) e tt (λ c. omega arith) (λ c most. omega arith)
 named_frame (retire_connection_id n) e none = apart_leaves (λ (x : End). cut_against x.numbers ≡ max (acknowledged_in (retire_connection_id n ∷ [])) (cut_against e.numbers)) (retire_connection_id n) e tt (λ c. omega arith) (λ c most. omega arith)
 named_frame (path_response token) e none = apart_leaves (λ (x : End). cut_against x.numbers ≡ max (acknowledged_in (path_response token ∷ [])) (cut_against e.numbers)) (path_response token) e tt (λ c. omega arith) (λ c most. omega arith)
+named_frame handshake_done e none = apart_leaves (λ (x : End). cut_against x.numbers ≡ max (acknowledged_in (handshake_done ∷ [])) (cut_against e.numbers)) handshake_done e tt (λ c. omega arith) (λ c most. omega arith)
 named_frame (ack_frequency r) e none = apart_leaves (λ (x : End). cut_against x.numbers ≡ max (acknowledged_in (ack_frequency r ∷ [])) (cut_against e.numbers)) (ack_frequency r) e tt (λ c. omega arith) (λ c most. omega arith)
 named_frame f e none = omega arith
 
@@ -278,6 +279,7 @@ stays_frame e (datagram m) x s = message_leaves (Stays e) m x s (λ left. s)
 stays_frame e (new_connection_id i) x s = stays_apart e (new_connection_id i) x tt s
 stays_frame e (retire_connection_id n) x s = stays_apart e (retire_connection_id n) x tt s
 stays_frame e (path_response token) x s = stays_apart e (path_response token) x tt s
+stays_frame e handshake_done x s = stays_apart e handshake_done x tt s
 stays_frame e immediate_ack x s = stays_apart e immediate_ack x tt s
 stays_frame e (ack_frequency r) x s = stays_apart e (ack_frequency r) x tt s
 stays_frame e f x s = s

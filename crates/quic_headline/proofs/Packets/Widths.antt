@@ -5,7 +5,7 @@ use Rattle.std.specs.Prelude.{nat_lt}
 use Rattle.std.specs.declared.ops.Range.{Range}
 use Rattle.std.proofs.lemmas.Bool.{le-ltb}
 use Rattle.quic_wire_core.specs.TransportError.{ErrorValue}
-use Rattle.quic_wire.specs.Value.{FrameValue, ack, stream, reset_stream, stop_sending, max_data, max_stream_data, max_streams, datagram, new_connection_id, retire_connection_id, path_response, ack_frequency}
+use Rattle.quic_wire.specs.Value.{FrameValue, ack, stream, reset_stream, stop_sending, max_data, max_stream_data, max_streams, datagram, new_connection_id, retire_connection_id, path_response, handshake_done, ack_frequency}
 use Rattle.quic_paths.specs.Paths.{is_asked}
 use Rattle.quic_retransmits.specs.Retransmits.{can_retire}
 use Rattle.quic_ids.specs.CidState.{retirement_answer}
@@ -27,7 +27,7 @@ use Rattle.quic_headline.specs.Runs.{Intake}
 use Rattle.quic_headline.proofs.Packets.Delivered.{Arrivals}
 use Rattle.quic_headline.proofs.Packets.Ids.{SaysIds, AllSayIds, IsLong, AnyNumber, KnownLong, insert_long, next_long}
 use Rattle.quic_headline.proofs.Packets.Sizes.{Sizing, sizing, Searching, taken_size}
-use Rattle.quic_headline.proofs.Packets.Apart.{by_frequency}
+use Rattle.quic_headline.proofs.Packets.Apart.{by_frequency, by_heard_done}
 use Rattle.quic_headline.proofs.Packets.Moving.{moving_keeps}
 
 -- ---- the ids that are known
@@ -81,6 +81,7 @@ frame_known (path_response token) e says k = go (is_asked e.validation.challenge
     go : (b : Bool) → KnownLong (validated_if b e).ids.peer
     go true = k
     go false = k
+frame_known handshake_done e says k = by_heard_done (λ (x : End). KnownLong x.ids.peer) e k (λ c. k)
 frame_known (ack_frequency r) e says k = by_frequency (λ (x : End). KnownLong x.ids.peer) r e (λ threshold reordering frequency. k)
 frame_known f e says k = k
 
@@ -139,6 +140,7 @@ apart_same (path_response token) e apart says k = go (is_asked e.validation.chal
     go : (b : Bool) → sizing (validated_if b e) ≡ sizing e
     go true = refl
     go false = refl
+apart_same handshake_done e apart says k = by_heard_done (λ (x : End). sizing x ≡ sizing e) e refl (λ c. refl)
 apart_same (ack_frequency r) e apart says k = by_frequency (λ (x : End). sizing x ≡ sizing e) r e (λ threshold reordering frequency. refl)
 apart_same f e apart says k = refl
 

@@ -21,6 +21,7 @@ use Rattle.quic_headline.specs.Ids.{IdsAreNew, AcceptedWereOpened}
 use Rattle.quic_headline.specs.Polls.{IsMade, IsLimited, AskingGoesWhereLet, ProbesPass}
 use Rattle.quic_headline.specs.Sizes.{SizesMove, DatagramsAreSized}
 use Rattle.quic_headline.specs.AppLimited.{MayCount}
+use Rattle.quic_headline.specs.Marking.{marking}
 use Rattle.quic_headline.specs.Telling.{ControllersAreTold}
 use Rattle.quic_machine.specs.PollCases.{ready_at}
 use Rattle.quic_headline.proofs.Packets.Probes.{ready_state}
@@ -31,6 +32,7 @@ use Rattle.quic_headline.proofs.Places.Parties.{Party, with_shown, shown_at}
 use Rattle.quic_headline.proofs.Places.Groups.{Way, Nothing, And, Group, both, beside, over, early_group}
 use Rattle.quic_headline.proofs.Places.Placed.{Placed, placed}
 use Rattle.quic_headline.proofs.Places.Order as order
+use Rattle.quic_headline.proofs.Marking.Judged.{IsMarked}
 use Rattle.quic_headline.proofs.Places.Together as together
 use Rattle.quic_headline.proofs.Halves.Ghosts.{IsWriting}
 use Rattle.quic_headline.proofs.Halves.DataLimit.{HasSmallLimit, KnowsLimit, limit_group}
@@ -275,8 +277,9 @@ module _ (Ready : Way) (ready : IsReadying Ready) where
     sizes_move = moves.sizes_move (And All (And KnowsSearch Unnamed)) all_searched (λ x y h. h.0.0.0) (λ x y h. h.0.1) (λ x y h. h.1.0) (λ x y h. h.1.1) r end honest run
 
     -- where an end counts as having nothing more to send only as its last poll lets it
-    pub controllers_are_told : ((i : ℕ) (side : Side) (w : World) → i ≤ length r.views → LeadsTo r i w → AreServed r i → (end_at side w).closing.state ≡ states.Open → MayCount r side i (end_at side w).path.app_limited) → ControllersAreTold r
-    controllers_are_told counts = tellings.controllers_are_told (And All (And KnowsSearch Unnamed)) all_searched (λ x y h. h.0.0.0) (λ x y h. h.0.1) (λ x y h. h.1.0) (λ x y h. h.1.1) r end honest run counts
+    pub controllers_are_told : ((i : ℕ) (side : Side) (w : World) → i ≤ length r.views → LeadsTo r i w → AreServed r i → (end_at side w).closing.state ≡ states.Open → MayCount r side i (end_at side w).path.app_limited)
+        → ((i : ℕ) (side : Side) (w : World) → i ≤ length r.views → LeadsTo r i w → AreServed r i → (end_at side w).closing.state ≡ states.Open → IsMarked (marking r side i) (end_at side w)) → ControllersAreTold r
+    controllers_are_told counts marks = tellings.controllers_are_told (And All (And KnowsSearch Unnamed)) all_searched (λ x y h. h.0.0.0) (λ x y h. h.0.1) (λ x y h. h.1.0) (λ x y h. h.1.1) r end honest run counts marks
 
     pub datagrams_are_sized : DatagramsAreSized r
     datagrams_are_sized = sized.datagrams_are_sized Streams (streams_spell Rest goes) all r end honest run

@@ -94,7 +94,7 @@ pub took_is : (r : Run) → IsHonest r → (w : World) (i : ℕ) (side : Side) (
 took_is r honest w i side sents theirs =
     let x : Party = party_at r i w side sents in
     let y : Party = party_at r i w (other_side side) theirs in
-    ap (λ (v : Watch). v.intake) (watch_is r honest w i side sents theirs) ∙ watched_intake (lens x y) x.told (first_watch x.final x.began x.made.path.remote x.initial_rtt x.initial_delay)
+    ap (λ (v : Watch). v.intake) (watch_is r honest w i side sents theirs) ∙ watched_intake (lens x y) x.told (first_watch x.final x.began x.made.path.remote x.first_rtt x.initial_delay)
 
 -- what the other took
 pub took_there : (r : Run) → IsHonest r → (w : World) (i : ℕ) (side : Side) (sents theirs : List Sent) → (watch r (other_side side) i).intake ≡ came_to (party_at r i w (other_side side) theirs) (party_at r i w side sents)

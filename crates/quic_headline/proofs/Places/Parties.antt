@@ -5,7 +5,8 @@ use Rattle.std.specs.List.{list_any}
 use Rattle.quic_wire_core.specs.declared.stream_id.Side.{Side}
 use Rattle.quic_wire_core.specs.StreamId.{other_side}
 use Rattle.quic_packet.specs.Number.{truncated}
-use Rattle.quic_config.specs.Transport.{parameters_of}
+use Rattle.quic_time.specs.Rtt.{Rtt}
+use Rattle.quic_config.specs.Transport.{parameters_of, first_estimate}
 use Rattle.quic_machine.specs.declared.answers.State.{State}
 use Rattle.quic_machine.specs.declared.run.Call.{Call}
 use Rattle.quic_machine.specs.declared.run.Call.TheVariants as calls
@@ -76,8 +77,8 @@ told_of call a state = record { call = call; answer = a; state = state }
 -- ---- one end
 
 -- one end of a run: its side, its keys, the id that it is known by, the moment at which it was
--- made, how long a round trip was taken to last then, and how long its peer told to hold
--- acknowledgements back, by what losses are judged at it, the datagrams that it gives in all, and
+-- made, what was known of the round trip then, and how long its peer told to hold acknowledgements
+-- back, by what losses are judged at it, the datagrams that it gives in all, and
 -- the end as it was made; and, at a place: the end, the datagrams that it gave, how they were sent,
 -- and what was told at it
 pub record Party : Type 0 where
@@ -85,7 +86,7 @@ pub record Party : Type 0 where
   pub policy : Policy
   pub id : List ℕ
   pub began : ℕ
-  pub initial_rtt : ℕ
+  pub first_rtt : Rtt
   pub initial_delay : ℕ
   pub terms : Terms
   pub final : List (List ℕ)
@@ -145,7 +146,7 @@ lens x y = record { serves = serves x.side; taker = y.policy; own = x.policy; pe
 
 -- what the observer of an end knows
 abbrev pub watch_of : Party → Party → Watch
-watch_of x y = folded (watch_told (lens x y)) x.told (first_watch x.final x.began x.made.path.remote x.initial_rtt x.initial_delay)
+watch_of x y = folded (watch_told (lens x y)) x.told (first_watch x.final x.began x.made.path.remote x.first_rtt x.initial_delay)
 
 -- ---- two ends
 
@@ -198,7 +199,7 @@ begun_as x y = record {
   policy = x.policy;
   id = x.making.id;
   began = x.making.moment;
-  initial_rtt = (new_as x y).transport.initial_rtt;
+  first_rtt = first_estimate (new_as x y).transport;
   initial_delay = (new_as x y).peer_params.max_ack_delay * 1000000;
   terms = terms_of (new_as x y);
   final = x.final;

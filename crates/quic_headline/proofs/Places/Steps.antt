@@ -65,6 +65,7 @@ only_polls_give p e theirs calls.NextTimeout a other is = ap gave is
 only_polls_give p e theirs calls.State a other is = ap gave is
 only_polls_give p e theirs (calls.Close close) a other is = ap gave is
 only_polls_give p e theirs calls.UseNextId a other is = either_gives a _ _ refl refl is
+only_polls_give p e theirs calls.HandshakeDone a other is = ap gave is
 only_polls_give p e theirs (calls.Send message makes_room) a other is = either_gives a _ _ refl refl is
 only_polls_give p e theirs calls.Recv a other is = ap gave is
 only_polls_give p e theirs call a other is = streams_give (is_open e.closing.state) e.streams call a is

@@ -11,7 +11,7 @@ use Rattle.quic_machine.specs.Poll.{Draft, draft_as, zeros_behind, request_of, p
 use Rattle.quic_machine.specs.Poll as poll
 use Rattle.quic_machine.specs.PollCases.{ready_at, draft_at, frames_padded, may_leave_at}
 use Rattle.quic_machine.specs.Machine.{World, policy_at, end_at}
-use Rattle.quic_headline.specs.Runs.{Run, In}
+use Rattle.quic_headline.specs.Runs.{Run, In, was_said_done}
 use Rattle.quic_headline.specs.Observer.{Sent, Watch, watch}
 use Rattle.quic_headline.specs.Headline.{IsHonest, IsRun}
 use Rattle.quic_headline.specs.Polls.{GaveOne}
@@ -89,7 +89,7 @@ module _ (r : Run) (end : World) (honest : IsHonest r) (run : IsRun r end) (side
 
     -- a request waits where the end is ready only if it is to ask
     waited_asks : (ready_at e now).end.waiting.frames.ack_frequency ≡ true → IsToAsk (asking_at r side)
-    waited_asks = (ready_only (IsToAsk (asking_at r side)) e now (anew_made x y h.gives.1) h.gives.1.only).waits
+    waited_asks = (ready_only (IsToAsk (asking_at r side)) (was_said_done x.told ≡ true) e now (anew_made x y h.gives.1) h.gives.1.only).waits.0
 
     -- the request stands in the draft
     counts : 1 ≤ count_requests (draft_at e now).frames

@@ -1,7 +1,9 @@
 -- The number of the next request is how many went, up to the greatest that has a number of its own;
 -- and an end asks as it was made to, and no request waits at one that isn't to ask.
-use Rattle.std.proofs.Common.{◌≡◌, ℕ, min, true, false, List, ◌++◌, Option, Some, None, append-nil, refl, sym, ap, ◌∙◌, subst, arith}
+use Rattle.std.proofs.Common.{◌≡◌, ℕ, min, true, false, ◌||◌, List, [], ◌∷◌, ◌++◌, Option, Some, None, append-nil, refl, sym, ap, ◌∙◌, subst, ◌⊎◌, inl, inr, arith}
 use Rattle.std.specs.Prelude.{slice_get}
+use Rattle.std.proofs.lemmas.Bool.{or_left, or_right}
+use Rattle.std.proofs.lemmas.List.Folds.{list_any-append}
 use Rattle.quic_config.specs.Transport.{TransportSettings}
 use Rattle.quic_parameters.specs.Parameters.{ParameterValues}
 use Rattle.quic_machine.specs.declared.run.Call.{Call}
@@ -14,25 +16,27 @@ use Rattle.quic_machine.specs.Poll.{polled, most_requests}
 use Rattle.quic_machine.specs.FrameCases.{by_received}
 use Rattle.quic_machine.specs.CallCases.{is_poll}
 use Rattle.quic_machine.specs.Machine.{IsAnswer, after_delivered, after_call, gave, says_last}
+use Rattle.quic_headline.specs.Runs.{Told, says_done, was_said_done}
 use Rattle.quic_headline.specs.Observer.{Sent}
 use Rattle.quic_headline.specs.Requests.{requests_in, asking_of}
 use Rattle.quic_headline.proofs.Packets.Group.{PacketsHold}
 use Rattle.quic_headline.proofs.Packets.Stays.{placed_call}
 use Rattle.quic_headline.proofs.Places.Groups.{Calls, Group}
-use Rattle.quic_headline.proofs.Places.Parties.{sent_by, sent_if, sents_by, Party, called}
+use Rattle.quic_headline.proofs.Places.Parties.{sent_by, sent_if, sents_by, told_of, Party, called}
 use Rattle.quic_headline.proofs.Places.Steps.{poll_answer}
 use Rattle.quic_headline.proofs.Duties.Requests.{Next, frame_next, call_next}
 use Rattle.quic_headline.proofs.Requests.Asks.{By, by_of, is_anew, IsToAsk, anew_asks}
 use Rattle.quic_headline.proofs.Requests.Drafts.{Goes, goes_none, goes_one, polled_requests, requests_more}
-use Rattle.quic_headline.proofs.Requests.Only.{Only, call_only}
+use Rattle.quic_headline.proofs.Requests.Only.{Only, call_only, only_more}
 use Rattle.quic_headline.proofs.Packets.Moving.{moved_frequency}
 
 -- As many requests went of x as are counted; it asks as it was made to; and one waits, or goes
--- again if its packet is lost, only where it is to ask, and its peer can be asked.
+-- again if its packet is lost, only where it is to ask, and its peer can be asked; and so does
+-- HANDSHAKE_DONE only where its application said that the handshake is done.
 pub record Counted (x y : Party) : Type 0 where
   pub next : x.end.frequency.next ≡ min (requests_in x.sents) most_requests
   pub same : asking_of x.end ≡ asking_of x.made
-  pub only : Only (IsToAsk (asking_of x.made)) x.end
+  pub only : Only (IsToAsk (asking_of x.made)) (was_said_done x.told ≡ true) x.end
 
 -- ---- a call
 
@@ -77,10 +81,25 @@ polled_next e x now own ss was (goes_one count next gone) = let more = requests_
 pub anew_made : (x y : Party) → Counted x y → is_anew (by_of x.end) ≡ true → IsToAsk (asking_of x.made)
 anew_made x y i anew = subst IsToAsk i.same (anew_asks (by_of x.end) anew)
 
+-- it was said before, or is by this call
+said_more : (told : List Told) (t : Told) → (was_said_done told ≡ true) ⊎ (says_done t.call t.answer ≡ true) → was_said_done (told ++ t ∷ []) ≡ true
+said_more told t some = list_any-append (λ (u : Told). says_done u.call u.answer) told (t ∷ []) ∙ go some
+  where
+    go : (was_said_done told ≡ true) ⊎ (says_done t.call t.answer ≡ true) → (was_said_done told || (says_done t.call t.answer || false)) ≡ true
+    go (inl was) = or_left (was_said_done told) (says_done t.call t.answer || false) was
+    go (inr now) = or_right (was_said_done told) (says_done t.call t.answer || false) (or_left (says_done t.call t.answer) false now)
+
 -- any call keeps all of it
 counted_call : (x y : Party) (call : Call) (a : Answer) → Calls PacketsHold x y call a → Counted x y → Counted (called x y.given call a) y
-counted_call x y call a c i = record { next = go call c.answer; same = same_asking x.policy x.end y.given call a ∙ i.same; only = call_only (IsToAsk (asking_of x.made)) x.policy x.end y.given call a (anew_made x y i) i.only }
+counted_call x y call a c i = record { next = go call c.answer; same = same_asking x.policy x.end y.given call a ∙ i.same; only = only }
   where
+    t : Told
+    t = told_of call a x.end.closing.state
+
+    only : Only (IsToAsk (asking_of x.made)) (was_said_done (x.told ++ t ∷ []) ≡ true) (after_call x.policy x.end y.given call a)
+    only = call_only (IsToAsk (asking_of x.made)) (was_said_done (x.told ++ t ∷ []) ≡ true) x.policy x.end y.given call a (anew_made x y i) (λ now. said_more x.told t (inr now))
+        (only_more (IsToAsk (asking_of x.made)) (was_said_done x.told ≡ true) (was_said_done (x.told ++ t ∷ []) ≡ true) x.end (λ was. said_more x.told t (inl was)) i.only)
+
     go : (k : Call) → IsAnswer x.policy x.end y.given k a → (after_call x.policy x.end y.given k a).frequency.next ≡ min (requests_in (x.sents ++ sents_by x.policy x.end k a)) most_requests
     go (calls.Poll now) is =
         subst (λ (o : Answer). (polled x.policy x.end now).end.frequency.next ≡ min (requests_in (x.sents ++ sent_if (gave o) (sent_by x.policy x.end now))) most_requests) (sym (poll_answer x.policy x.end now a is c.served))
@@ -92,7 +111,7 @@ counted_call x y call a c i = record { next = go call c.answer; same = same_aski
 -- it holds at the start, and stays with each call at either end
 pub counted_group : Group PacketsHold Counted
 counted_group = record {
-  first = λ x y m there back. record { next = refl; same = refl; only = record { waits = λ set. cc; bear = λ q j. absurd j } };
+  first = λ x y m there back. record { next = refl; same = refl; only = record { waits = ((λ set. cc), λ set. cc); bear = λ q j. absurd j } };
   writer = λ x y call a c i back. counted_call x y call a c i;
   reader = λ x y call a c i back. record { next = back.next; same = back.same; only = back.only };
   shows = λ x y here there b back i j. record { next = i.next; same = i.same; only = record { waits = i.only.waits; bear = i.only.bear } };

@@ -88,7 +88,7 @@ nothing_owed_at_rest r end honest run side i p served room rests owed = not_reac
     awaited = awaited_at side at.world (acks_awaited_run r.keys r.start at.world (take i r.events) (take i r.answers) (take i r.views) honest.start at.leads)
 
     -- the packet is one of those that the observer of the end knows
-    since : In p (folded (unanswered_told (lens x y)) x.told (none_unanswered (first_watch x.final x.began x.made.path.remote x.initial_rtt x.initial_delay))).packets
+    since : In p (folded (unanswered_told (lens x y)) x.told (none_unanswered (first_watch x.final x.began x.made.path.remote x.first_rtt x.initial_delay))).packets
     since = owed.since
 
     owes : Owes x.sents (came_to x y).took x.end p.number
@@ -96,7 +96,7 @@ nothing_owed_at_rest r end honest run side i p served room rests owed = not_reac
 
     -- what it gave and took is what the observer of the run knows
     took_is : took r side i ≡ (came_to x y).took
-    took_is = ap (λ (w : Watch). w.intake.took) (watch_is r honest at.world i side at.sents at.theirs) ∙ ap (λ (j : Intake). j.took) (watched_intake (lens x y) x.told (first_watch x.final x.began x.made.path.remote x.initial_rtt x.initial_delay))
+    took_is = ap (λ (w : Watch). w.intake.took) (watch_is r honest at.world i side at.sents at.theirs) ∙ ap (λ (j : Intake). j.took) (watched_intake (lens x y) x.told (first_watch x.final x.began x.made.path.remote x.first_rtt x.initial_delay))
 
     sents_are : sents_until r side i ≡ x.sents
     sents_are = ap (λ (w : Watch). w.own) (watch_is r honest at.world i side at.sents at.theirs) ∙ at.gives.0.1.own

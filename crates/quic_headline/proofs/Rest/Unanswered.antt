@@ -195,7 +195,7 @@ call_owes x y call a c ps none owes = by_coming x y a c.joined c.served (meets y
 
 -- what the observer of x knows that isn't answered
 abbrev pub unanswered_of : Party → Party → Unanswered
-unanswered_of x y = folded (unanswered_told (lens x y)) x.told (none_unanswered (first_watch x.final x.began x.made.path.remote x.initial_rtt x.initial_delay))
+unanswered_of x y = folded (unanswered_told (lens x y)) x.told (none_unanswered (first_watch x.final x.began x.made.path.remote x.first_rtt x.initial_delay))
 
 -- the watch within it is the observer's
 pub same_watch : (l : Lens) (told : List Told) (u : Unanswered) → (folded (unanswered_told l) told u).watch ≡ folded (watch_told l) told u.watch
@@ -208,13 +208,13 @@ module _ (x y : Party) (call : Call) (a : Answer) (c : Calls Observed x y call a
   before = unanswered_of x y
 
   pub watch_within : before.watch ≡ watch_of x y
-  watch_within = same_watch (lens x y) x.told (none_unanswered (first_watch x.final x.began x.made.path.remote x.initial_rtt x.initial_delay))
+  watch_within = same_watch (lens x y) x.told (none_unanswered (first_watch x.final x.began x.made.path.remote x.first_rtt x.initial_delay))
 
   -- what isn't answered behind a call: an ACK frame that goes ends it
   pub packets_told : (unanswered_of (called x y.given call a) y).packets ≡ (if acknowledges (sents_by x.policy x.end call a) then [] else asking_among (news (came_to x y) (came_to (called x y.given call a) y)) ++ before.packets)
   packets_told =
       let after : Watch = watch_behind x y call a c before.watch watch_within in
-      ap (λ (v : Unanswered). v.packets) (folded_more (unanswered_told (lens x y)) x.told (told_of call a x.end.closing.state) (none_unanswered (first_watch x.final x.began x.made.path.remote x.initial_rtt x.initial_delay)))
+      ap (λ (v : Unanswered). v.packets) (folded_more (unanswered_told (lens x y)) x.told (told_of call a x.end.closing.state) (none_unanswered (first_watch x.final x.began x.made.path.remote x.first_rtt x.initial_delay)))
       ∙ ap (λ (ss : List Sent). if acknowledges ss then [] else asking_among (news before.watch.intake after.intake) ++ before.packets) (went_behind x y call a c before.watch watch_within)
       ∙ ap (λ (j : Intake). if acknowledges (sents_by x.policy x.end call a) then [] else asking_among (news j after.intake) ++ before.packets) (came_before x y call a c before.watch watch_within)
       ∙ ap (λ (j : Intake). if acknowledges (sents_by x.policy x.end call a) then [] else asking_among (news (came_to x y) j) ++ before.packets) (came_behind x y call a c before.watch watch_within)

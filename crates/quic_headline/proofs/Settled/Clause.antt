@@ -29,7 +29,7 @@ use Rattle.quic_machine.specs.declared.answers.Event.TheVariants as events
 use Rattle.quic_machine.specs.declared.run.Call.TheVariants as calls
 use Rattle.quic_machine.specs.declared.run.Answer.TheVariants as answers
 use Rattle.quic_machine.specs.Closing.{Closing}
-use Rattle.quic_machine.specs.Calls.{tells_message, tells_of}
+use Rattle.quic_machine.specs.Calls.{tells_message, tells_done, tells_of}
 use Rattle.quic_machine.specs.Machine.{World}
 use Rattle.quic_headline.specs.Runs.{Run, Told, AreServed, state_at, reset}
 use Rattle.quic_headline.specs.Observer.{Sent, HoldsOffset, HoldsEnd, Watch}
@@ -69,10 +69,11 @@ none_left s =
     behind (Some n) t same is = cc
 
 -- an end that tells nothing has nothing to tell of streams
-none_of_streams : (message : Bool) (o : Option StreamEvent) (c : Closing) → answers.Event None ≡ answers.Event (if message then Some events.Message else tells_of o c) → o ≡ None
-none_of_streams true o c is = cc
-none_of_streams false None c is = refl
-none_of_streams false (Some event) c is = cc
+none_of_streams : (message done : Bool) (o : Option StreamEvent) (c : Closing) → answers.Event None ≡ answers.Event (if message then Some events.Message else (if done then Some events.HandshakeConfirmed else tells_of o c)) → o ≡ None
+none_of_streams true done o c is = cc
+none_of_streams false true o c is = cc
+none_of_streams false false None c is = refl
+none_of_streams false false (Some event) c is = cc
 
 -- ---- a half of which all is acknowledged
 
@@ -171,7 +172,7 @@ module _ (G : Way) (settles : (x y : Party) → G x y → Settled x y) (r : Run)
       told state event =
           let s = x.end.streams in
           let is = answered r p.world end i side calls.Event (answers.Event None) p.goes_on event in
-          let queue = none_left s (none_of_streams (tells_message x.end) (polled s).answer x.end.closing is) in
+          let queue = none_left s (none_of_streams (tells_message x.end) (tells_done x.end) (polled s).answer x.end.closing is) in
           let open_now : Open x.sents (wrote x.told) (told_so x) (acks x y) x.end = held.still (p.state ∙ state) in
           let shape = open_now.0.acked.shape in
           let status = status_half (wrote x.told id ≡ nothing_done) (λ h. IsSendHalf (wrote x.told id) h × HalfArrived (λ o. HoldsOffset (acks x y) id o) (HoldsEnd (acks x y) id) h) (IsSettled (λ o. HoldsOffset (acks x y) id o) (HoldsEnd (acks x y) id) (wrote x.told id))

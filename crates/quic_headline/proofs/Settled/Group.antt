@@ -32,12 +32,12 @@ use Rattle.quic_machine.specs.Tracking.{TrackedPacket, Carried, streams_in}
 use Rattle.quic_machine.specs.End.{End, streams_at, with_closing}
 use Rattle.quic_spaces.specs.Numbers.{Numbers, number_opened}
 use Rattle.quic_machine.specs.Acked.{stream_lost, streams_lost, carried_lost, packets_lost}
-use Rattle.quic_machine.specs.Calls.{is_open, tells_message, tells_of, message_told, others_told}
+use Rattle.quic_machine.specs.Calls.{is_open, tells_message, tells_done, tells_of, message_told, confirmation_told, others_told}
 use Rattle.quic_machine.specs.StreamCalls.{is_on_streams}
 use Rattle.quic_machine.specs.Receive.{Outcome}
 use Rattle.quic_machine.specs.Poll.{polled, tracked}
 use Rattle.quic_machine.specs.Machine.{IsAnswer, after_call, gave}
-use Rattle.quic_machine.specs.CallCases.{is_delivery, is_poll, asks_event, by_call}
+use Rattle.quic_machine.specs.CallCases.{is_delivery, is_poll, asks_event, by_call, by_done}
 use Rattle.quic_machine.specs.LeaveCases.{by_expired}
 use Rattle.quic_machine.specs.FrameCases.{begun, apart_leaves}
 use Rattle.quic_machine.specs.declared.answers.Event.{Event}
@@ -123,6 +123,7 @@ module _ (arrived : ℕ → ℕ → Type 0) (end_arrived : ℕ → Type 0) (k : 
           closes = λ reason f now own. i;
           waits = λ now b set. by_waits (λ (f : End). Settling arrived end_arrived k n w f.streams) b (with_closing e (ticked e.closing now)) i i;
           changes_id = λ uses answer. by_next_id (λ (f : End). Settling arrived end_arrived k n w f.streams) e a i (λ c. i) (λ c most. i);
+          says_handshake = λ says answer. by_done (λ (f : End). Settling arrived end_arrived k n w f.streams) e a i i;
           times = λ now expiry set. by_expired p.words e now (λ (f : End). Settling arrived end_arrived k n w f.streams) (λ pending tracking timers waits asked runs packets. i)
               (λ pending timers waits asked runs. expiry_stays (λ (t : Streams). Settling arrived end_arrived k n w t.state) e now (losing e.tracking.packets ends) i pending timers waits asked) (λ x j. j) expiry;
           polls = λ now set. cc;
@@ -407,9 +408,10 @@ module _ (B : Way) (b : SettlesOver B) (x y : Party) (call : Call) (a : Answer) 
     quiet_settles apart silent quiet = settling_same arrived end_arrived k (told_so x) (told_so (called x y.given call a)) (done_by call a (wrote x.told)) (wrote (x.told ++ told_of call a x.end.closing.state ∷ [])) (called x y.given call a).end.streams (told_then quiet) done_then
         (call_settles arrived end_arrived k (told_so x) (wrote x.told) x.policy x.end y.given call a apart silent quiet c.answer (tracked_ended x.sents (wrote x.told) says x.end.tracking.packets gives.tracked) i)
 
-    -- the call that asks what is told, by whether it is told of a message
+    -- the call that asks what is told, by whether it is told of a message, or that the
+    -- handshake is confirmed
     asks_settles : call ≡ calls.Event → Settling arrived end_arrived k (told_so (called x y.given call a)) (wrote (x.told ++ told_of call a x.end.closing.state ∷ [])) (called x y.given call a).end.streams
-    asks_settles is = go (tells_message x.end) (subst (λ (k : Call). IsAnswer x.policy x.end y.given k a) is c.answer) (ap (λ (k : Call). (after_call x.policy x.end y.given k a).streams) is)
+    asks_settles is = go (tells_message x.end) (tells_done x.end) (subst (λ (k : Call). IsAnswer x.policy x.end y.given k a) is c.answer) (ap (λ (k : Call). (after_call x.policy x.end y.given k a).streams) is)
       where
         same : (q : ℕ) → wrote (x.told ++ told_of call a x.end.closing.state ∷ []) q ≡ wrote x.told q
         same q = done_then q ∙ ap (λ (k : Call). done_by k a (wrote x.told) q) is
@@ -420,13 +422,20 @@ module _ (B : Way) (b : SettlesOver B) (x y : Party) (call : Call) (a : Answer) 
             let one : one_if (finish_told_by q call a) ≡ n = ap (λ (k : Call). one_if (finish_told_by q k a)) is ∙ ap (λ (b : Answer). one_if (finish_told_by q calls.Event b)) answer ∙ told in
             finishes_more q x.told (told_of call a x.end.closing.state) ∙ ap (λ (m : ℕ). finishes_told q x.told + m) one
 
-        go : (message : Bool) → a ≡ answers.Event (if message then Some events.Message else tells_of (telling_next.polled x.end.streams).answer x.end.closing) → (called x y.given call a).end.streams ≡ (if message then message_told x.end else others_told x.end).streams
+        -- where the streams stay
+        stays : (o : Option Event) → a ≡ answers.Event o → ((q : ℕ) → one_if (finish_told_by q calls.Event (answers.Event o)) ≡ 0) → (called x y.given call a).end.streams ≡ x.end.streams
             → Settling arrived end_arrived k (told_so (called x y.given call a)) (wrote (x.told ++ told_of call a x.end.closing.state ∷ [])) (called x y.given call a).end.streams
-        go true answer left =
-            let as_often : (q : ℕ) → told_so (called x y.given call a) q ≡ told_so x q = λ q. (let more = counts (Some events.Message) 0 q answer refl in omega arith) in
+        stays o answer none left =
+            let as_often : (q : ℕ) → told_so (called x y.given call a) q ≡ told_so x q = λ q. (let more = counts o 0 q answer (none q) in omega arith) in
             subst (λ (v : StreamsState). Settling arrived end_arrived k (told_so (called x y.given call a)) (wrote (x.told ++ told_of call a x.end.closing.state ∷ [])) v) (sym left)
             (settling_same arrived end_arrived k (told_so x) (told_so (called x y.given call a)) (wrote x.told) (wrote (x.told ++ told_of call a x.end.closing.state ∷ [])) x.end.streams as_often same i)
-        go false answer left =
+
+        go : (message done : Bool) → a ≡ answers.Event (if message then Some events.Message else (if done then Some events.HandshakeConfirmed else tells_of (telling_next.polled x.end.streams).answer x.end.closing))
+            → (called x y.given call a).end.streams ≡ (if message then message_told x.end else (if done then confirmation_told x.end else others_told x.end)).streams
+            → Settling arrived end_arrived k (told_so (called x y.given call a)) (wrote (x.told ++ told_of call a x.end.closing.state ∷ [])) (called x y.given call a).end.streams
+        go true done answer left = stays (Some events.Message) answer (λ q. refl) left
+        go false true answer left = stays (Some events.HandshakeConfirmed) answer (λ q. refl) left
+        go false false answer left =
             let after : StreamsState = (telling_next.polled x.end.streams).state in
             let more : (q : ℕ) → told_so (called x y.given call a) q ≡ told_so x q + tells q (telling_next.polled x.end.streams).answer =
             λ q. counts (tells_of (telling_next.polled x.end.streams).answer x.end.closing) (tells q (telling_next.polled x.end.streams).answer) q answer (told_event q (telling_next.polled x.end.streams).answer x.end.closing) in

@@ -212,7 +212,7 @@ module _ (G : Way) (g : Group Nothing G) (r : Run) (end : World) (honest : IsHon
     behind_back = g.reader x y call a c gives_now takes_now;
     calls = c;
     seen = watch_is r honest w i side at.sents at.theirs;
-    seen_behind = watch_is r honest w (suc i) side at.sents at.theirs ∙ ap (λ (ts : List Told). folded (watch_told (lens x y)) ts (first_watch x.final x.began x.made.path.remote x.initial_rtt x.initial_delay)) told_more;
+    seen_behind = watch_is r honest w (suc i) side at.sents at.theirs ∙ ap (λ (ts : List Told). folded (watch_told (lens x y)) ts (first_watch x.final x.began x.made.path.remote x.first_rtt x.initial_delay)) told_more;
   }
     where
       event : RunEvent

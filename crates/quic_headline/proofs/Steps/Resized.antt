@@ -8,7 +8,7 @@ use Rattle.std.proofs.lemmas.List.Elements.{All-nil, All-cons, All-head, All-tai
 use Rattle.quic_wire_core.specs.declared.stream_id.Side.{Side}
 use Rattle.quic_wire_core.specs.declared.stream_id.Side.TheVariants.{Client, Server}
 use Rattle.quic_wire_core.specs.declared.shared.EcnCodepoint.{EcnCodepoint}
-use Rattle.quic_wire.specs.Value.{FrameValue, AckValue, ack, datagram, new_connection_id, retire_connection_id, path_response, ack_frequency}
+use Rattle.quic_wire.specs.Value.{FrameValue, AckValue, ack, datagram, new_connection_id, retire_connection_id, path_response, handshake_done, ack_frequency}
 use Rattle.quic_wire.specs.Items.{items}
 use Rattle.quic_wire.specs.declared.frame.InvalidFrame.{InvalidFrame}
 use Rattle.quic_packet.specs.Header.{key_phase, reserved_bits}
@@ -263,6 +263,7 @@ item_tells (Ok (datagram m)) e = go (received_answer e.transport.datagram_receiv
 item_tells (Ok (new_connection_id f)) e = apart_leaves (λ (x : End). Tells e.path.discovery [] x.path.discovery) (new_connection_id f) e tt (λ c. still e.path.discovery [] tt) (λ c most. still e.path.discovery [] tt)
 item_tells (Ok (retire_connection_id n)) e = apart_leaves (λ (x : End). Tells e.path.discovery [] x.path.discovery) (retire_connection_id n) e tt (λ c. still e.path.discovery [] tt) (λ c most. still e.path.discovery [] tt)
 item_tells (Ok (path_response token)) e = apart_leaves (λ (x : End). Tells e.path.discovery [] x.path.discovery) (path_response token) e tt (λ c. still e.path.discovery [] tt) (λ c most. still e.path.discovery [] tt)
+item_tells (Ok handshake_done) e = apart_leaves (λ (x : End). Tells e.path.discovery [] x.path.discovery) handshake_done e tt (λ c. still e.path.discovery [] tt) (λ c most. still e.path.discovery [] tt)
 item_tells (Ok (ack_frequency r)) e = apart_leaves (λ (x : End). Tells e.path.discovery [] x.path.discovery) (ack_frequency r) e tt (λ c. still e.path.discovery [] tt) (λ c most. still e.path.discovery [] tt)
 item_tells (Ok f) e = still e.path.discovery [] tt
 item_tells (Err x) e = still e.path.discovery [] tt

@@ -1,9 +1,9 @@
 -- What a controller is told of an ACK frame is what may be told of the datagrams in flight that it
 -- acknowledges (RFC 9002, sections 7 and 7.1).
-use Rattle.std.proofs.Common.{◌≡◌, ℕ, ◌-◌, ◌<◌, ◌≤◌, min, Bool, true, false, not, cond, List, [], ◌∷◌, ◌++◌, length, Option, Some, None, Result, Ok, Err, refl, sym, ap, ◌∙◌, subst, inl, inr, arith}
-use Rattle.std.specs.Prelude.{if◌then◌else◌, ◌&&◌, nat_lt}
+use Rattle.std.proofs.Common.{◌≡◌, ℕ, ◌-◌, ◌≤◌, min, Bool, true, false, not, cond, List, [], ◌∷◌, ◌++◌, length, Option, Some, None, refl, sym, ap, ◌∙◌, subst, inl, inr, arith}
+use Rattle.std.specs.Prelude.{if◌then◌else◌, ◌&&◌}
 use Rattle.std.specs.Option.{option_and_then, is_some, is_none}
-use Rattle.std.proofs.lemmas.Bool.{eq-eqb, ltb-true}
+use Rattle.std.proofs.lemmas.Bool.{eq-eqb}
 use Rattle.std.proofs.lemmas.List.{append_assoc}
 use Rattle.quic_time.specs.Rtt.{Rtt, sampled_rtt, with_sample}
 use Rattle.quic_time.specs.Clocks.{saturated}
@@ -16,19 +16,18 @@ use Rattle.quic_congestion.proofs.SizedSearch.{sized_acked}
 use Rattle.quic_config.specs.declared.mtu_discovery.TheConstants.{MAX_UDP_PAYLOAD}
 use Rattle.quic_streams_parts.specs.Table.{Table}
 use Rattle.quic_spaces.specs.Numbers.{greatest_of}
-use Rattle.quic_spaces.specs.Marks.{Counts, marks_refused, marks_judged}
-use Rattle.quic_spaces.specs.declared.space.EcnError.{EcnError}
 use Rattle.quic_machine.specs.Tracking.{TrackedPacket, acked_by, not_acked_by, lost_by}
 use Rattle.quic_machine.specs.End.{End}
-use Rattle.quic_machine.specs.Control.{bytes_in_flight, last_sent, told_packet, told_acks_ended}
+use Rattle.quic_machine.specs.Control.{bytes_in_flight, told_packet, told_acks_ended}
 use Rattle.quic_machine.specs.Sizes.{is_resized, search_acked, told_packets, told_probe}
-use Rattle.quic_machine.specs.Acked.{packets_acked, verdict, losses_detected, told_delay, first_measured, after_named, counts_answer, told_grown, told_seen, told_marks, told_detected, told_of_losses, told_named, measured, sampled, without_acked, losses_taken}
+use Rattle.quic_machine.specs.Acked.{packets_acked, verdict, losses_detected, told_delay, first_measured, after_named, told_marks, told_detected, told_of_losses, told_named, measured, sampled, without_acked, losses_taken}
 use Rattle.quic_machine.specs.Receive.{take_frame}
 use Rattle.quic_machine.specs.FrameCases.{packets_lost_keep, by_marks, named, frame_keeps, frame_leaves, apart_leaves}
 use Rattle.quic_headline.specs.Runs.{In}
 use Rattle.quic_headline.specs.Observer.{Sent, asks_of, Flight, latest, is_greatest}
 use Rattle.quic_headline.specs.Polls.{bytes_on}
-use Rattle.quic_headline.specs.Telling.{Judging, measured_first, told_if, IsPinged, MayProbe, last_moment, TellsAcked, acked_flight, MayMark, TellsSettled, TellsNamed}
+use Rattle.quic_headline.specs.Telling.{Judging, measured_first, told_if, IsPinged, MayProbe, last_moment, TellsAcked, acked_flight, TellsSettled, TellsNamed}
+use Rattle.quic_headline.specs.Marking.{Marking, has_grown}
 use Rattle.quic_headline.proofs.Packets.Searches.{losses_searched}
 use Rattle.quic_headline.proofs.Packets.Waited.{IsWaited, AreWaited}
 use Rattle.quic_headline.proofs.Packets.Flying.{Held, Tells, held, losses_tell, acked_keep, acked_held, timed, counted, timed_tells}
@@ -36,7 +35,8 @@ use Rattle.quic_headline.proofs.Held.Flight.{bytes_of_end}
 use Rattle.quic_headline.proofs.Sizes.Search.{acked_fewer, acked_size}
 use Rattle.quic_headline.proofs.Sizes.Probed.{Probes}
 use Rattle.quic_headline.proofs.Sizes.Moving.{Moves, moving_flies}
-use Rattle.quic_headline.proofs.Tellings.Losses.{waited_last, size_told, losses_told}
+use Rattle.quic_headline.proofs.Marking.Judged.{IsMarked, marks_told, settled_marked}
+use Rattle.quic_headline.proofs.Tellings.Losses.{size_told, losses_told}
 
 -- ---- each that is acknowledged
 
@@ -112,39 +112,6 @@ acked_told least now challenged (s ∷ ss) (p ∷ ps) e clock free w sized probe
     )
 acked_told least now challenged [] (p ∷ ps) e clock free w sized probes = absurd w
 acked_told least now challenged (s ∷ ss) [] e clock free w sized probes = absurd w
-
--- ---- marks
-
--- counts that show that CE grew have one of CE
-grew_some : (refused : Option EcnError) (last counts : Counts) → marks_judged refused last counts ≡ Ok true → 0 < counts.2
-grew_some None last counts is = let more : nat_lt last.2 counts.2 ≡ true = cc in let less = ltb-true last.2 counts.2 more in omega arith
-grew_some (Some error) last counts is = cc
-
--- a controller may be told of marks where it may be
-marks_told : (f : Flight) (now : ℕ) (rises : Bool) (ss : List Sent) (ps : Table TrackedPacket) (a : AckValue) (e : End) → now ≡ e.closing.clock → rises ≡ is_greatest f.named a.largest → AreWaited ss ps
-    → (marks : Bool) × (marks ≡ true → MayMark f.named a) × (told_marks rises ps a e ≡ told_if marks (Congested now (last_moment ss) false 0))
-marks_told f now rises ss ps a e clock is w = go e.path.marking rises is a.ecn refl
-  where
-    MaySay : List Told → Type 0
-    MaySay ts = (marks : Bool) × (marks ≡ true → MayMark f.named a) × (ts ≡ told_if marks (Congested now (last_moment ss) false 0))
-
-    none : MaySay []
-    none = (false, (λ no. cc), refl)
-
-    grown : (counts : Counts) (r : Result Bool EcnError) → is_greatest f.named a.largest ≡ true → a.ecn ≡ Some counts → counts_answer e (length ps) counts ≡ r → MaySay (told_grown r e.closing.clock (last_sent ps))
-    grown counts (Ok true) above came answer = (
-      true,
-      (λ yes. record { rises = above; counts = counts; came = came; marked = grew_some (marks_refused (length ps) e.marks.told counts) e.marks.told counts answer }),
-      ap (λ (n : ℕ). Congested n (last_sent ps) false 0 ∷ []) (sym clock) ∙ ap (λ (n : ℕ). Congested now n false 0 ∷ []) (waited_last ss ps w),
-    )
-    grown counts (Ok false) above came answer = none
-    grown counts (Err error) above came answer = none
-
-    go : (marking b : Bool) → b ≡ is_greatest f.named a.largest → (o : Option Counts) → a.ecn ≡ o → MaySay (told_seen marking b (length ps) o (last_sent ps) e)
-    go true true above (Some counts) came = grown counts (counts_answer e (length ps) counts) (sym above) came refl
-    go true true above None came = none
-    go true false above o came = none
-    go false b above o came = none
 
 -- ---- an ACK frame
 
@@ -246,22 +213,20 @@ timed_moves flew least before flying acked ps rises a e m = go (measured rises a
 
 module _ (j : Judging) (now : ℕ) (flew : List Sent) (before : ℕ) where
   -- an ACK frame that names these
-  settled_told : (ss others : List Sent) (ps : Table TrackedPacket) (rises : Bool) (a : AckValue) (f : Flight) (e : End) → rises ≡ is_greatest f.named a.largest → ((s : Sent) → In s ss → In s f.flying) → ((s : Sent) → In s others → In s f.flying)
-      → ((s : Sent) → In s ss → In s others → ⊥) → AreWaited ss ps → AreWaited others (not_acked_by a e.tracking.packets) → Tells j.terms now (counted a f) (held e) → IsSet j e → (j.validated ≡ true → e.validation.challenge ≡ None) → Moves flew j.settings.min_mtu before f.flying f.acked e
-      → TellsSettled j now a ss others f (told_of_losses ps rises a e ++ told_marks rises ps a (losses_taken ps rises a e))
-  settled_told ss others ps rises a f e is inside stays apart acked stay w set unasked moves = record {
+  settled_told : (ss others : List Sent) (ps : Table TrackedPacket) (rises : Bool) (a : AckValue) (f : Flight) (k : Marking) (e : End) → rises ≡ is_greatest f.named a.largest → ((s : Sent) → In s ss → In s f.flying) → ((s : Sent) → In s others → In s f.flying)
+      → ((s : Sent) → In s ss → In s others → ⊥) → AreWaited ss ps → AreWaited others (not_acked_by a e.tracking.packets) → Tells j.terms now (counted a f) (held e) → IsSet j e → (j.validated ≡ true → e.validation.challenge ≡ None) → Moves flew j.settings.min_mtu before f.flying f.acked e → IsMarked k e
+      → TellsSettled j now a ss others f k (told_of_losses ps rises a e ++ told_marks rises ps a (losses_taken ps rises a e))
+  settled_told ss others ps rises a f k e is inside stays apart acked stay w set unasked moves marked = record {
     challenged = is_some e.validation.challenge;
     unvalidated = some_unvalidated e.validation.challenge j.validated unasked;
     each = told_packets e ps;
     acks = subst (λ (b : Bool). TellsAcked j.settings.min_mtu now (is_some e.validation.challenge) b f.rtt ss (told_packets e ps)) set.limited (subst (λ (r : Rtt). TellsAcked j.settings.min_mtu now (is_some e.validation.challenge) e.path.app_limited r ss (told_packets e ps)) (sym w.rtt) (acked_told j.settings.min_mtu now (is_some e.validation.challenge) ss ps e w.clock (none_is e.validation.challenge) acked moves.sized (λ s i size shown. moves.probes s (moves.inside s (inside s i)) size shown)));
     lost = told_detected true x;
     losses = losses_told j now true (acked_flight j.terms now a ss others f) x told (timed_set j ps rises a e set).path (timed_set j ps rises a e set).settings measured after.floor (λ s i size shown. may_probe j.settings.min_mtu x.path.discovery s after.sized size shown (after.probes s (after.inside s i) size shown));
-    marks = marked.0;
-    counts = marked.1;
     is =
         ap (λ (ts : List Told). ts ++ told_marks rises ps a (losses_taken ps rises a e)) (append_assoc (told_packets e ps) (told_acks_ended left) (told_detected true x))
         ∙ ap (λ (y : Told). told_packets e ps ++ y ∷ told_detected true x ++ told_marks rises ps a (losses_taken ps rises a e)) ended
-        ∙ ap (λ (ts : List Told). told_packets e ps ++ AcksEnded now (min (bytes_on j.generation others) latest) j.limited (Some (greatest_of f.named a.largest)) ∷ told_detected true x ++ ts) marked.2;
+        ∙ ap (λ (ts : List Told). told_packets e ps ++ AcksEnded now (min (bytes_on j.generation others) latest) j.limited (Some (greatest_of f.named a.largest)) ∷ told_detected true x ++ ts) told_more;
   }
     where
       left : End
@@ -283,8 +248,8 @@ module _ (j : Judging) (now : ℕ) (flew : List Sent) (before : ℕ) where
       clock : now ≡ (losses_taken ps rises a e).closing.clock
       clock = (losses_tell j.terms now (acked_flight j.terms now a ss others f) x told).0.clock
 
-      marked : (marks : Bool) × (marks ≡ true → MayMark f.named a) × (told_marks rises ps a (losses_taken ps rises a e) ≡ told_if marks (Congested now (last_moment ss) false 0))
-      marked = marks_told f now rises ss ps a (losses_taken ps rises a e) clock is acked
+      told_more : told_marks rises ps a (losses_taken ps rises a e) ≡ told_if (has_grown f.named a (length ss) k) (Congested now (last_moment ss) false 0)
+      told_more = marks_told f.named now rises ss ps a k (losses_taken ps rises a e) clock is acked (settled_marked k ps rises a e marked)
 
       ended : AcksEnded left.closing.clock (saturated (bytes_in_flight left)) left.path.app_limited left.numbers.largest_acked ≡ AcksEnded now (min (bytes_on j.generation others) latest) j.limited (Some (greatest_of f.named a.largest))
       ended =
@@ -294,9 +259,9 @@ module _ (j : Judging) (now : ℕ) (flew : List Sent) (before : ℕ) where
           ∙ ap (λ (o : Option ℕ). AcksEnded now (min (bytes_on j.generation others) latest) j.limited o) (ap (λ (h : Held). h.numbers.largest_acked) (acked_held ps e) ∙ sym w.named)
 
   -- one that names these, or none
-  pub named_told : (ss others : List Sent) (ps : Table TrackedPacket) (rises : Bool) (a : AckValue) (f : Flight) (e : End) → rises ≡ is_greatest f.named a.largest → ((s : Sent) → In s ss → In s f.flying) → ((s : Sent) → In s others → In s f.flying)
-      → ((s : Sent) → In s ss → In s others → ⊥) → AreWaited ss ps → AreWaited others (not_acked_by a e.tracking.packets) → Tells j.terms now (counted a f) (held e) → IsSet j e → (j.validated ≡ true → e.validation.challenge ≡ None) → Moves flew j.settings.min_mtu before f.flying f.acked e → TellsNamed j now a ss others f (told_named ps rises a e)
-  named_told [] others [] rises a f e is inside stays apart acked stay w set unasked moves = refl
-  named_told (s ∷ ss) others (p ∷ ps) rises a f e is inside stays apart acked stay w set unasked moves = settled_told (s ∷ ss) others (p ∷ ps) rises a f e is inside stays apart acked stay w set unasked moves
-  named_told [] others (p ∷ ps) rises a f e is inside stays apart acked stay w set unasked moves = absurd acked
-  named_told (s ∷ ss) others [] rises a f e is inside stays apart acked stay w set unasked moves = absurd acked
+  pub named_told : (ss others : List Sent) (ps : Table TrackedPacket) (rises : Bool) (a : AckValue) (f : Flight) (k : Marking) (e : End) → rises ≡ is_greatest f.named a.largest → ((s : Sent) → In s ss → In s f.flying) → ((s : Sent) → In s others → In s f.flying)
+      → ((s : Sent) → In s ss → In s others → ⊥) → AreWaited ss ps → AreWaited others (not_acked_by a e.tracking.packets) → Tells j.terms now (counted a f) (held e) → IsSet j e → (j.validated ≡ true → e.validation.challenge ≡ None) → Moves flew j.settings.min_mtu before f.flying f.acked e → IsMarked k e → TellsNamed j now a ss others f k (told_named ps rises a e)
+  named_told [] others [] rises a f k e is inside stays apart acked stay w set unasked moves marked = refl
+  named_told (s ∷ ss) others (p ∷ ps) rises a f k e is inside stays apart acked stay w set unasked moves marked = settled_told (s ∷ ss) others (p ∷ ps) rises a f k e is inside stays apart acked stay w set unasked moves marked
+  named_told [] others (p ∷ ps) rises a f k e is inside stays apart acked stay w set unasked moves marked = absurd acked
+  named_told (s ∷ ss) others [] rises a f k e is inside stays apart acked stay w set unasked moves marked = absurd acked

@@ -37,6 +37,7 @@ use Rattle.quic_machine.specs.PollCases.{ready_at, ready_leaves, draft_at, frame
 use Rattle.quic_headline.specs.Runs.{Told, Packet, Intake, In, frames_of, is_refused, handed, and_handed, and_told}
 use Rattle.quic_headline.specs.Observer.{Sent, asks_of, after_packets, loss_due, is_past, Watch, news, has_opened, moment_for, moment_of, clock_behind, Lens, is_timely, watch_told, next_number}
 use Rattle.quic_headline.specs.Telling.{Judging, measured_first, told_gone, TellsFrames, TellsPackets, TellsPart, TellsExpired, TellsMoment, judging, TellsCall}
+use Rattle.quic_headline.specs.Marking.{Marking}
 use Rattle.std.specs.Option.{is_none}
 use Rattle.quic_headline.proofs.Packets.Growth.{get_front, step_at}
 use Rattle.quic_headline.proofs.Packets.Intakes.{nothing_handed, folded_more}
@@ -59,6 +60,7 @@ use Rattle.quic_headline.proofs.Timers.Quiet.{Unnamed}
 use Rattle.quic_headline.proofs.Sizes.Probed.{KnowsSearch}
 use Rattle.quic_headline.proofs.Sizes.Moving.{Moves}
 use Rattle.quic_headline.proofs.Sizes.Moves.{moves_first}
+use Rattle.quic_headline.proofs.Marking.Judged.{IsMarked}
 use Rattle.quic_headline.proofs.Tellings.Losses.{losses_told}
 use Rattle.quic_headline.proofs.Tellings.Asked.{IsUnasked}
 use Rattle.quic_headline.proofs.Tellings.Acks.{may_probe, IsSet}
@@ -69,18 +71,18 @@ use Rattle.quic_headline.proofs.Tellings.Hearing.{AreSent, Hearings, by_hearing,
 -- ---- calls at which nothing comes
 
 -- what is told by one
-plain_call : (l : Lens) (c : TransportSettings) (validated : Bool) (first : Option ℕ) (limited : Bool) (w : Watch) (t : Told) (late : List congestion.Told) (went : List Sent) → and_told l.own l.peer_gave t w.intake ≡ w.intake
+plain_call : (l : Lens) (c : TransportSettings) (validated : Bool) (first : Option ℕ) (limited : Bool) (w : Watch) (k : Marking) (t : Told) (late : List congestion.Told) (went : List Sent) → and_told l.own l.peer_gave t w.intake ≡ w.intake
     → (let clock = clock_behind w.clock (moment_of t.state false t.call) in TellsMoment (is_timely t.state t.call && is_past (loss_due w.flight) clock) (judging l c validated first limited w) clock w.flight late)
-    → (watch_told l t w).own ≡ w.own ++ went → TellsCall l c validated first limited w t (late ++ told_gone went)
-plain_call l c validated first limited w t late went same told own = record {
+    → (watch_told l t w).own ≡ w.own ++ went → TellsCall l c validated first limited w k t (late ++ told_gone went)
+plain_call l c validated first limited w k t late went same told own = record {
   after = w.intake;
   came = sym same;
   clock = clock;
   moment = ap (λ (b : Bool). clock_behind w.clock (moment_of t.state b t.call)) (sym (none_opened w.intake));
   taken = [];
-  takes = subst (λ (ps : List Packet). TellsPackets (judging l c validated first limited w) clock ps w.flight []) (sym (none_new w.intake)) refl;
+  takes = subst (λ (ps : List Packet). TellsPackets (judging l c validated first limited w) clock ps w.flight k []) (sym (none_new w.intake)) refl;
   refused = [];
-  refuses = subst (λ (b : Bool). TellsPart (judging l c validated first limited w) clock (b && is_refused t.answer) w.intake.part w.flight []) (sym (none_opened w.intake)) refl;
+  refuses = subst (λ (b : Bool). TellsPart (judging l c validated first limited w) clock (b && is_refused t.answer) w.intake.part w.flight k []) (sym (none_opened w.intake)) refl;
   late = late;
   expires = subst (λ (ps : List Packet). let f = after_packets l.terms clock ps w.flight in TellsMoment (is_timely t.state t.call && is_past (loss_due f) clock) (judging l c validated first limited w) clock f late) (sym (none_new w.intake)) told;
   went = went;
@@ -92,10 +94,10 @@ plain_call l c validated first limited w t late went same told own = record {
     clock = clock_behind w.clock (moment_of t.state false t.call)
 
 -- by one that tells no moment and gives nothing
-pub quiet_call : (l : Lens) (c : TransportSettings) (validated : Bool) (first : Option ℕ) (limited : Bool) (w : Watch) (t : Told) → and_told l.own l.peer_gave t w.intake ≡ w.intake → is_timely t.state t.call ≡ false → gave t.answer ≡ false → TellsCall l c validated first limited w t []
-quiet_call l c validated first limited w t same untimed none =
+pub quiet_call : (l : Lens) (c : TransportSettings) (validated : Bool) (first : Option ℕ) (limited : Bool) (w : Watch) (k : Marking) (t : Told) → and_told l.own l.peer_gave t w.intake ≡ w.intake → is_timely t.state t.call ≡ false → gave t.answer ≡ false → TellsCall l c validated first limited w k t []
+quiet_call l c validated first limited w k t same untimed none =
     let clock : ℕ = clock_behind w.clock (moment_of t.state false t.call) in
-    plain_call l c validated first limited w t [] [] same (subst (λ (b : Bool). TellsMoment (b && is_past (loss_due w.flight) clock) (judging l c validated first limited w) clock w.flight []) (sym untimed) refl) (told_own l t w none ∙ sym (append-nil w.own))
+    plain_call l c validated first limited w k t [] [] same (subst (λ (b : Bool). TellsMoment (b && is_past (loss_due w.flight) clock) (judging l c validated first limited w) clock w.flight []) (sym untimed) refl) (told_own l t w none ∙ sym (append-nil w.own))
 
 -- ---- a poll
 
@@ -186,7 +188,7 @@ shown_sent n reference frames payload spells alone false o is = cc
 
 module _ (x y : Party) (joined : AreJoined x y) (meets : Meets y x) (sight : Sight x y) (search : KnowsSearch x y) (quiet : Unnamed x y) (next : x.end.numbers.next ≡ next_number x.sents) (validated : Bool) (first : Option ℕ) (limited : Bool) (counts : x.end.path.app_limited ≡ limited)
     (settings : x.end.transport ≡ x.made.transport) (measured : x.end.closing.state ≡ states.Open → x.end.path.first_after_rtt ≡ measured_first first (next_number x.sents) x.end.path.rtt.smoothed)
-    (unasked : validated ≡ true → IsUnasked x.end) where
+    (unasked : validated ≡ true → IsUnasked x.end) (k : Marking) (marked : x.end.closing.state ≡ states.Open → IsMarked k x.end) where
   abbrev c : TransportSettings
   c = x.made.transport
 
@@ -233,35 +235,35 @@ module _ (x y : Party) (joined : AreJoined x y) (meets : Meets y x) (sight : Sig
       go None = refl
       go (Some moment) = losses_told j clock false seen.flight begins waits.tells (set opened).path (set opened).settings ((set opened).measured ∙ ap (λ (r : Rtt). measured_first j.first j.next r.smoothed) (sym waits.tells.rtt)) moves.floor (λ s i size shown. may_probe c.min_mtu begins.path.discovery s moves.sized size shown (moves.probes s i size shown))
 
-  pub timeout_told : (now : ℕ) (a : Answer) → IsAnswer x.policy x.end y.given (calls.Timeout now) a → TellsCall (lens x y) c validated first limited seen (told_of (calls.Timeout now) a x.end.closing.state) (told_timed_out x.end now)
+  pub timeout_told : (now : ℕ) (a : Answer) → IsAnswer x.policy x.end y.given (calls.Timeout now) a → TellsCall (lens x y) c validated first limited seen k (told_of (calls.Timeout now) a x.end.closing.state) (told_timed_out x.end now)
   timeout_told now a is = go x.end.closing.state refl
     where
       silent : gave a ≡ false
       silent = only_polls_give x.policy x.end y.given (calls.Timeout now) a refl is
 
-      go : (s : State) → x.end.closing.state ≡ s → TellsCall (lens x y) c validated first limited seen (told_of (calls.Timeout now) a s) (told_timed_out_in s x.end now)
+      go : (s : State) → x.end.closing.state ≡ s → TellsCall (lens x y) c validated first limited seen k (told_of (calls.Timeout now) a s) (told_timed_out_in s x.end now)
       go states.Open opened =
           let t : Told = told_of (calls.Timeout now) a states.Open in
           let late : List congestion.Told = told_timed_out_in states.Open x.end now in
-          subst (λ (ts : List congestion.Told). TellsCall (lens x y) c validated first limited seen t ts) (append-nil late)
-          (plain_call (lens x y) c validated first limited seen t late [] (none_comes (lens x y) t seen.intake refl)
+          subst (λ (ts : List congestion.Told). TellsCall (lens x y) c validated first limited seen k t ts) (append-nil late)
+          (plain_call (lens x y) c validated first limited seen k t late [] (none_comes (lens x y) t seen.intake refl)
           (subst (λ (b : Bool). TellsMoment b j (max seen.clock now) seen.flight late) (timer_expires x.terms seen x.end now (sight.stands opened) (sight.watched.flight opened)) (expired_told now opened (has_come x.end.timers.loss_detection (max x.end.closing.clock now))))
           (told_own (lens x y) t seen silent ∙ sym (append-nil seen.own)))
-      go states.Closing closed = let t : Told = told_of (calls.Timeout now) a states.Closing in quiet_call (lens x y) c validated first limited seen t (none_comes (lens x y) t seen.intake refl) refl silent
-      go states.Drained closed = let t : Told = told_of (calls.Timeout now) a states.Drained in quiet_call (lens x y) c validated first limited seen t (none_comes (lens x y) t seen.intake refl) refl silent
-      go states.Failed closed = let t : Told = told_of (calls.Timeout now) a states.Failed in quiet_call (lens x y) c validated first limited seen t (none_comes (lens x y) t seen.intake refl) refl silent
+      go states.Closing closed = let t : Told = told_of (calls.Timeout now) a states.Closing in quiet_call (lens x y) c validated first limited seen k t (none_comes (lens x y) t seen.intake refl) refl silent
+      go states.Drained closed = let t : Told = told_of (calls.Timeout now) a states.Drained in quiet_call (lens x y) c validated first limited seen k t (none_comes (lens x y) t seen.intake refl) refl silent
+      go states.Failed closed = let t : Told = told_of (calls.Timeout now) a states.Failed in quiet_call (lens x y) c validated first limited seen k t (none_comes (lens x y) t seen.intake refl) refl silent
 
   -- ---- a poll
 
   pub poll_call : Owes x.end → (now : ℕ) (a : Answer) → IsAnswer x.policy x.end y.given (calls.Poll now) a → fails a ≡ false → (watch_of (called x y.given (calls.Poll now) a) y).own ≡ x.sents ++ sents_by x.policy x.end (calls.Poll now) a
-      → TellsCall (lens x y) c validated first limited seen (told_of (calls.Poll now) a x.end.closing.state) (told_polled x.policy x.end now)
+      → TellsCall (lens x y) c validated first limited seen k (told_of (calls.Poll now) a x.end.closing.state) (told_polled x.policy x.end now)
   poll_call owes now a is served behind =
       let t : Told = told_of (calls.Poll now) a x.end.closing.state in
       let clock : ℕ = clock_behind seen.clock (moment_of t.state false t.call) in
       let went : List Sent = sents_by x.policy x.end (calls.Poll now) a in
       let told : told_polled x.policy x.end now ≡ told_gone went = poll_told x.policy x.end now owes ∙ ap (λ (b : Answer). told_gone (sent_if (gave b) (sent_by x.policy x.end now))) (sym (poll_answer x.policy x.end now a is served)) in
-      subst (λ (ts : List congestion.Told). TellsCall (lens x y) c validated first limited seen t ts) (sym told)
-      (plain_call (lens x y) c validated first limited seen t [] went (none_comes (lens x y) t seen.intake refl)
+      subst (λ (ts : List congestion.Told). TellsCall (lens x y) c validated first limited seen k t ts) (sym told)
+      (plain_call (lens x y) c validated first limited seen k t [] went (none_comes (lens x y) t seen.intake refl)
       (subst (λ (b : Bool). TellsMoment (b && is_past (loss_due seen.flight) clock) j clock seen.flight []) (sym (untimely t.state t.call refl)) refl)
       (sym (ap (λ (w : Watch). w.own) (folded_more (watch_told (lens x y)) x.told t _)) ∙ behind ∙ ap (λ (ss : List Sent). ss ++ went) (sym sight.own)))
 
@@ -271,9 +273,9 @@ module _ (x y : Party) (joined : AreJoined x y) (meets : Meets y x) (sight : Sig
     -- What is told by a packet that came, or by none.
     record Brings (opened : Bool) (ps : List Packet) (part : Option Packet) (a : Answer) (told : List congestion.Told) : Type 0 where
       taken : List congestion.Told
-      takes : let clock = clock_behind seen.clock (moment_of states.Open opened (calls.Deliver delivery)) in TellsPackets j clock ps seen.flight taken
+      takes : let clock = clock_behind seen.clock (moment_of states.Open opened (calls.Deliver delivery)) in TellsPackets j clock ps seen.flight k taken
       refused : List congestion.Told
-      refuses : let clock = clock_behind seen.clock (moment_of states.Open opened (calls.Deliver delivery)) in TellsPart j clock (opened && is_refused a) part seen.flight refused
+      refuses : let clock = clock_behind seen.clock (moment_of states.Open opened (calls.Deliver delivery)) in TellsPart j clock (opened && is_refused a) part seen.flight k refused
       is : told ≡ taken ++ refused
 
     -- so it is by what came
@@ -284,7 +286,7 @@ module _ (x y : Party) (joined : AreJoined x y) (meets : Meets y x) (sight : Sig
     now = max seen.clock delivery.now
 
     -- what is known before the frames of a packet
-    first_reads : x.end.closing.state ≡ states.Open → (n : ℕ) → Reads j now seen.flight.flying x.end.path.discovery.size seen.flight (begun x.end delivery.now n)
+    first_reads : x.end.closing.state ≡ states.Open → (n : ℕ) → Reads j now seen.flight.flying x.end.path.discovery.size seen.flight k (begun x.end delivery.now n)
     first_reads opened n =
         let numbers : Numbers = number_opened x.end.numbers n in
         let moves : Moves seen.flight.flying c.min_mtu x.end.path.discovery.size seen.flight.flying seen.flight.acked x.end = moves_first x y sight search quiet opened in
@@ -293,11 +295,12 @@ module _ (x y : Party) (joined : AreJoined x y) (meets : Meets y x) (sight : Sig
           set = set opened;
           unasked = unasked;
           moves = moves;
+          marked = marked opened;
         }
 
     -- what is told of the items of its payload
-    of_items : x.end.closing.state ≡ states.Open → (n : ℕ) (is : List (Result FrameValue InvalidFrame)) → ToldItems j now seen.flight.flying x.end.path.discovery.size is seen.flight (begun x.end delivery.now n)
-    of_items opened n is = items_told j now seen.flight.flying x.end.path.discovery.size is seen.flight (begun x.end delivery.now n) (first_reads opened n)
+    of_items : x.end.closing.state ≡ states.Open → (n : ℕ) (is : List (Result FrameValue InvalidFrame)) → ToldItems j now seen.flight.flying x.end.path.discovery.size is seen.flight k (begun x.end delivery.now n)
+    of_items opened n is = items_told j now seen.flight.flying x.end.path.discovery.size is seen.flight k (begun x.end delivery.now n) (first_reads opened n)
 
     hearings : x.end.closing.state ≡ states.Open → Hearings x.end delivery.now seen.intake BringsBy
     hearings opened = record {
@@ -308,25 +311,25 @@ module _ (x y : Party) (joined : AreJoined x y) (meets : Meets y x) (sight : Sig
           let ks : List (Result FrameValue InvalidFrame) = items_at here is in
           let all = of_items opened n ks in
           let same : frames_at here (frames_of is) ≡ all.front = sym (frames_items here is) ∙ all.split ∙ ap (λ (fs : List FrameValue). all.front ++ fs) (all.whole none) ∙ append-nil all.front in
-          taken_so n is (told_items ks (begun x.end delivery.now n)) (stray_tells j now here (frames_of is) seen.flight (told_items ks (begun x.end delivery.now n)) (subst (λ (fs : List FrameValue). TellsFrames j now fs seen.flight (told_items ks (begun x.end delivery.now n))) (sym same) all.told));
+          taken_so n is (told_items ks (begun x.end delivery.now n)) (stray_tells j now here (frames_of is) seen.flight k (told_items ks (begun x.end delivery.now n)) (subst (λ (fs : List FrameValue). TellsFrames j now fs seen.flight k (told_items ks (begun x.end delivery.now n))) (sym same) all.told));
       drains = λ close n here is from some.
           let ks : List (Result FrameValue InvalidFrame) = items_at here is in
           let sent : ks ≡ map Ok (frames_at here from.frames) = ap (λ (ls : List (Result FrameValue InvalidFrame)). items_at here ls) from.same ∙ items_sent here from.frames in
           let closes = closed_alone (frames_at here from.frames) (begun x.end delivery.now n) close (alone_at here from.frames from.alone) (subst (λ (ls : List (Result FrameValue InvalidFrame)). (take_items ls (begun x.end delivery.now n)).fault ≡ Some (closed_by_peer close)) sent some) in
           let told : List congestion.Told = told_items ks (begun x.end delivery.now n) in
           let these : frames_of is ≡ from.frames = ap frames_of from.same ∙ frames_of_oks from.frames in
-          taken_so n is told (stray_tells j now here (frames_of is) seen.flight told (subst (λ (fs : List FrameValue). TellsFrames j now (frames_at here fs) seen.flight told) (sym these)
-          (subst (λ (ls : List (Result FrameValue InvalidFrame)). TellsFrames j now (frames_at here from.frames) seen.flight (told_items ls (begun x.end delivery.now n))) (sym sent)
-          (subst (λ (fs : List FrameValue). TellsFrames j now fs seen.flight (told_items (map Ok (frames_at here from.frames)) (begun x.end delivery.now n))) (frames_of_oks (frames_at here from.frames)) (closes_tell j now (frames_at here from.frames) seen.flight (begun x.end delivery.now n) closes)))));
+          taken_so n is told (stray_tells j now here (frames_of is) seen.flight k told (subst (λ (fs : List FrameValue). TellsFrames j now (frames_at here fs) seen.flight k told) (sym these)
+          (subst (λ (ls : List (Result FrameValue InvalidFrame)). TellsFrames j now (frames_at here from.frames) seen.flight k (told_items ls (begun x.end delivery.now n))) (sym sent)
+          (subst (λ (fs : List FrameValue). TellsFrames j now fs seen.flight k (told_items (map Ok (frames_at here from.frames)) (begun x.end delivery.now n))) (frames_of_oks (frames_at here from.frames)) (closes_tell j now (frames_at here from.frames) seen.flight k (begun x.end delivery.now n) closes)))));
       refuses = λ fault n here is.
           let ks : List (Result FrameValue InvalidFrame) = items_at here is in
           let all = of_items opened n ks in
           let first = fronts here (frames_of is) all.front all.behind (sym (frames_items here is) ∙ all.split) in
-          refused_so n (frames_of is) fault (told_items ks (begun x.end delivery.now n)) (first.first, first.others, first.split, stray_tells j now here first.first seen.flight (told_items ks (begun x.end delivery.now n)) (subst (λ (fs : List FrameValue). TellsFrames j now fs seen.flight (told_items ks (begun x.end delivery.now n))) (sym first.same) all.told));
+          refused_so n (frames_of is) fault (told_items ks (begun x.end delivery.now n)) (first.first, first.others, first.split, stray_tells j now here first.first seen.flight k (told_items ks (begun x.end delivery.now n)) (subst (λ (fs : List FrameValue). TellsFrames j now fs seen.flight k (told_items ks (begun x.end delivery.now n))) (sym first.same) all.told));
       whole = λ fault n frames. refused_so n frames fault [] ([], frames, refl, refl);
     }
       where
-        taken_so : (n : ℕ) (is : List (Result FrameValue InvalidFrame)) (told : List congestion.Told) → TellsFrames j now (frames_of is) seen.flight told → BringsBy (answers.Deliver Taken) told (with_taken seen.intake n (frames_of is))
+        taken_so : (n : ℕ) (is : List (Result FrameValue InvalidFrame)) (told : List congestion.Told) → TellsFrames j now (frames_of is) seen.flight k told → BringsBy (answers.Deliver Taken) told (with_taken seen.intake n (frames_of is))
         taken_so n is told tells =
             let frames : List FrameValue = frames_of is in
             subst (λ (b : Bool). Brings b (news seen.intake (with_taken seen.intake n frames)) seen.intake.part (answers.Deliver Taken) told) (sym (one_opened seen.intake n frames))
@@ -338,7 +341,7 @@ module _ (x y : Party) (joined : AreJoined x y) (meets : Meets y x) (sight : Sig
               is = sym (append-nil told);
             }))
 
-        refused_so : (n : ℕ) (frames : List FrameValue) (fault : Fault) (told : List congestion.Told) → TellsPart j now true (Some (record { number = n; frames = frames })) seen.flight told → BringsBy (answers.Deliver (Closed (error_of fault))) told (with_refused seen.intake n frames)
+        refused_so : (n : ℕ) (frames : List FrameValue) (fault : Fault) (told : List congestion.Told) → TellsPart j now true (Some (record { number = n; frames = frames })) seen.flight k told → BringsBy (answers.Deliver (Closed (error_of fault))) told (with_refused seen.intake n frames)
         refused_so n frames fault told tells =
             let part : Option Packet = Some (record { number = n; frames = frames }) in
             let a : Answer = answers.Deliver (Closed (error_of fault)) in
@@ -347,7 +350,7 @@ module _ (x y : Party) (joined : AreJoined x y) (meets : Meets y x) (sight : Sig
 
     -- an open end is handed a datagram
     open_call : x.end.closing.state ≡ states.Open → (d : List ℕ) → slice_get y.given delivery.index ≡ Some d → (a : Answer) → a ≡ answers.Deliver (received x.policy x.end (delivered_by (says_last a) delivery) d).answer
-        → TellsCall (lens x y) c validated first limited seen (told_of (calls.Deliver delivery) a states.Open) (told_received x.policy x.end (delivered_by false delivery) d)
+        → TellsCall (lens x y) c validated first limited seen k (told_of (calls.Deliver delivery) a states.Open) (told_received x.policy x.end (delivered_by false delivery) d)
     open_call opened d at a is = record {
       after = after;
       came = came;
@@ -392,26 +395,26 @@ module _ (x y : Party) (joined : AreJoined x y) (meets : Meets y x) (sight : Sig
             (by_hearing x.policy x.end (delivered_by (says_last a) delivery) seen.intake d BringsBy knows opened from_peer (hearings opened))
 
     pub delivery_told : (a : Answer) → IsAnswer x.policy x.end y.given (calls.Deliver delivery) a → fails a ≡ false
-        → TellsCall (lens x y) c validated first limited seen (told_of (calls.Deliver delivery) a x.end.closing.state) (told_delivered x.policy x.end (delivered_by false delivery) (slice_get y.given delivery.index))
+        → TellsCall (lens x y) c validated first limited seen k (told_of (calls.Deliver delivery) a x.end.closing.state) (told_delivered x.policy x.end (delivered_by false delivery) (slice_get y.given delivery.index))
     delivery_told a is served = go (slice_get y.given delivery.index) refl is
       where
         silent : gave a ≡ false
         silent = only_polls_give x.policy x.end y.given (calls.Deliver delivery) a refl is
 
-        go : (o : Option (List ℕ)) → slice_get y.given delivery.index ≡ o → IsDelivered x.policy x.end delivery o a → TellsCall (lens x y) c validated first limited seen (told_of (calls.Deliver delivery) a x.end.closing.state) (told_delivered x.policy x.end (delivered_by false delivery) o)
+        go : (o : Option (List ℕ)) → slice_get y.given delivery.index ≡ o → IsDelivered x.policy x.end delivery o a → TellsCall (lens x y) c validated first limited seen k (told_of (calls.Deliver delivery) a x.end.closing.state) (told_delivered x.policy x.end (delivered_by false delivery) o)
         go None at none =
-            quiet_call (lens x y) c validated first limited seen (told_of (calls.Deliver delivery) a x.end.closing.state)
+            quiet_call (lens x y) c validated first limited seen k (told_of (calls.Deliver delivery) a x.end.closing.state)
             (ap (λ (b : Answer). and_handed x.end.closing.state (handed y.final (calls.Deliver delivery) b) x.policy a seen.intake) none ∙ nothing_handed x.end.closing.state x.policy a seen.intake)
             (untimely x.end.closing.state (calls.Deliver delivery) refl) silent
         go (Some d) at (inr failed) = cc
         go (Some d) at (inl said) = by_state x.end.closing.state refl
           where
-            none : (s : State) → x.end.closing.state ≡ s → (s ≡ states.Open → ⊥) → and_told x.policy y.final (told_of (calls.Deliver delivery) a s) seen.intake ≡ seen.intake → TellsCall (lens x y) c validated first limited seen (told_of (calls.Deliver delivery) a s) (told_received x.policy x.end (delivered_by false delivery) d)
+            none : (s : State) → x.end.closing.state ≡ s → (s ≡ states.Open → ⊥) → and_told x.policy y.final (told_of (calls.Deliver delivery) a s) seen.intake ≡ seen.intake → TellsCall (lens x y) c validated first limited seen k (told_of (calls.Deliver delivery) a s) (told_received x.policy x.end (delivered_by false delivery) d)
             none s closed shut same =
-                subst (λ (ts : List congestion.Told). TellsCall (lens x y) c validated first limited seen (told_of (calls.Deliver delivery) a s) ts) (sym (closed_told x.policy x.end (delivered_by false delivery) d x.end.closing.state refl (λ opened. shut (sym closed ∙ opened))))
-                (quiet_call (lens x y) c validated first limited seen (told_of (calls.Deliver delivery) a s) same (untimely s (calls.Deliver delivery) refl) silent)
+                subst (λ (ts : List congestion.Told). TellsCall (lens x y) c validated first limited seen k (told_of (calls.Deliver delivery) a s) ts) (sym (closed_told x.policy x.end (delivered_by false delivery) d x.end.closing.state refl (λ opened. shut (sym closed ∙ opened))))
+                (quiet_call (lens x y) c validated first limited seen k (told_of (calls.Deliver delivery) a s) same (untimely s (calls.Deliver delivery) refl) silent)
 
-            by_state : (s : State) → x.end.closing.state ≡ s → TellsCall (lens x y) c validated first limited seen (told_of (calls.Deliver delivery) a s) (told_received x.policy x.end (delivered_by false delivery) d)
+            by_state : (s : State) → x.end.closing.state ≡ s → TellsCall (lens x y) c validated first limited seen k (told_of (calls.Deliver delivery) a s) (told_received x.policy x.end (delivered_by false delivery) d)
             by_state states.Open opened = open_call opened d at a said
             by_state states.Closing closed = none states.Closing closed (λ opened. cc) refl
             by_state states.Drained closed = none states.Drained closed (λ opened. cc) refl

@@ -2,13 +2,14 @@
 -- the observer of its end knows; and the window and the size that a view shows are those that the
 -- controller shows, and was told last.
 use Rattle.std.proofs.Common.{◌≡◌, ℕ, zero, suc, List, [], ◌∷◌, ◌++◌, ◌+◌, ◌≤◌, length, take, Bool, false, Option, Some, None, refl, sym, ap, ◌∙◌, subst, arith}
-use Rattle.std.specs.Prelude.{if◌then◌else◌, slice_get}
+use Rattle.std.specs.Prelude.{if◌then◌else◌, slice_get, option_map}
 use Rattle.std.proofs.lemmas.List.{append_assoc, append-nil}
 use Rattle.std.proofs.lemmas.Option.{slice_get_within}
 use Rattle.quic_wire_core.specs.declared.stream_id.Side.{Side}
 use Rattle.quic_wire_core.specs.declared.stream_id.Side.TheVariants.{Client, Server}
 use Rattle.quic_wire_core.specs.StreamId.{other_side}
-use Rattle.quic_config.specs.Transport.{TransportSettings}
+use Rattle.quic_config.specs.declared.first_sample.FirstSample.{FirstSample}
+use Rattle.quic_config.specs.Transport.{TransportSettings, parameters_of, estimate_with, first_behind_sample}
 use Rattle.quic_congestion.specs.Congestion as congestion
 use Rattle.quic_time.specs.Rtt.{Rtt}
 use Rattle.quic_machine.specs.declared.answers.State.{State}
@@ -28,8 +29,8 @@ use Rattle.quic_headline.specs.Observer.{Sent, Watch, Lens, watch_told, lens_of,
 use Rattle.quic_headline.specs.Headline.{IsHonest, IsRun}
 use Rattle.quic_headline.specs.Polls.{window_in, mtu_in, search_at, told_by_step, IsMade}
 use Rattle.quic_headline.specs.Amounts.{making_at}
-use Rattle.quic_config.specs.Transport.{parameters_of}
 use Rattle.quic_headline.specs.AppLimited.{MayCount, CountsAt}
+use Rattle.quic_headline.specs.Marking.{Marking, first_marking, marking_told, marking_behind, marking}
 use Rattle.quic_headline.specs.Telling.{Judging, measured_first, first_behind, TellsCall, TellsCalls, shows_validated, MayTell, ControllersAreTold}
 use Rattle.quic_machine.specs.Heard.{Heard}
 use Rattle.quic_machine.specs.Arrival.{delivered_by}
@@ -51,6 +52,7 @@ use Rattle.quic_headline.proofs.Steps.Windows.{ShowsAfter, step_shows, first_lea
 use Rattle.quic_headline.proofs.Steps.Resized.{Tells, still, both, step_tells, size_there}
 use Rattle.quic_headline.proofs.Sizes.Probed.{KnowsSearch}
 use Rattle.quic_headline.proofs.Sizes.Moves.{did_there}
+use Rattle.quic_headline.proofs.Marking.Judged.{IsMarked}
 use Rattle.quic_headline.proofs.Tellings.Shown.{validated_there}
 use Rattle.quic_headline.proofs.Tellings.Asked.{IsUnaskedIf, first_unasked, call_unasked}
 use Rattle.quic_headline.proofs.Tellings.Acks.{IsSet}
@@ -70,16 +72,16 @@ first_more l first w [] t = refl
 first_more l first w (u ∷ ts) t = first_more l (first_behind first (watch_told l u w)) (watch_told l u w) ts t
 
 -- what calls tell, and one more, at which the end may count so
-tells_more : (l : Lens) (c : TransportSettings) (validated : ℕ → Bool) (may : ℕ → Bool → Type 0) (n : ℕ) (first : Option ℕ) (w : Watch) (ts : List Told) (t : Told) (told now : List congestion.Told) (limited : Bool) → TellsCalls l c validated may n first w ts told
-    → (t.state ≡ states.Open → (m : ℕ) → m ≡ n + length ts → may m limited) → ((m : ℕ) → m ≡ n + length ts → TellsCall l c (validated m) (first_after l first w ts) limited (folded (watch_told l) ts w) t now) → TellsCalls l c validated may n first w (ts ++ t ∷ []) (told ++ now)
-tells_more l c validated may n first w [] t told now limited before so here = (limited, now, [], (λ opened. so opened n (omega arith)), here n (omega arith), refl, ap (λ (us : List congestion.Told). us ++ now) before ∙ sym (append-nil now))
-tells_more l c validated may n first w (u ∷ ts) t told now limited before so here = (
+tells_more : (l : Lens) (c : TransportSettings) (validated : ℕ → Bool) (may : ℕ → Bool → Type 0) (n : ℕ) (first : Option ℕ) (w : Watch) (k : Marking) (ts : List Told) (t : Told) (told now : List congestion.Told) (limited : Bool) → TellsCalls l c validated may n first w k ts told
+    → (t.state ≡ states.Open → (m : ℕ) → m ≡ n + length ts → may m limited) → ((m : ℕ) → m ≡ n + length ts → TellsCall l c (validated m) (first_after l first w ts) limited (folded (watch_told l) ts w) (marking_behind l ts w k) t now) → TellsCalls l c validated may n first w k (ts ++ t ∷ []) (told ++ now)
+tells_more l c validated may n first w k [] t told now limited before so here = (limited, now, [], (λ opened. so opened n (omega arith)), here n (omega arith), refl, ap (λ (us : List congestion.Told). us ++ now) before ∙ sym (append-nil now))
+tells_more l c validated may n first w k (u ∷ ts) t told now limited before so here = (
   before.0,
   before.1,
   before.2 ++ now,
   before.3,
   before.4,
-  tells_more l c validated may (suc n) (first_behind first (watch_told l u w)) (watch_told l u w) ts t before.2 now limited before.5 (λ opened m is. so opened m (omega (arith, is))) (λ m is. here m (omega (arith, is))),
+  tells_more l c validated may (suc n) (first_behind first (watch_told l u w)) (watch_told l u w) (marking_told l u w k) ts t before.2 now limited before.5 (λ opened m is. so opened m (omega (arith, is))) (λ m is. here m (omega (arith, is))),
   ap (λ (us : List congestion.Told). us ++ now) before.6 ∙ append_assoc before.1 before.2 now,
 )
 
@@ -99,12 +101,22 @@ reads_unasked : (control : Control) (heard : Heard) (call : Call) (e : End) → 
 reads_unasked control heard (calls.Poll now) e i = i
 reads_unasked control heard call e i = i
 
+-- where no sample was taken before, no round trip was measured
+none_told : (o : Option FirstSample) (initial : ℕ) → option_map {U = ℕ} (λ s. 0) o ≡ None → (estimate_with o initial).smoothed ≡ None
+none_told None initial is = refl
+none_told (Some s) initial is = cc
+
 module _ (G : Way) (g : Group Nothing G) (packets : (x y : Party) → G x y → PacketsHold x y) (sight : (x y : Party) → G x y → Sight x y) (search : (x y : Party) → G x y → KnowsSearch x y) (quiet : (x y : Party) → G x y → Unnamed x y)
     (r : Run) (end : World) (honest : IsHonest r) (run : IsRun r end)
-    (counts : (i : ℕ) (side : Side) (w : World) → i ≤ length r.views → LeadsTo r i w → AreServed r i → (end_at side w).closing.state ≡ states.Open → MayCount r side i (end_at side w).path.app_limited) where
+    (counts : (i : ℕ) (side : Side) (w : World) → i ≤ length r.views → LeadsTo r i w → AreServed r i → (end_at side w).closing.state ≡ states.Open → MayCount r side i (end_at side w).path.app_limited)
+    (marks : (i : ℕ) (side : Side) (w : World) → i ≤ length r.views → LeadsTo r i w → AreServed r i → (end_at side w).closing.state ≡ states.Open → IsMarked (marking r side i) (end_at side w)) where
   -- the settings of an end as the run began
   abbrev settings : Side → TransportSettings
   settings side = (end_at side r.start).transport
+
+  -- the number that went next as a round trip was first measured, where one was before the run
+  abbrev first_known : Side → Option ℕ
+  first_known side = first_behind_sample (settings side)
 
   -- whether the address of its peer is seen to be validated before its call behind so many others
   abbrev validated : Side → ℕ → Bool
@@ -112,12 +124,12 @@ module _ (G : Way) (g : Group Nothing G) (packets : (x y : Party) → G x y → 
 
   -- the number that went next as a round trip was first measured, by the first so many answers
   abbrev first_at : Side → ℕ → Option ℕ
-  first_at side i = first_after (lens_of r side) None (watch_from (end_at side r.start) (given_of r side)) (until r side i)
+  first_at side i = first_after (lens_of r side) (first_known side) (watch_from (end_at side r.start) (given_of r side)) (until r side i)
 
   -- ---- a call of an end
 
   module _ (i : ℕ) (side : Side) (a : Answer) (w next : World) (same : (end_at side w).transport ≡ settings side)
-      (first : (end_at side w).closing.state ≡ states.Open → IsFirst (first_at side i) (end_at side w).path) (unasked : IsUnaskedIf (end_at side w)) where
+      (first : (end_at side w).closing.state ≡ states.Open → IsFirst (first_at side i) (end_at side w).path) (unasked : IsUnaskedIf (end_at side w)) (marked : (end_at side w).closing.state ≡ states.Open → IsMarked (marking r side i) (end_at side w)) where
     abbrev policy : Policy
     policy = policy_at side r.keys
 
@@ -130,30 +142,30 @@ module _ (G : Way) (g : Group Nothing G) (packets : (x y : Party) → G x y → 
 
     -- what may be told by a call
     abbrev Told_by : Call → Type 0
-    Told_by call = TellsCall (lens_of r side) (settings side) (end_at side w).path.validated (first_at side i) (end_at side w).path.app_limited (watch r side i) (told_of call a (met call).closing.state) (tells policy (met call) theirs call)
+    Told_by call = TellsCall (lens_of r side) (settings side) (end_at side w).path.validated (first_at side i) (end_at side w).path.app_limited (watch r side i) (marking r side i) (told_of call a (met call).closing.state) (tells policy (met call) theirs call)
 
     own_tells : (call : Call) → IsMade r i side call a w next → Told_by call
     own_tells (calls.Deliver delivery) m =
         let h = call_holds G g r end honest run i side (calls.Deliver delivery) a w next (λ id is. cc) tt m in
         let x : Party = calling r i w side (calls.Deliver delivery) h.sents in
         let y : Party = party_at r i w (other_side side) h.theirs in
-        subst (λ (v : Watch). TellsCall (lens_of r side) (settings side) (end_at side w).path.validated (first_at side i) (end_at side w).path.app_limited v (told_of (calls.Deliver delivery) a (end_at side w).closing.state) (tells policy (end_at side w) theirs (calls.Deliver delivery))) (sym h.seen)
-        (delivery_told x y h.joined (meets y x (packets y x h.takes)) (sight x y h.gives) (search x y h.gives) (quiet x y h.gives) (packets x y h.gives).gives.next (end_at side w).path.validated (first_at side i) (end_at side w).path.app_limited refl same (λ opened. first_measured (first_at side i) (next_number x.sents) x.end.path (first opened)) unasked (packets y x h.takes).alone delivery a m.step.answer (made_served r i side (calls.Deliver delivery) a w next m))
+        subst (λ (v : Watch). TellsCall (lens_of r side) (settings side) (end_at side w).path.validated (first_at side i) (end_at side w).path.app_limited v (marking r side i) (told_of (calls.Deliver delivery) a (end_at side w).closing.state) (tells policy (end_at side w) theirs (calls.Deliver delivery))) (sym h.seen)
+        (delivery_told x y h.joined (meets y x (packets y x h.takes)) (sight x y h.gives) (search x y h.gives) (quiet x y h.gives) (packets x y h.gives).gives.next (end_at side w).path.validated (first_at side i) (end_at side w).path.app_limited refl same (λ opened. first_measured (first_at side i) (next_number x.sents) x.end.path (first opened)) unasked (marking r side i) marked (packets y x h.takes).alone delivery a m.step.answer (made_served r i side (calls.Deliver delivery) a w next m))
     own_tells (calls.Timeout now) m =
         let h = call_holds G g r end honest run i side (calls.Timeout now) a w next (λ id is. cc) tt m in
         let x : Party = calling r i w side (calls.Timeout now) h.sents in
         let y : Party = party_at r i w (other_side side) h.theirs in
-        subst (λ (v : Watch). TellsCall (lens_of r side) (settings side) (end_at side w).path.validated (first_at side i) (end_at side w).path.app_limited v (told_of (calls.Timeout now) a (end_at side w).closing.state) (tells policy (end_at side w) theirs (calls.Timeout now))) (sym h.seen)
-        (timeout_told x y h.joined (meets y x (packets y x h.takes)) (sight x y h.gives) (search x y h.gives) (quiet x y h.gives) (packets x y h.gives).gives.next (end_at side w).path.validated (first_at side i) (end_at side w).path.app_limited refl same (λ opened. first_measured (first_at side i) (next_number x.sents) x.end.path (first opened)) unasked now a m.step.answer)
+        subst (λ (v : Watch). TellsCall (lens_of r side) (settings side) (end_at side w).path.validated (first_at side i) (end_at side w).path.app_limited v (marking r side i) (told_of (calls.Timeout now) a (end_at side w).closing.state) (tells policy (end_at side w) theirs (calls.Timeout now))) (sym h.seen)
+        (timeout_told x y h.joined (meets y x (packets y x h.takes)) (sight x y h.gives) (search x y h.gives) (quiet x y h.gives) (packets x y h.gives).gives.next (end_at side w).path.validated (first_at side i) (end_at side w).path.app_limited refl same (λ opened. first_measured (first_at side i) (next_number x.sents) x.end.path (first opened)) unasked (marking r side i) marked now a m.step.answer)
     own_tells (calls.Poll now) m =
         let h = call_holds G g r end honest run i side (calls.Poll now) a w next (λ id is. cc) tt m in
         let x : Party = calling r i w side (calls.Poll now) h.sents in
         let y : Party = party_at r i w (other_side side) h.theirs in
-        subst (λ (v : Watch). TellsCall (lens_of r side) (settings side) (end_at side w).path.validated (first_at side i) (end_at side w).path.app_limited v (told_of (calls.Poll now) a (met (calls.Poll now)).closing.state) (tells policy (met (calls.Poll now)) theirs (calls.Poll now))) (sym h.seen)
-        (poll_call x y h.joined (meets y x (packets y x h.takes)) (sight x y h.gives) (search x y h.gives) (quiet x y h.gives) (packets x y h.gives).gives.next (end_at side w).path.validated (first_at side i) (end_at side w).path.app_limited refl same (λ opened. first_measured (first_at side i) (next_number x.sents) x.end.path (record { is = (first opened).is; none = (first opened).none })) unasked (packets x y h.gives).owes now a m.step.answer (made_served r i side (calls.Poll now) a w next m) (sight _ y h.behind).own)
+        subst (λ (v : Watch). TellsCall (lens_of r side) (settings side) (end_at side w).path.validated (first_at side i) (end_at side w).path.app_limited v (marking r side i) (told_of (calls.Poll now) a (met (calls.Poll now)).closing.state) (tells policy (met (calls.Poll now)) theirs (calls.Poll now))) (sym h.seen)
+        (poll_call x y h.joined (meets y x (packets y x h.takes)) (sight x y h.gives) (search x y h.gives) (quiet x y h.gives) (packets x y h.gives).gives.next (end_at side w).path.validated (first_at side i) (end_at side w).path.app_limited refl same (λ opened. first_measured (first_at side i) (next_number x.sents) x.end.path (record { is = (first opened).is; none = (first opened).none })) unasked (marking r side i) marked (packets x y h.gives).owes now a m.step.answer (made_served r i side (calls.Poll now) a w next m) (sight _ y h.behind).own)
     own_tells call m =
         let t : Told = told_of call a (end_at side w).closing.state in
-        quiet_call (lens_of r side) (settings side) (end_at side w).path.validated (first_at side i) (end_at side w).path.app_limited (watch r side i) t (none_comes (lens_of r side) t (watch r side i).intake refl) (untimely t.state call refl) (only_polls_give policy (end_at side w) theirs call a refl m.step.answer)
+        quiet_call (lens_of r side) (settings side) (end_at side w).path.validated (first_at side i) (end_at side w).path.app_limited (watch r side i) (marking r side i) t (none_comes (lens_of r side) t (watch r side i).intake refl) (untimely t.state call refl) (only_polls_give policy (end_at side w) theirs call a refl m.step.answer)
 
   -- ---- what is measured
 
@@ -165,7 +177,7 @@ module _ (G : Way) (g : Group Nothing G) (packets : (x y : Party) → G x y → 
   -- a call of the other end
   other_first : (i : ℕ) (side by : Side) (call : Call) (a : Answer) (w next : World) → IsMade r i by call a w next → same_side by side ≡ false → first_at side (suc i) ≡ first_at side i
   other_first i side by call a w next m other =
-      ap (λ (ts : List Told). first_after (lens_of r side) None (watch_from (end_at side r.start) (given_of r side)) ts)
+      ap (λ (ts : List Told). first_after (lens_of r side) (first_known side) (watch_from (end_at side r.start) (given_of r side)) ts)
       (told_grown i side by call a w next m ∙ ap (λ (b : Bool). until r side i ++ (if b then told_of call a (state_at r side i) ∷ [] else [])) other ∙ append-nil (until r side i))
 
   -- a call of its own
@@ -265,7 +277,7 @@ module _ (G : Way) (g : Group Nothing G) (packets : (x y : Party) → G x y → 
     own_first =
         let next_seen : ℕ = next_number (watch r side (suc i)).own in
         let is : first_at side (suc i) ≡ measured_first (first_at side i) next_seen left.path.rtt.smoothed =
-        subst (λ (ts : List Told). first_after l None begins ts ≡ first_behind (first_at side i) (folded (watch_told l) ts begins)) (sym grown) (first_more l None begins (until r side i) t)
+        subst (λ (ts : List Told). first_after l (first_known side) begins ts ≡ first_behind (first_at side i) (folded (watch_told l) ts begins)) (sym grown) (first_more l (first_known side) begins (until r side i) t)
         ∙ ap (λ (x : Rtt). measured_first (first_at side i) next_seen x.smoothed) rtt_is in
         subst (λ (o : Option ℕ). IsFirst o left.path) (sym is) (is_first (first_at side i) next_seen left.path (measures call m watch_behind))
 
@@ -285,7 +297,7 @@ module _ (G : Way) (g : Group Nothing G) (packets : (x y : Party) → G x y → 
   at_first : (side : Side) (w : World) → w ≡ r.start → Was side zero w
   at_first side w is = subst (λ (v : World). Was side zero v) (sym is) (record {
     told = [];
-    may = subst (λ (ts : List Told). TellsCalls (lens_of r side) (settings side) (validated side) (CountsAt r side) 0 None (watch_from (end_at side r.start) (given_of r side)) ts []) (sym (told_none side r.events r.views (end_at side r.start).closing.state)) refl;
+    may = subst (λ (ts : List Told). TellsCalls (lens_of r side) (settings side) (validated side) (CountsAt r side) 0 (first_known side) (watch_from (end_at side r.start) (given_of r side)) first_marking ts []) (sym (told_none side r.events r.views (end_at side r.start).closing.state)) refl;
     shows = λ more. refl;
     sized = still (search_at side r.start) [] tt;
     same = refl;
@@ -293,8 +305,8 @@ module _ (G : Way) (g : Group Nothing G) (packets : (x y : Party) → G x y → 
     unasked = asks_nothing;
   })
     where
-      none : first_at side zero ≡ None
-      none = ap (λ (ts : List Told). first_after (lens_of r side) None (watch_from (end_at side r.start) (given_of r side)) ts) (told_none side r.events r.views (end_at side r.start).closing.state)
+      known : first_at side zero ≡ first_known side
+      known = ap (λ (ts : List Told). first_after (lens_of r side) (first_known side) (watch_from (end_at side r.start) (given_of r side)) ts) (told_none side r.events r.views (end_at side r.start).closing.state)
 
       asks_nothing : IsUnaskedIf (end_at side r.start)
       asks_nothing =
@@ -306,7 +318,9 @@ module _ (G : Way) (g : Group Nothing G) (packets : (x y : Party) → G x y → 
       at_start : IsFirst (first_at side zero) (end_at side r.start).path
       at_start =
           let made = start_is r.start honest.start side in
-          record { is = ap (λ (e : End). e.path.first_after_rtt) made ∙ sym none; none = λ is. ap (λ (e : End). e.path.rtt.smoothed) made }
+          let m = making_at side r.start honest.start in
+          let begins = known ∙ ap (λ (e : End). first_behind_sample e.transport) made in
+          record { is = ap (λ (e : End). e.path.first_after_rtt) made ∙ sym begins; none = λ is. ap (λ (e : End). e.path.rtt.smoothed) made ∙ none_told m.settings.first_sample m.settings.initial_rtt (sym begins ∙ is) }
 
   -- one call more, at either end
   at_next : (side by : Side) (call : Call) (a : Answer) (i : ℕ) (w next : World) → IsMade r i by call a w next → LeadsTo r (suc i) next → Was side i w → Was side (suc i) next
@@ -370,30 +384,30 @@ module _ (G : Way) (g : Group Nothing G) (packets : (x y : Party) → G x y → 
           (subst (λ (v : World). IsFirst (first_at Server i) v.server.path) (sym m.step.others) (known (sym (ap (λ (v : World). v.server.closing.state) m.step.others) ∙ opened)))
 
       may : MayTell r side (suc i) (b.told ++ now)
-      may = subst (λ (ts : List Told). TellsCalls (lens_of r side) (settings side) (validated side) (CountsAt r side) 0 None (watch_from (end_at side r.start) (given_of r side)) ts (b.told ++ now)) (sym more) (go side by call m b.told b.may b.same b.first b.unasked state)
+      may = subst (λ (ts : List Told). TellsCalls (lens_of r side) (settings side) (validated side) (CountsAt r side) 0 (first_known side) (watch_from (end_at side r.start) (given_of r side)) first_marking ts (b.told ++ now)) (sym more) (go side by call m b.told b.may b.same b.first b.unasked state)
         where
           -- its own call
           mine : (side : Side) (call : Call) → IsMade r i side call a w next → (told : List congestion.Told) → MayTell r side i told → (end_at side w).transport ≡ settings side → ((end_at side w).closing.state ≡ states.Open → IsFirst (first_at side i) (end_at side w).path) → IsUnaskedIf (end_at side w) → state_at r side i ≡ (end_at side w).closing.state
-              → TellsCalls (lens_of r side) (settings side) (validated side) (CountsAt r side) 0 None (watch_from (end_at side r.start) (given_of r side)) (until r side i ++ told_of call a (state_at r side i) ∷ []) (told ++ tells (policy_at side r.keys) (reads_window (control_at side w) (heard_at side w) call (end_at side w)) (given_by (other_side side) w) call)
+              → TellsCalls (lens_of r side) (settings side) (validated side) (CountsAt r side) 0 (first_known side) (watch_from (end_at side r.start) (given_of r side)) first_marking (until r side i ++ told_of call a (state_at r side i) ∷ []) (told ++ tells (policy_at side r.keys) (reads_window (control_at side w) (heard_at side w) call (end_at side w)) (given_by (other_side side) w) call)
           mine side call m told may same first asks state =
               let place = slice_get_within r.answers i a m.at.answer in
               let many = as_many_views r.keys r.start end r.events r.answers r.views run.follows in
               let within : i ≤ length r.views = omega (arith, place, many) in
               let met : End = reads_window (control_at side w) (heard_at side w) call (end_at side w) in
               let said : List congestion.Told = tells (policy_at side r.keys) met (given_by (other_side side) w) call in
-              subst (λ (s : State). TellsCalls (lens_of r side) (settings side) (validated side) (CountsAt r side) 0 None (watch_from (end_at side r.start) (given_of r side)) (until r side i ++ told_of call a s ∷ []) (told ++ said)) ((reads_same (control_at side w) (heard_at side w) call (end_at side w)).0 ∙ sym state)
-              (tells_more (lens_of r side) (settings side) (validated side) (CountsAt r side) 0 None (watch_from (end_at side r.start) (given_of r side)) (until r side i) (told_of call a met.closing.state) told said (end_at side w).path.app_limited may
+              subst (λ (s : State). TellsCalls (lens_of r side) (settings side) (validated side) (CountsAt r side) 0 (first_known side) (watch_from (end_at side r.start) (given_of r side)) first_marking (until r side i ++ told_of call a s ∷ []) (told ++ said)) ((reads_same (control_at side w) (heard_at side w) call (end_at side w)).0 ∙ sym state)
+              (tells_more (lens_of r side) (settings side) (validated side) (CountsAt r side) 0 (first_known side) (watch_from (end_at side r.start) (given_of r side)) first_marking (until r side i) (told_of call a met.closing.state) told said (end_at side w).path.app_limited may
               (λ opened n is. record { place = i; as_many = omega (arith, is); counts = counts i side w within m.leads (served_before r.answers i m.served) (sym (reads_same (control_at side w) (heard_at side w) call (end_at side w)).0 ∙ opened) })
-              (λ n is. subst (λ (b : Bool). TellsCall (lens_of r side) (settings side) b (first_at side i) (end_at side w).path.app_limited (watch r side i) (told_of call a met.closing.state) said) (validated_there r end run side i call a w next m n (omega (arith, is))) (own_tells i side a w next same first asks call m)))
+              (λ n is. subst (λ (b : Bool). TellsCall (lens_of r side) (settings side) b (first_at side i) (end_at side w).path.app_limited (watch r side i) (marking r side i) (told_of call a met.closing.state) said) (validated_there r end run side i call a w next m n (omega (arith, is))) (own_tells i side a w next same first asks (marks i side w within m.leads (served_before r.answers i m.served)) call m)))
 
           -- a call of the other end
-          theirs : (side : Side) (told : List congestion.Told) → MayTell r side i told → TellsCalls (lens_of r side) (settings side) (validated side) (CountsAt r side) 0 None (watch_from (end_at side r.start) (given_of r side)) (until r side i ++ []) (told ++ [])
+          theirs : (side : Side) (told : List congestion.Told) → MayTell r side i told → TellsCalls (lens_of r side) (settings side) (validated side) (CountsAt r side) 0 (first_known side) (watch_from (end_at side r.start) (given_of r side)) first_marking (until r side i ++ []) (told ++ [])
           theirs side told may =
-              subst (λ (ts : List Told). TellsCalls (lens_of r side) (settings side) (validated side) (CountsAt r side) 0 None (watch_from (end_at side r.start) (given_of r side)) ts (told ++ [])) (sym (append-nil (until r side i)))
+              subst (λ (ts : List Told). TellsCalls (lens_of r side) (settings side) (validated side) (CountsAt r side) 0 (first_known side) (watch_from (end_at side r.start) (given_of r side)) first_marking ts (told ++ [])) (sym (append-nil (until r side i)))
               (subst (λ (us : List congestion.Told). MayTell r side i us) (sym (append-nil told)) may)
 
           go : (side by : Side) (call : Call) → IsMade r i by call a w next → (told : List congestion.Told) → MayTell r side i told → (end_at side w).transport ≡ settings side → ((end_at side w).closing.state ≡ states.Open → IsFirst (first_at side i) (end_at side w).path) → IsUnaskedIf (end_at side w) → state_at r side i ≡ (end_at side w).closing.state
-              → TellsCalls (lens_of r side) (settings side) (validated side) (CountsAt r side) 0 None (watch_from (end_at side r.start) (given_of r side)) (until r side i ++ told_by side (state_at r side i) (record { side = by; call = call }) a) (told ++ told_by_step side r.keys w (record { side = by; call = call }))
+              → TellsCalls (lens_of r side) (settings side) (validated side) (CountsAt r side) 0 (first_known side) (watch_from (end_at side r.start) (given_of r side)) first_marking (until r side i ++ told_by side (state_at r side i) (record { side = by; call = call }) a) (told ++ told_by_step side r.keys w (record { side = by; call = call }))
           go Client Client call m told may same first asks state = mine Client call m told may same first asks state
           go Server Server call m told may same first asks state = mine Server call m told may same first asks state
           go Client Server call m told may same first asks state = theirs Client told may

@@ -10,10 +10,11 @@ use Rattle.quic_machine.specs.Tracking.{acked_by, not_acked_by}
 use Rattle.quic_machine.specs.End.{End}
 use Rattle.quic_machine.specs.Acked.{told_acked}
 use Rattle.quic_machine.specs.Receive.{Fault, Progress, is_above, names_ungiven, take_frame, take_items, unless_fault, told_ack, told_item, told_unless, told_items}
-use Rattle.quic_machine.specs.FrameCases.{named, ack_taken, passed}
+use Rattle.quic_machine.specs.FrameCases.{named, ack_taken}
 use Rattle.quic_headline.specs.Runs.{names, frames_of}
 use Rattle.quic_headline.specs.Observer.{Sent, Flight, is_greatest, after_frames}
 use Rattle.quic_headline.specs.Telling.{Judging, TellsAck, TellsFrames}
+use Rattle.quic_headline.specs.Marking.{Marking, marking_frames}
 use Rattle.quic_machine.specs.DraftLaws.{IsClose}
 use Rattle.quic_headline.proofs.Packets.Owing.{AreCloses}
 use Rattle.quic_headline.proofs.Packets.Delivered.{frames_of_oks}
@@ -21,19 +22,10 @@ use Rattle.quic_headline.proofs.Packets.Named.{in_filter}
 use Rattle.quic_headline.proofs.Packets.Waited.{AreWaited, waited_filter}
 use Rattle.quic_headline.proofs.Packets.Flying.{Tells, Waits, held, apart_filter, above_same, counted, frames_fly}
 use Rattle.quic_headline.proofs.Sizes.Moving.{Moves, moving_flies}
+use Rattle.quic_headline.proofs.Marking.Judged.{IsMarked}
+use Rattle.quic_headline.proofs.Marking.Frames.{one_passed, frame_marked}
 use Rattle.quic_headline.proofs.Tellings.Asked.{IsUnasked, frame_unasked}
 use Rattle.quic_headline.proofs.Tellings.Acks.{IsSet, frame_set, named_told}
-
--- a frame that was taken leaves what a packet of it alone does
-one_passed : (f : FrameValue) (e : End) → ((passed (f ∷ []) e).end ≡ (take_frame f e).end) × ((take_frame f e).fault ≡ None → (passed (f ∷ []) e).fault ≡ None)
-one_passed f e = go (take_frame f e).fault
-  where
-    p : Progress
-    p = take_frame f e
-
-    go : (o : Option Fault) → ((unless_fault o p (take_items [])).end ≡ p.end) × (o ≡ None → (unless_fault o p (take_items [])).fault ≡ None)
-    go None = (refl, λ none. refl)
-    go (Some fault) = (refl, λ none. cc)
 
 -- one at fault tells nothing
 none_told : (f : FrameValue) (e : End) (fault : Fault) → (take_frame f e).fault ≡ Some fault → told_item (Ok f) e ≡ []
@@ -62,31 +54,32 @@ closes_silent (f ∷ fs) e closes = ap (λ (ts : List Told). ts ++ told_unless p
     later (Some fault) rest = refl
 
 -- nor may they
-closes_tell_none : (j : Judging) (now : ℕ) (fs : List FrameValue) (x : Flight) → AreCloses fs → TellsFrames j now fs x []
-closes_tell_none j now [] x closes = refl
-closes_tell_none j now (ack a ∷ fs) x closes = go (closes (ack a) (inl refl))
+closes_tell_none : (j : Judging) (now : ℕ) (fs : List FrameValue) (x : Flight) (k : Marking) → AreCloses fs → TellsFrames j now fs x k []
+closes_tell_none j now [] x k closes = refl
+closes_tell_none j now (ack a ∷ fs) x k closes = go (closes (ack a) (inl refl))
   where
-    go : IsClose (ack a) ⊎ (ack a ≡ padding) → TellsFrames j now (ack a ∷ fs) x []
+    go : IsClose (ack a) ⊎ (ack a ≡ padding) → TellsFrames j now (ack a ∷ fs) x k []
     go (inl is) = absurd is
     go (inr is) = cc
-closes_tell_none j now (f ∷ fs) x closes = closes_tell_none j now fs x (λ g i. closes g (inr i))
+closes_tell_none j now (f ∷ fs) x k closes = closes_tell_none j now fs x k (λ g i. closes g (inr i))
 
-pub closes_tell : (j : Judging) (now : ℕ) (fs : List FrameValue) (x : Flight) (e : End) → AreCloses fs → TellsFrames j now (frames_of (map Ok fs)) x (told_items (map Ok fs) e)
-closes_tell j now fs x e closes =
-    subst (λ (gs : List FrameValue). TellsFrames j now gs x (told_items (map Ok fs) e)) (sym (frames_of_oks fs))
-    (subst (λ (ts : List Told). TellsFrames j now fs x ts) (sym (closes_silent fs e closes)) (closes_tell_none j now fs x closes))
+pub closes_tell : (j : Judging) (now : ℕ) (fs : List FrameValue) (x : Flight) (k : Marking) (e : End) → AreCloses fs → TellsFrames j now (frames_of (map Ok fs)) x k (told_items (map Ok fs) e)
+closes_tell j now fs x k e closes =
+    subst (λ (gs : List FrameValue). TellsFrames j now gs x k (told_items (map Ok fs) e)) (sym (frames_of_oks fs))
+    (subst (λ (ts : List Told). TellsFrames j now fs x k ts) (sym (closes_silent fs e closes)) (closes_tell_none j now fs x k closes))
 
 module _ (j : Judging) (now : ℕ) (flew : List Sent) (before : ℕ) where
   -- what is known of an end before a frame
-  pub record Reads (x : Flight) (e : End) : Type 0 where
+  pub record Reads (x : Flight) (k : Marking) (e : End) : Type 0 where
     pub waits : Waits j.terms now x (held e)
     pub set : IsSet j e
     pub unasked : j.validated ≡ true → IsUnasked e
     pub moves : Moves flew j.settings.min_mtu before x.flying x.acked e
+    pub marked : IsMarked k e
 
   -- so it is behind it
-  frame_reads : (f : FrameValue) (x : Flight) (e : End) → (take_frame f e).fault ≡ None → Reads x e → Reads (after_frames j.terms now (f ∷ []) x) (take_frame f e).end
-  frame_reads f x e none r =
+  frame_reads : (f : FrameValue) (x : Flight) (k : Marking) (e : End) → (take_frame f e).fault ≡ None → Reads x k e → Reads (after_frames j.terms now (f ∷ []) x) (marking_frames j.terms now (f ∷ []) x k) (take_frame f e).end
+  frame_reads f x k e none r =
       let one = one_passed f e in
       let on = frames_fly j.terms now (f ∷ []) (Moves flew j.settings.min_mtu before) (moving_flies flew j.settings.min_mtu before (f ∷ [])) x e (one.1 none) (record { waits = r.waits; holds = r.moves }) in
       record {
@@ -94,11 +87,12 @@ module _ (j : Judging) (now : ℕ) (flew : List Sent) (before : ℕ) where
         set = frame_set j f e r.set;
         unasked = λ validated. frame_unasked f e (r.unasked validated);
         moves = subst (λ (g : End). let y = after_frames j.terms now (f ∷ []) x in Moves flew j.settings.min_mtu before y.flying y.acked g) one.0 on.holds;
+        marked = frame_marked j.terms now f x k e none r.waits r.marked;
       }
 
   -- an ACK frame that is taken
-  ack_told : (a : AckValue) (x : Flight) (e : End) → (take_frame (ack a) e).fault ≡ None → Reads x e → TellsAck j now a x (told_ack a e)
-  ack_told a x e none r = go (names_ungiven a e) none
+  ack_told : (a : AckValue) (x : Flight) (k : Marking) (e : End) → (take_frame (ack a) e).fault ≡ None → Reads x k e → TellsAck j now a x k (told_ack a e)
+  ack_told a x k e none r = go (names_ungiven a e) none
     where
       acked : List Sent
       acked = filter (λ s. names a s.number) x.flying
@@ -124,40 +118,40 @@ module _ (j : Judging) (now : ℕ) (flew : List Sent) (before : ℕ) where
       set : IsSet j (named a e)
       set = r.set
 
-      go : (b : Bool) → (ack_taken b a e).fault ≡ None → TellsAck j now a x (if b then [] else told_acked rises a (named a e))
+      go : (b : Bool) → (ack_taken b a e).fault ≡ None → TellsAck j now a x k (if b then [] else told_acked rises a (named a e))
       go true none = cc
-      go false none = named_told j now flew before acked others (acked_by a e.tracking.packets) rises a x (named a e) is (λ s i. in_filter (λ u. names a u.number) s x.flying i) (λ s i. in_filter (λ u. not (names a u.number)) s x.flying i) (apart_filter (λ u. names a u.number) x.flying) first second counts set (λ validated. (r.unasked validated).0) r.moves
+      go false none = named_told j now flew before acked others (acked_by a e.tracking.packets) rises a x k (named a e) is (λ s i. in_filter (λ u. names a u.number) s x.flying i) (λ s i. in_filter (λ u. not (names a u.number)) s x.flying i) (apart_filter (λ u. names a u.number) x.flying) first second counts set (λ validated. (r.unasked validated).0) r.moves r.marked
 
   -- a frame that is taken, and what is told of others behind it
-  frame_told : (f : FrameValue) (x : Flight) (e : End) → (take_frame f e).fault ≡ None → Reads x e → (fs : List FrameValue) (later : List Told) → TellsFrames j now fs (after_frames j.terms now (f ∷ []) x) later → TellsFrames j now (f ∷ fs) x (told_item (Ok f) e ++ later)
-  frame_told (ack a) x e none r fs later rest = (told_ack a e, later, ack_told a x e none r, rest, refl)
-  frame_told f x e none r fs later rest = rest
+  frame_told : (f : FrameValue) (x : Flight) (k : Marking) (e : End) → (take_frame f e).fault ≡ None → Reads x k e → (fs : List FrameValue) (later : List Told) → TellsFrames j now fs (after_frames j.terms now (f ∷ []) x) (marking_frames j.terms now (f ∷ []) x k) later → TellsFrames j now (f ∷ fs) x k (told_item (Ok f) e ++ later)
+  frame_told (ack a) x k e none r fs later rest = (told_ack a e, later, ack_told a x k e none r, rest, refl)
+  frame_told f x k e none r fs later rest = rest
 
   -- What is told of some of the frames, from the first on; where none is at fault, of all.
-  pub record ToldItems (is : List (Result FrameValue InvalidFrame)) (x : Flight) (e : End) : Type 0 where
+  pub record ToldItems (is : List (Result FrameValue InvalidFrame)) (x : Flight) (k : Marking) (e : End) : Type 0 where
     pub front : List FrameValue
     pub behind : List FrameValue
     pub split : frames_of is ≡ front ++ behind
-    pub told : TellsFrames j now front x (told_items is e)
+    pub told : TellsFrames j now front x k (told_items is e)
     pub whole : (take_items is e).fault ≡ None → behind ≡ []
 
-  pub items_told : (is : List (Result FrameValue InvalidFrame)) (x : Flight) (e : End) → Reads x e → ToldItems is x e
-  items_told [] x e r = record { front = []; behind = []; split = refl; told = refl; whole = λ none. refl }
-  items_told (Err error ∷ is) x e r = record { front = []; behind = frames_of is; split = refl; told = refl; whole = λ none. cc }
-  items_told (Ok f ∷ is) x e r = go p.fault refl (λ none. items_told is (after_frames j.terms now (f ∷ []) x) p.end (frame_reads f x e none r))
+  pub items_told : (is : List (Result FrameValue InvalidFrame)) (x : Flight) (k : Marking) (e : End) → Reads x k e → ToldItems is x k e
+  items_told [] x k e r = record { front = []; behind = []; split = refl; told = refl; whole = λ none. refl }
+  items_told (Err error ∷ is) x k e r = record { front = []; behind = frames_of is; split = refl; told = refl; whole = λ none. cc }
+  items_told (Ok f ∷ is) x k e r = go p.fault refl (λ none. items_told is (after_frames j.terms now (f ∷ []) x) (marking_frames j.terms now (f ∷ []) x k) p.end (frame_reads f x k e none r))
     where
       p : Progress
       p = take_frame f e
 
       -- by whether it is at fault
-      go : (o : Option Fault) → p.fault ≡ o → (p.fault ≡ None → ToldItems is (after_frames j.terms now (f ∷ []) x) p.end) → ToldItems (Ok f ∷ is) x e
+      go : (o : Option Fault) → p.fault ≡ o → (p.fault ≡ None → ToldItems is (after_frames j.terms now (f ∷ []) x) (marking_frames j.terms now (f ∷ []) x k) p.end) → ToldItems (Ok f ∷ is) x k e
       go None none later =
           let rest = later none in
           record {
             front = f ∷ rest.front;
             behind = rest.behind;
             split = ap (λ (fs : List FrameValue). f ∷ fs) rest.split;
-            told = subst (λ (o : Option Fault). TellsFrames j now (f ∷ rest.front) x (told_item (Ok f) e ++ told_unless o (told_items is p.end))) (sym none) (frame_told f x e none r rest.front (told_items is p.end) rest.told);
+            told = subst (λ (o : Option Fault). TellsFrames j now (f ∷ rest.front) x k (told_item (Ok f) e ++ told_unless o (told_items is p.end))) (sym none) (frame_told f x k e none r rest.front (told_items is p.end) rest.told);
             whole = λ all. rest.whole (subst (λ (o : Option Fault). (unless_fault o p (take_items is)).fault ≡ None) none all);
           }
       go (Some fault) some later = record {

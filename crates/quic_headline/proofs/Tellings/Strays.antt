@@ -8,6 +8,7 @@ use Rattle.quic_machine.specs.Migration.{as_elsewhere, items_at}
 use Rattle.quic_headline.specs.Runs.{frames_of}
 use Rattle.quic_headline.specs.Observer.{Flight, after_ack}
 use Rattle.quic_headline.specs.Telling.{Judging, TellsFrames}
+use Rattle.quic_headline.specs.Marking.{Marking, marking_ack}
 use Rattle.quic_headline.proofs.Packets.Delivered.{frames_at}
 
 -- the frames that are taken of a payload
@@ -24,11 +25,11 @@ items_sent false [] = refl
 items_sent false (f ∷ fs) = ap (λ (is : List (Result FrameValue InvalidFrame)). Ok (as_elsewhere f) ∷ is) (items_sent false fs)
 
 -- these tell what all of them do
-pub stray_tells : (j : Judging) (clock : ℕ) (here : Bool) (fs : List FrameValue) (f : Flight) (told : List Told) → TellsFrames j clock (frames_at here fs) f told → TellsFrames j clock fs f told
-stray_tells j clock true fs f told tells = tells
-stray_tells j clock false [] f told tells = tells
-stray_tells j clock false (ack a ∷ fs) f told tells = (tells.0, tells.1, tells.2, stray_tells j clock false fs (after_ack j.terms clock a f) tells.1 tells.3, tells.4)
-stray_tells j clock false (g ∷ fs) f told tells = stray_tells j clock false fs f told tells
+pub stray_tells : (j : Judging) (clock : ℕ) (here : Bool) (fs : List FrameValue) (f : Flight) (k : Marking) (told : List Told) → TellsFrames j clock (frames_at here fs) f k told → TellsFrames j clock fs f k told
+stray_tells j clock true fs f k told tells = tells
+stray_tells j clock false [] f k told tells = tells
+stray_tells j clock false (ack a ∷ fs) f k told tells = (tells.0, tells.1, tells.2, stray_tells j clock false fs (after_ack j.terms clock a f) (marking_ack a f k) tells.1 tells.3, tells.4)
+stray_tells j clock false (g ∷ fs) f k told tells = stray_tells j clock false fs f k told tells
 
 -- Frames, of which these are the first that are taken.
 pub record Fronts (here : Bool) (fs front : List FrameValue) : Type 0 where

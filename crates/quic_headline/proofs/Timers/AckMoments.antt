@@ -9,6 +9,7 @@ use Rattle.quic_wire_core.specs.declared.shared.EcnCodepoint.{EcnCodepoint}
 use Rattle.quic_wire.specs.Value.{FrameValue, ack, asks, padding}
 use Rattle.quic_recovery_core.specs.PendingAcks.{Pending, most_ack_runs, joined, with_one, at_most, is_filled, can_send, after_insert, starts_wait, asking_counted, after_acks_sent}
 use Rattle.quic_sets.specs.Runs.{Run}
+use Rattle.quic_time.specs.Rtt.{Rtt}
 use Rattle.quic_recovery_core.specs.Duplicates.{Seen}
 use Rattle.quic_machine.specs.declared.run.Call.{Call}
 use Rattle.quic_machine.specs.declared.run.Call.TheVariants as calls
@@ -319,14 +320,14 @@ call_set x y call a c = by_coming x y a c.joined c.served (meets y x c.takes.0) 
 
 -- ---- the observer's deadlines
 
--- nothing came to an end that gives these datagrams in all, and was made at a moment for a peer at
--- this address
-abbrev pub debt_first : List (List ℕ) → ℕ → ℕ → ℕ → ℕ → Debt
-debt_first final start remote initial_rtt initial_delay = first_debt (first_watch final start remote initial_rtt initial_delay)
+-- nothing came to an end that gives these datagrams in all, was made at a moment for a peer at this
+-- address, and knows this of the round trip
+abbrev pub debt_first : List (List ℕ) → ℕ → ℕ → Rtt → ℕ → Debt
+debt_first final start remote first_rtt initial_delay = first_debt (first_watch final start remote first_rtt initial_delay)
 
 -- what the observer of x knows
 abbrev pub debt_of : Party → Party → Debt
-debt_of x y = folded (debt_told (lens x y)) x.told (debt_first x.final x.began x.made.path.remote x.initial_rtt x.initial_delay)
+debt_of x y = folded (debt_told (lens x y)) x.told (debt_first x.final x.began x.made.path.remote x.first_rtt x.initial_delay)
 
 -- the watch within the debt is the observer's
 pub owed_watch : (l : Lens) (told : List Told) (d : Debt) → (folded (debt_told l) told d).watch ≡ folded (watch_told l) told d.watch

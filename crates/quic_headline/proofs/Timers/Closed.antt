@@ -51,6 +51,7 @@ use Rattle.quic_machine.specs.Timeouts.{expiry_at, loss_judged, close_expired, t
 use Rattle.quic_machine.specs.Machine.{World, Policies, HasStopped, IsLeft, IsStep, end_at, view_of, after_call, after_delivered, after_injected_if, end_left, says_last, fails, Follows}
 use Rattle.quic_machine.specs.FrameCases.{Settling, named, acked_keeps, losses_keep, frame_keeps, frame_leaves, items_keep, apart_leaves}
 use Rattle.quic_machine.specs.Steps as steps
+use Rattle.quic_machine.specs.CallCases.{by_done}
 use Rattle.quic_machine.specs.LeaveCases.{Expired, by_timers, by_event}
 use Rattle.quic_machine.specs.LeaveCases as expiring
 use Rattle.quic_machine.specs.PollCases.{PollChange, at_poll, after_draft, by_poll, composes}
@@ -343,11 +344,12 @@ next_left e a = record { closing = refl; timers = refl }
 pub call_goes : (p : Policy) (e : End) (theirs : List (List ℕ)) (call : Call) (a : Answer) → Goes (moment_told call) e (after_call p e theirs call a)
 call_goes p e theirs (calls.Close close) a = closed_goes e.closing.state e close refl
 call_goes p e theirs calls.UseNextId a = left_goes e (end_on_next_id e a) (next_left e a)
+call_goes p e theirs calls.HandshakeDone a = by_done (λ (x : End). Goes None e x) e a (goes_same None e) (goes_same None e)
 call_goes p e theirs (calls.Poll now) a = polled_goes p e now
 call_goes p e theirs (calls.Timeout now) a = timed_goes p e now
 call_goes p e theirs (calls.Deliver delivery) a = delivered_goes e (delivered_by (says_last a) delivery) (slice_get theirs delivery.index) p
 call_goes p e theirs (calls.Inject injection) a = injected_goes (would_open p e injection.remote injection.bytes) (says_last a) p e injection
-call_goes p e theirs calls.Event a = by_event e (λ (x : End). Goes None e x) (goes_same None e) (λ told. (le_self e.closing.clock, stays_so refl refl))
+call_goes p e theirs calls.Event a = by_event e (λ (x : End). Goes None e x) (goes_same None e) (goes_same None e) (λ told. (le_self e.closing.clock, stays_so refl refl))
 call_goes p e theirs call a = goes_same None e
 
 -- ---- a step of a run

@@ -145,7 +145,7 @@ debt_step x y call a all i = record { owes = owes }
     t = told_of call a x.end.closing.state
 
     same : d.watch ≡ watch_of x y
-    same = owed_watch (lens x y) x.told (debt_first x.final x.began x.made.path.remote x.initial_rtt x.initial_delay)
+    same = owed_watch (lens x y) x.told (debt_first x.final x.began x.made.path.remote x.first_rtt x.initial_delay)
 
     after : Watch
     after = watch_told (lens x y) t d.watch
@@ -190,7 +190,7 @@ debt_step x y call a all i = record { owes = owes }
 
     owes : (called x y.given call a).end.closing.state ≡ states.Open → Owes (debt_of (called x y.given call a) y) (called x y.given call a).end
     owes still =
-        subst (λ (b : Debt). Owes b (called x y.given call a).end) (sym (folded_more (debt_told (lens x y)) x.told t (debt_first x.final x.began x.made.path.remote x.initial_rtt x.initial_delay)))
+        subst (λ (b : Debt). Owes b (called x y.given call a).end) (sym (folded_more (debt_told (lens x y)) x.told t (debt_first x.final x.began x.made.path.remote x.first_rtt x.initial_delay)))
         (by_acks (acknowledges (sents_by x.policy x.end call a)) refl still)
 
 -- and by which rules, and that packets that ask are counted

@@ -355,7 +355,7 @@ time_of x y = option_map nanos (lesser_of (told_timeout x.made.transport.max_idl
 
 -- what the observer of x knows of its silence
 abbrev silence_of : Party → Party → Silence
-silence_of x y = folded (silence_told (time_of x y) (lens x y)) x.told (first_silence (first_watch x.final x.began x.made.path.remote x.initial_rtt x.initial_delay))
+silence_of x y = folded (silence_told (time_of x y) (lens x y)) x.told (first_silence (first_watch x.final x.began x.made.path.remote x.first_rtt x.initial_delay))
 
 -- the watch within it is the observer's
 same_watch : (time : Option ℕ) (l : Lens) (told : List Told) (s : Silence) → (folded (silence_told time l) told s).watch ≡ folded (watch_told l) told s.watch
@@ -363,7 +363,7 @@ same_watch time l [] s = refl
 same_watch time l (t ∷ told) s = same_watch time l told (silence_told time l t s)
 
 silence_watch : (x y : Party) → (silence_of x y).watch ≡ watch_of x y
-silence_watch x y = same_watch (time_of x y) (lens x y) x.told (first_silence (first_watch x.final x.began x.made.path.remote x.initial_rtt x.initial_delay))
+silence_watch x y = same_watch (time_of x y) (lens x y) x.told (first_silence (first_watch x.final x.began x.made.path.remote x.first_rtt x.initial_delay))
 
 -- what both ends agree on, by what an end was set to and what its peer told
 abbrev agreed_at : End → Option ℕ
@@ -413,7 +413,7 @@ module _ (x y : Party) (call : Call) (a : Answer) (c : Calls Observed x y call a
   -- what the observer knows behind the call
   silence_next : silence_of next y ≡ silence_behind (time_of x y) sents came after s
   silence_next =
-      folded_more (silence_told (time_of x y) (lens x y)) x.told t (first_silence (first_watch x.final x.began x.made.path.remote x.initial_rtt x.initial_delay))
+      folded_more (silence_told (time_of x y) (lens x y)) x.told t (first_silence (first_watch x.final x.began x.made.path.remote x.first_rtt x.initial_delay))
       ∙ ap (λ (ss : List Sent). silence_behind (time_of x y) ss (news s.watch.intake after.intake) after s) (went_behind x y call a c s.watch watched)
       ∙ ap (λ (j : Intake). silence_behind (time_of x y) sents (news j after.intake) after s) (came_before x y call a c s.watch watched)
       ∙ ap (λ (j : Intake). silence_behind (time_of x y) sents (news (came_to x y) j) after s) (came_behind x y call a c s.watch watched)

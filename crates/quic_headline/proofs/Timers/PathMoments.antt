@@ -11,7 +11,7 @@ use Rattle.quic_wire_core.specs.StreamId.{other_side}
 use Rattle.quic_wire.specs.Value.{FrameValue}
 use Rattle.quic_packet.specs.Datagram.{Opening}
 use Rattle.quic_parameters.specs.Parameters.{ParameterValues}
-use Rattle.quic_config.specs.Transport.{Settings, parameters_of}
+use Rattle.quic_config.specs.Transport.{Settings, parameters_of, first_estimate}
 use Rattle.quic_time.specs.Timers.{has_come}
 use Rattle.quic_paths.specs.Paths.{is_asked}
 use Rattle.quic_recovery_core.specs.AckFrequency.{Frequency}
@@ -396,12 +396,12 @@ first_is_watch false w = one_more_watch w 0 0
 -- one that is made asks its first word, where the address of its peer isn't validated
 first_due : (side : Side) (settings : Settings) (windows : Windows) (theirs : ParameterValues) (own_id peer_id : List ℕ) (remote now : ℕ) (validated : Bool) (words : ℕ → ℕ) (final : List (List ℕ))
     → (let e = new_end side settings windows theirs own_id peer_id remote now validated words in
-    let r = first_questions e.path.validated (first_watch final now remote e.transport.initial_rtt (e.peer_params.max_ack_delay * 1000000)) in
+    let r = first_questions e.path.validated (first_watch final now remote (first_estimate e.transport) (e.peer_params.max_ack_delay * 1000000)) in
     DueSo r.count r.due (standing e))
 first_due side settings windows theirs own_id peer_id remote now true words final = record { asked = refl; set = refl }
 first_due side settings windows theirs own_id peer_id remote now false words final = record {
   asked = refl;
-  set = ap (λ (k : ℕ). Some k) (sym (moment_reckoned (terms_of e) now (first_watch final now remote e.transport.initial_rtt (e.peer_params.max_ack_delay * 1000000)).flight e (record { terms = refl; clock = refl; named = refl; waits = tt; asked = refl; rtt = refl; delay = refl; request = refl })));
+  set = ap (λ (k : ℕ). Some k) (sym (moment_reckoned (terms_of e) now (first_watch final now remote (first_estimate e.transport) (e.peer_params.max_ack_delay * 1000000)).flight e (record { terms = refl; clock = refl; named = refl; waits = tt; asked = refl; rtt = refl; delay = refl; request = refl })));
 }
   where
     e : End

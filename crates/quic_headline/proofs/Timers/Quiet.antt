@@ -285,7 +285,7 @@ quiet_step x y call a c before = record { quiet = subst (λ (v : Watch). IsQuiet
     ])
 
     came : after.intake ≡ came_to (called x y.given call a) y
-    came = ap (λ (v : Watch). v.intake) (sym (behind_is x y call a c w refl)) ∙ watched_intake (lens x y) (x.told ++ t ∷ []) (first_watch x.final x.began x.made.path.remote x.initial_rtt x.initial_delay)
+    came = ap (λ (v : Watch). v.intake) (sym (behind_is x y call a c w refl)) ∙ watched_intake (lens x y) (x.told ++ t ∷ []) (first_watch x.final x.began x.made.path.remote x.first_rtt x.initial_delay)
 
     unnamed : (s : Sent) → In s after.flight.flying → IsNamed after.intake.took s.number → ⊥
     unnamed s i named = elim (leaves.flying s i) [

@@ -42,7 +42,7 @@ module _ (x y : Party) (call : Call) (a : Answer) (c : Calls Observed x y call a
   -- it is what the observer of the end knows there
   pub behind_is : watch_of (called x y.given call a) y ≡ watch_behind
   behind_is =
-      folded_more (watch_told (lens x y)) x.told (told_of call a x.end.closing.state) (first_watch x.final x.began x.made.path.remote x.initial_rtt x.initial_delay)
+      folded_more (watch_told (lens x y)) x.told (told_of call a x.end.closing.state) (first_watch x.final x.began x.made.path.remote x.first_rtt x.initial_delay)
       ∙ ap (λ (v : Watch). watch_told (lens x y) (told_of call a x.end.closing.state) v) (sym is)
 
   -- what was given more, it knows
@@ -58,12 +58,12 @@ module _ (x y : Party) (call : Call) (a : Answer) (c : Calls Observed x y call a
 
   -- it knows what came before the call, and what came by then
   pub came_before : w.intake ≡ came_to x y
-  came_before = ap (λ (v : Watch). v.intake) is ∙ watched_intake (lens x y) x.told (first_watch x.final x.began x.made.path.remote x.initial_rtt x.initial_delay)
+  came_before = ap (λ (v : Watch). v.intake) is ∙ watched_intake (lens x y) x.told (first_watch x.final x.began x.made.path.remote x.first_rtt x.initial_delay)
 
   pub came_behind : watch_behind.intake ≡ came_to (called x y.given call a) y
   came_behind =
       ap (λ (v : Watch). v.intake) (sym behind_is)
-      ∙ watched_intake (lens x y) (x.told ++ told_of call a x.end.closing.state ∷ []) (first_watch x.final x.began x.made.path.remote x.initial_rtt x.initial_delay)
+      ∙ watched_intake (lens x y) (x.told ++ told_of call a x.end.closing.state ∷ []) (first_watch x.final x.began x.made.path.remote x.first_rtt x.initial_delay)
 
   -- and what the end waits for
   pub watched_behind : IsWatched x.terms watch_behind (called x y.given call a).end

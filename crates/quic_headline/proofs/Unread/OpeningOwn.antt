@@ -7,7 +7,7 @@ use Rattle.std.proofs.lemmas.Bool.{cond_both}
 use Rattle.quic_wire_core.specs.declared.stream_id.Dir.{Dir}
 use Rattle.quic_wire_core.specs.declared.stream_id.Dir.TheVariants.{Bi, Uni}
 use Rattle.quic_wire_core.specs.StreamId.{dir_of, index_of}
-use Rattle.quic_wire.specs.Value.{FrameValue, StopSendingValue, StreamCountValue, AckValue, ack, stream, reset_stream, stop_sending, max_data, max_stream_data, max_streams, datagram, new_connection_id, retire_connection_id, path_response, ack_frequency}
+use Rattle.quic_wire.specs.Value.{FrameValue, StopSendingValue, StreamCountValue, AckValue, ack, stream, reset_stream, stop_sending, max_data, max_stream_data, max_streams, datagram, new_connection_id, retire_connection_id, path_response, handshake_done, ack_frequency}
 use Rattle.quic_assembler.specs.declared.assembler.Chunk.{Chunk}
 use Rattle.quic_send_buffer.specs.declared.stream_meta.StreamMeta.{StreamMeta}
 use Rattle.quic_streams_parts.specs.declared.answers.Breach.{Breach}
@@ -47,7 +47,7 @@ use Rattle.quic_machine.specs.Closing.{ticked}
 use Rattle.quic_machine.specs.Receive.{is_above, names_ungiven, take_frame}
 use Rattle.quic_machine.specs.Poll as poll
 use Rattle.quic_machine.specs.LeaveCases.{by_expired, by_event}
-use Rattle.quic_machine.specs.CallCases.{is_delivery, by_call}
+use Rattle.quic_machine.specs.CallCases.{is_delivery, by_call, by_done}
 use Rattle.quic_machine.specs.FrameCases.{Settling, named, ack_taken, acked_keeps, losses_keep, message_leaves, apart_leaves}
 use Rattle.quic_machine.specs.Steps as steps
 use Rattle.quic_machine.specs.Machine.{IsAnswer, after_call}
@@ -272,10 +272,11 @@ module _ (P : Counts → Counts → Type 0) where
     closes = λ reason f now own. i;
     waits = λ now b set. by_waits (λ (f : End). Own f.streams) b (with_closing e (ticked e.closing now)) i i;
     changes_id = λ uses answer. by_next_id (λ (f : End). Own f.streams) e a i (λ c. i) (λ c most. i);
+    says_handshake = λ says answer. by_done (λ (f : End). Own f.streams) e a i i;
     times = λ now expiry set. by_expired p.words e now (λ (f : End). Own f.streams) (λ pending tracking timers waits asked runs packets. i) (λ pending timers waits asked runs. losses_keep (λ (x : End). Own x.streams) settling (with_closing e (ticked e.closing now)) i) (λ x j. j) expiry;
     polls = λ now set. poll_state Own p e now composed_own i;
     hears = λ arrival d set. cc;
-    tells = λ asks. by_event e (λ (f : End). Own f.streams) i (λ told. polled_own e.streams i);
+    tells = λ asks. by_event e (λ (f : End). Own f.streams) i i (λ told. polled_own e.streams i);
   })
 
   -- ---- frames that come
@@ -333,5 +334,6 @@ module _ (P : Counts → Counts → Type 0) where
       go (new_connection_id g) is = apart_leaves (λ (x : End). Own x.streams) (new_connection_id g) e tt (λ c. i) (λ c most. i)
       go (retire_connection_id n) is = apart_leaves (λ (x : End). Own x.streams) (retire_connection_id n) e tt (λ c. i) (λ c most. i)
       go (path_response token) is = apart_leaves (λ (x : End). Own x.streams) (path_response token) e tt (λ c. i) (λ c most. i)
+      go handshake_done is = apart_leaves (λ (x : End). Own x.streams) handshake_done e tt (λ c. i) (λ c most. i)
       go (ack_frequency r) is = apart_leaves (λ (x : End). Own x.streams) (ack_frequency r) e tt (λ c. i) (λ c most. i)
       go other is = i

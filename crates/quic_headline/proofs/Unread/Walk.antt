@@ -8,7 +8,7 @@ use Rattle.quic_wire_core.specs.declared.stream_id.Side.{Side}
 use Rattle.quic_wire_core.specs.declared.stream_id.Dir.{Dir}
 use Rattle.quic_wire_core.specs.declared.stream_id.Dir.TheVariants.{Bi, Uni}
 use Rattle.quic_wire_core.specs.StreamId.{dir_of, index_of}
-use Rattle.quic_wire.specs.Value.{FrameValue, StreamValue, ResetStreamValue, StopSendingValue, AckValue, ack, stream, reset_stream, stop_sending, max_data, max_stream_data, max_streams, datagram, new_connection_id, retire_connection_id, path_response, ack_frequency}
+use Rattle.quic_wire.specs.Value.{FrameValue, StreamValue, ResetStreamValue, StopSendingValue, AckValue, ack, stream, reset_stream, stop_sending, max_data, max_stream_data, max_streams, datagram, new_connection_id, retire_connection_id, path_response, handshake_done, ack_frequency}
 use Rattle.quic_assembler.specs.declared.assembler.Chunk.{Chunk}
 use Rattle.quic_assembler.specs.Arrived.{bytes_read_of, given_by}
 use Rattle.quic_send_buffer.specs.declared.stream_meta.StreamMeta.{StreamMeta}
@@ -52,7 +52,7 @@ use Rattle.quic_machine.specs.Closing.{ticked}
 use Rattle.quic_machine.specs.Receive.{is_above, names_ungiven, take_frame}
 use Rattle.quic_machine.specs.Poll as poll
 use Rattle.quic_machine.specs.LeaveCases.{by_expired, by_event}
-use Rattle.quic_machine.specs.CallCases.{is_delivery, is_poll, by_call}
+use Rattle.quic_machine.specs.CallCases.{is_delivery, is_poll, by_call, by_done}
 use Rattle.quic_machine.specs.FrameCases.{Settling, named, ack_taken, acked_keeps, losses_keep, message_leaves, frames_leave, apart_leaves}
 use Rattle.quic_machine.specs.FrameCases as frame_cases
 use Rattle.quic_machine.specs.Steps as steps
@@ -221,10 +221,11 @@ module _ (K : Side → Receiving → Counts → Counts → Type 0) where
     closes = λ reason f now own. i;
     waits = λ now b set. by_waits (λ (f : End). Of f.streams) b (with_closing e (ticked e.closing now)) i i;
     changes_id = λ uses answer. by_next_id (λ (f : End). Of f.streams) e a i (λ c. i) (λ c most. i);
+    says_handshake = λ says answer. by_done (λ (f : End). Of f.streams) e a i i;
     times = λ now expiry set. by_expired p.words e now (λ (f : End). Of f.streams) (λ pending tracking timers waits asked runs packets. i) (λ pending timers waits asked runs. losses_keep (λ (x : End). Of x.streams) settling (with_closing e (ticked e.closing now)) i) (λ x j. j) expiry;
     polls = polls;
     hears = λ arrival d set. cc;
-    tells = λ asks. by_event e (λ (f : End). Of f.streams) i (λ told. polled_left e.streams i);
+    tells = λ asks. by_event e (λ (f : End). Of f.streams) i i (λ told. polled_left e.streams i);
   })
 
   -- ---- frames that come
@@ -273,6 +274,7 @@ module _ (K : Side → Receiving → Counts → Counts → Type 0) where
       go (new_connection_id g) brings resets = apart_leaves (λ (x : End). Of x.streams) (new_connection_id g) e tt (λ c. i) (λ c most. i)
       go (retire_connection_id n) brings resets = apart_leaves (λ (x : End). Of x.streams) (retire_connection_id n) e tt (λ c. i) (λ c most. i)
       go (path_response token) brings resets = apart_leaves (λ (x : End). Of x.streams) (path_response token) e tt (λ c. i) (λ c most. i)
+      go handshake_done brings resets = apart_leaves (λ (x : End). Of x.streams) handshake_done e tt (λ c. i) (λ c most. i)
       go (ack_frequency r) brings resets = apart_leaves (λ (x : End). Of x.streams) (ack_frequency r) e tt (λ c. i) (λ c most. i)
       go other brings resets = i
 

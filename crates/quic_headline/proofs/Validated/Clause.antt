@@ -302,8 +302,8 @@ module _ (r : Run) (end : World) (honest : IsHonest r) (run : IsRun r end) (side
   -- what came by the run's lists is what came to it
   news_are : news (watch r side i).intake (watch r side (suc i)).intake ≡ news (came_to x y) (came_to behind y)
   news_are =
-      ap (λ (j : Intake). news j (watch r side (suc i)).intake) (ap (λ (v : Watch). v.intake) h.seen ∙ watched_intake (lens x y) x.told (first_watch x.final x.began x.made.path.remote x.initial_rtt x.initial_delay))
-      ∙ ap (λ (j : Intake). news (came_to x y) j) (ap (λ (v : Watch). v.intake) h.seen_behind ∙ watched_intake (lens x y) behind.told (first_watch x.final x.began x.made.path.remote x.initial_rtt x.initial_delay))
+      ap (λ (j : Intake). news j (watch r side (suc i)).intake) (ap (λ (v : Watch). v.intake) h.seen ∙ watched_intake (lens x y) x.told (first_watch x.final x.began x.made.path.remote x.first_rtt x.initial_delay))
+      ∙ ap (λ (j : Intake). news (came_to x y) j) (ap (λ (v : Watch). v.intake) h.seen_behind ∙ watched_intake (lens x y) behind.told (first_watch x.final x.began x.made.path.remote x.first_rtt x.initial_delay))
 
   -- where it comes from
   abbrev Here : Type 0

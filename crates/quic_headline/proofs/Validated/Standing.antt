@@ -5,7 +5,7 @@ use Rattle.std.specs.Prelude.{nat_lt, if◌then◌else◌}
 use Rattle.std.specs.declared.ops.Range.{Range}
 use Rattle.quic_wire_core.specs.declared.shared.EcnCodepoint.{EcnCodepoint}
 use Rattle.quic_wire_core.specs.TransportError.{ErrorValue}
-use Rattle.quic_wire.specs.Value.{FrameValue, ack, datagram, path_response, new_connection_id, retire_connection_id, ack_frequency}
+use Rattle.quic_wire.specs.Value.{FrameValue, ack, datagram, path_response, handshake_done, new_connection_id, retire_connection_id, ack_frequency}
 use Rattle.quic_ids.specs.CidState.{retirement_answer}
 use Rattle.quic_ids.specs.CidQueue.{insert_answer}
 use Rattle.quic_ids.specs.declared.cid_queue.InsertError.{InsertError}
@@ -34,7 +34,7 @@ use Rattle.quic_machine.specs.Steps as steps
 use Rattle.quic_machine.specs.CallCases.{is_delivery, is_poll, is_timeout, Plain, by_plain_call}
 use Rattle.quic_machine.specs.CallCases as cases
 use Rattle.quic_headline.specs.Waited.{is_path_response}
-use Rattle.quic_headline.proofs.Packets.Apart.{by_waits, by_frequency}
+use Rattle.quic_headline.proofs.Packets.Apart.{by_waits, by_frequency, by_heard_done}
 
 -- whether the address of an end's peer is validated, what the peer is asked, and when it is asked
 -- anew
@@ -113,6 +113,7 @@ module _ (Q : Standing → Type 0) where
       go : (b : Bool) → Q (answered_if b (standing e)) → Of (validated_if b e)
       go true j = j
       go false j = j
+  frame_stands handshake_done e told other = by_heard_done Of e (other refl) (λ c. other refl)
   frame_stands (ack_frequency r) e told other = by_frequency Of r e (λ threshold reordering frequency. other refl)
   frame_stands f e told other = other refl
 

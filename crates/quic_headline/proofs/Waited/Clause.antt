@@ -5,7 +5,7 @@ use Rattle.std.specs.List.{list_any}
 use Rattle.std.proofs.lemmas.Bool.{or_left, or_right, or_cases, both_ways, lt-ltb}
 use Rattle.quic_wire_core.specs.declared.stream_id.Side.{Side}
 use Rattle.quic_wire_core.specs.StreamId.{other_side}
-use Rattle.quic_wire.specs.Value.{FrameValue, padding, ping, stream, max_data, max_streams, data_blocked, path_challenge, path_response, immediate_ack, ack_frequency}
+use Rattle.quic_wire.specs.Value.{FrameValue, padding, ping, stream, handshake_done, max_data, max_streams, data_blocked, path_challenge, path_response, immediate_ack, ack_frequency}
 use Rattle.quic_streams_state.specs.declared.state.StreamsState.{StreamsState}
 use Rattle.quic_machine.specs.declared.run.Call.TheVariants as calls
 use Rattle.quic_machine.specs.declared.run.Answer.{Answer}
@@ -16,7 +16,7 @@ use Rattle.quic_machine.specs.Poll.{asking, zeros_behind, whole, alone, probe, n
 use Rattle.quic_machine.specs.DraftLaws.{HasRoom}
 use Rattle.quic_machine.specs.PollCases.{ready_at, draft_at, frames_at, may_leave_at, ready_closes_not}
 use Rattle.quic_machine.specs.Machine.{World, policy_at, end_at}
-use Rattle.quic_headline.specs.Runs.{Run, In}
+use Rattle.quic_headline.specs.Runs.{Run, In, was_said_done}
 use Rattle.quic_headline.specs.Observer.{Sent, HoldsOffset, HoldsEnd, asks_of, Watch}
 use Rattle.quic_headline.specs.Headline.{IsHonest, IsRun}
 use Rattle.quic_headline.specs.Moments.{is_ack, acknowledges}
@@ -48,12 +48,12 @@ use Rattle.quic_headline.proofs.Settled.Words.{Settling}
 use Rattle.quic_headline.proofs.Settled.Carried.{known_of}
 use Rattle.quic_headline.proofs.Settled.Group.{Open, told_so}
 use Rattle.quic_headline.proofs.Settled.Clause.{Held, held}
-use Rattle.quic_headline.proofs.Waited.Flags.{Flag, all, counts, blocked, challenge, response, says, flag, draft_said, asked_flag}
+use Rattle.quic_headline.proofs.Waited.Flags.{Flag, confirmed, all, counts, blocked, challenge, response, says, flag, draft_said, asked_flag}
 use Rattle.quic_headline.proofs.Waited.Pings.{ready_still}
 use Rattle.quic_headline.proofs.Waited.Drafts.{IsUrged, silent_acks, Brings, whole_brings}
 use Rattle.quic_headline.specs.AcksDue.{Haste}
 use Rattle.quic_headline.proofs.AcksDue.Group.{haste_of}
-use Rattle.quic_headline.proofs.Waited.Group.{IsWanted, wants_of, wants_watch}
+use Rattle.quic_headline.proofs.Waited.Group.{IsWanted, wants_of, wants_watch, wants_done}
 use Rattle.quic_headline.proofs.Waited.Urged.{is_wanted, Wished, wished_group}
 use Rattle.quic_headline.proofs.Steps.Probes.{begun}
 use Rattle.quic_headline.proofs.Duties.Carrier.{any_is}
@@ -91,22 +91,23 @@ module _ (q : Asking) (w : Wants) (e : End) (i : IsWanted w e) where
       go true is = inr (sym known ∙ i.asked is waits)
       go false is = inl is
 
-  -- so a frame waited that brings something, and says what waits
-  frame_waited : (f : FrameValue) → Brings w.watch.flight.acked e f → ((k : Flag) → says k f ≡ true → flag k e.waiting ≡ true) → (is_ack_frequency f ≡ true → Asked) → FrameWaited q w f
-  frame_waited ping brings waits asks = i.pinged brings
-  frame_waited immediate_ack brings waits asks = i.hastened brings
-  frame_waited (stream f) brings waits asks = brings
-  frame_waited (max_data limit) brings waits asks = unsaid all (waits all refl)
-  frame_waited (max_streams f) brings waits asks = unsaid (counts f.one_way) (waits (counts f.one_way) (same f.one_way))
+  -- so a frame waited that brings something, and says what waits, HANDSHAKE_DONE where it was said so
+  frame_waited : (f : FrameValue) → Brings w.watch.flight.acked e f → ((k : Flag) → says k f ≡ true → flag k e.waiting ≡ true) → (is_ack_frequency f ≡ true → Asked) → (e.waiting.frames.handshake_done ≡ true → w.done ≡ true) → FrameWaited q w f
+  frame_waited ping brings waits asks done = i.pinged brings
+  frame_waited immediate_ack brings waits asks done = i.hastened brings
+  frame_waited (stream f) brings waits asks done = brings
+  frame_waited handshake_done brings waits asks done = (done (waits confirmed refl), unsaid confirmed (waits confirmed refl))
+  frame_waited (max_data limit) brings waits asks done = unsaid all (waits all refl)
+  frame_waited (max_streams f) brings waits asks done = unsaid (counts f.one_way) (waits (counts f.one_way) (same f.one_way))
     where
       same : (b : Bool) → is_max_streams b (max_streams (record { one_way = b; count = f.count })) ≡ true
       same true = refl
       same false = refl
-  frame_waited (data_blocked limit) brings waits asks = unsaid blocked (waits blocked refl)
-  frame_waited (path_challenge token) brings waits asks = unsaid challenge (waits challenge refl)
-  frame_waited (path_response token) brings waits asks = unsaid response (waits response refl)
-  frame_waited (ack_frequency f) brings waits asks = asks refl
-  frame_waited f brings waits asks = tt
+  frame_waited (data_blocked limit) brings waits asks done = unsaid blocked (waits blocked refl)
+  frame_waited (path_challenge token) brings waits asks done = unsaid challenge (waits challenge refl)
+  frame_waited (path_response token) brings waits asks done = unsaid response (waits response refl)
+  frame_waited (ack_frequency f) brings waits asks done = asks refl
+  frame_waited f brings waits asks done = tt
 
   -- and an ACK frame is wanted where one is due, or many came that don't ask
   ack_wanted : (h : Haste) → (e.acknowledging.due ≡ true → is_wanted h w ≡ true) → IsUrged e.acknowledging → is_wanted h w ≡ true
@@ -207,10 +208,14 @@ module _ (r : Run) (end : World) (honest : IsHonest r) (run : IsRun r end) (side
     frames_waited none is f among = elim (in_append f (draft_at e now).frames (replicate (zeros_behind (draft_at e now)) padding) (subst (λ (s : Sent). In f s.frames) (sym same) among)) [
       | inl here ↦ frame_waited (asking_at r side) (wants r side i) e wanted f (brings (ap (λ (v : Waiting). v.signals.ping) still) (ap (λ (v : Waiting). v.signals.immediate) still) here) (λ k said. (
           let waited : flag k z.waiting ≡ true = (draft_said z.waiting k (ready_at e now).leaving z (may_leave_at e now) refl).waited (any_is (says k) f (draft_at e now).frames here said) in
-          sym (asked_flag k e.waiting _) ∙ ap (flag k) (sym still) ∙ waited)) (λ said. asks_or_none (asking_at r side) (wants r side i) e wanted anew_seen (asked_so (draft_has (ready_at e now).leaving z (may_leave_at e now)) (count_any (draft_at e now).frames (any_is is_ack_frequency f (draft_at e now).frames here said))))
+          sym (asked_flag k e.waiting _) ∙ ap (flag k) (sym still) ∙ waited)) (λ said. asks_or_none (asking_at r side) (wants r side i) e wanted anew_seen (asked_so (draft_has (ready_at e now).leaving z (may_leave_at e now)) (count_any (draft_at e now).frames (any_is is_ack_frequency f (draft_at e now).frames here said)))) (λ set. said_done (h.gives.1.1.only.waits.1 set))
       | inr behind ↦ subst (FrameWaited (asking_at r side) (wants r side i)) (sym (in_padding f (zeros_behind (draft_at e now)) behind)) tt
     ]
       where
+        -- where it was said that the handshake is done, the observer knows that
+        said_done : was_said_done x.told ≡ true → (wants r side i).done ≡ true
+        said_done said = ap (λ (v : Wants). v.done) wants_is ∙ wants_done x y said
+
         still : z.waiting ≡ (request_queued (begun e now)).waiting
         still = ready_still e now none
 

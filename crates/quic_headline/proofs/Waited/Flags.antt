@@ -7,13 +7,13 @@ use Rattle.std.proofs.lemmas.Bool.{or_cases, both_ways}
 use Rattle.std.proofs.lemmas.List.Folds.{list_any-append}
 use Rattle.quic_wire_core.specs.declared.stream_id.Dir.{Dir}
 use Rattle.quic_wire_core.specs.declared.stream_id.Dir.TheVariants.{Bi, Uni}
-use Rattle.quic_wire.specs.Value.{FrameValue, padding, ping, max_data, max_streams, data_blocked, path_challenge, path_response, immediate_ack, AckFrequencyValue, ack_frequency}
+use Rattle.quic_wire.specs.Value.{FrameValue, padding, ping, handshake_done, max_data, max_streams, data_blocked, path_challenge, path_response, immediate_ack, AckFrequencyValue, ack_frequency}
 use Rattle.quic_streams_parts.specs.Dirs.{of}
 use Rattle.quic_paths.specs.Responses.{Response}
 use Rattle.quic_retransmits.specs.declared.retransmits.ControlKind.{ControlKind}
-use Rattle.quic_retransmits.specs.declared.retransmits.ControlKind.TheVariants.{ResetStream, StopSending, MaxData, MaxStreamData, MaxStreams, DataBlocked, StreamDataBlocked, NewConnectionId, RetireConnectionId}
+use Rattle.quic_retransmits.specs.declared.retransmits.ControlKind.TheVariants.{HandshakeDone, ResetStream, StopSending, MaxData, MaxStreamData, MaxStreams, DataBlocked, StreamDataBlocked, NewConnectionId, RetireConnectionId}
 use Rattle.quic_streams_state.specs.declared.state.StreamsState.{StreamsState}
-use Rattle.quic_streams_state.specs.Control.{Entry, data_entry, count_entry, blocked_entry, flagged, waiting, without_first, kind_of, dir_named, frame_of_first}
+use Rattle.quic_streams_state.specs.Control.{Entry, done_entry, data_entry, count_entry, blocked_entry, flagged, waiting, without_first, kind_of, dir_named, frame_of_first}
 use Rattle.quic_streams_laws.specs.KindLaws.{GoesFirst}
 use Rattle.quic_machine.specs.Parts.{Waiting}
 use Rattle.quic_machine.specs.Validation.{challenge_frame, response_frame}
@@ -21,12 +21,13 @@ use Rattle.quic_machine.specs.End.{End}
 use Rattle.quic_machine.specs.Poll.{Draft, no_frames, lazied_as, draft_as, Leaving, request_of}
 use Rattle.quic_machine.specs.DraftLaws.{Writing, by_leave, MayLeave}
 use Rattle.quic_machine.specs.Puts as puts
-use Rattle.quic_headline.specs.InFlight.{is_max_data, is_data_blocked, is_max_streams}
+use Rattle.quic_headline.specs.InFlight.{is_handshake_done, is_max_data, is_data_blocked, is_max_streams}
 use Rattle.quic_headline.specs.Waited.{is_path_challenge, is_path_response}
 
--- MAX_DATA, MAX_STREAMS of one-way or of two-way streams, DATA_BLOCKED, PATH_CHALLENGE and
--- PATH_RESPONSE
+-- HANDSHAKE_DONE, MAX_DATA, MAX_STREAMS of one-way or of two-way streams, DATA_BLOCKED,
+-- PATH_CHALLENGE and PATH_RESPONSE
 pub data Flag : Type 0 where
+  confirmed : Flag
   all : Flag
   counts : (one_way : Bool) → Flag
   blocked : Flag
@@ -35,6 +36,7 @@ pub data Flag : Type 0 where
 
 -- whether a frame is such
 abbrev pub says : Flag → FrameValue → Bool
+says confirmed f = is_handshake_done f
 says all f = is_max_data f
 says (counts one_way) f = is_max_streams one_way f
 says blocked f = is_data_blocked f
@@ -43,6 +45,7 @@ says response f = is_path_response f
 
 -- whether it waits
 abbrev pub flag : Flag → Waiting → Bool
+flag confirmed w = w.frames.handshake_done
 flag all w = w.frames.max_data
 flag (counts one_way) w = of (dir_named one_way) w.frames.max_stream_id
 flag blocked w = w.frames.data_blocked
@@ -51,6 +54,7 @@ flag response w = is_some w.signals.response
 
 -- the kind of its frames; those of path validation are of none
 abbrev kind_said : Flag → Option ControlKind
+kind_said confirmed = Some HandshakeDone
 kind_said all = Some MaxData
 kind_said (counts one_way) = Some (MaxStreams (dir_named one_way))
 kind_said blocked = Some DataBlocked
@@ -59,6 +63,8 @@ kind_said response = None
 
 -- a frame that says it is of that kind
 says_kind : (k : Flag) (f : FrameValue) → says k f ≡ true → kind_of f ≡ kind_said k
+says_kind confirmed handshake_done is = refl
+says_kind confirmed f is = cc
 says_kind all (max_data limit) is = refl
 says_kind all f is = cc
 says_kind (counts true) (max_streams f) is = ap (λ (b : Bool). Some (MaxStreams (dir_named b))) is
@@ -86,6 +92,7 @@ no_kind k kind f has none = go (says k f) refl
 
 -- where it isn't of path validation either, it says none
 says_none : (k : Flag) (f : FrameValue) → kind_of f ≡ None → is_path_challenge f ≡ false → is_path_response f ≡ false → says k f ≡ false
+says_none confirmed f none asks answers = no_kind confirmed HandshakeDone f refl none
 says_none all f none asks answers = no_kind all MaxData f refl none
 says_none (counts one_way) f none asks answers = no_kind (counts one_way) (MaxStreams (dir_named one_way)) f refl none
 says_none blocked f none asks answers = no_kind blocked DataBlocked f refl none
@@ -109,7 +116,18 @@ taken_count true Bi w = inr ((λ is. cc), refl)
 taken_count false Uni w = inr ((λ is. cc), refl)
 
 taken : (k : Flag) (kind : ControlKind) (w : Waiting) → Taken k kind w
+taken confirmed HandshakeDone w = inl refl
+taken confirmed ResetStream w = inr ((λ is. cc), refl)
+taken confirmed StopSending w = inr ((λ is. cc), refl)
+taken confirmed MaxData w = inr ((λ is. cc), refl)
+taken confirmed MaxStreamData w = inr ((λ is. cc), refl)
+taken confirmed (MaxStreams dir) w = inr ((λ is. cc), refl)
+taken confirmed DataBlocked w = inr ((λ is. cc), refl)
+taken confirmed StreamDataBlocked w = inr ((λ is. cc), refl)
+taken confirmed NewConnectionId w = inr ((λ is. cc), refl)
+taken confirmed RetireConnectionId w = inr ((λ is. cc), refl)
 taken all MaxData w = inl refl
+taken all HandshakeDone w = inr ((λ is. cc), refl)
 taken all ResetStream w = inr ((λ is. cc), refl)
 taken all StopSending w = inr ((λ is. cc), refl)
 taken all MaxStreamData w = inr ((λ is. cc), refl)
@@ -119,6 +137,7 @@ taken all StreamDataBlocked w = inr ((λ is. cc), refl)
 taken all NewConnectionId w = inr ((λ is. cc), refl)
 taken all RetireConnectionId w = inr ((λ is. cc), refl)
 taken (counts one_way) (MaxStreams dir) w = taken_count one_way dir w
+taken (counts one_way) HandshakeDone w = inr ((λ is. cc), refl)
 taken (counts one_way) MaxData w = inr ((λ is. cc), refl)
 taken (counts one_way) ResetStream w = inr ((λ is. cc), refl)
 taken (counts one_way) StopSending w = inr ((λ is. cc), refl)
@@ -128,6 +147,7 @@ taken (counts one_way) StreamDataBlocked w = inr ((λ is. cc), refl)
 taken (counts one_way) NewConnectionId w = inr ((λ is. cc), refl)
 taken (counts one_way) RetireConnectionId w = inr ((λ is. cc), refl)
 taken blocked DataBlocked w = inl refl
+taken blocked HandshakeDone w = inr ((λ is. cc), refl)
 taken blocked MaxData w = inr ((λ is. cc), refl)
 taken blocked ResetStream w = inr ((λ is. cc), refl)
 taken blocked StopSending w = inr ((λ is. cc), refl)
@@ -152,6 +172,7 @@ first_set k kind w s f same is = go k same
     at_kind other both = (let kinds : kind ≡ other = cc in subst (λ (x : ControlKind). frame_of_first (waiting x w.frames) s ≡ Some f) kinds is)
 
     go : (k : Flag) → Some kind ≡ kind_said k → flag k w ≡ true
+    go confirmed both = flag_set w.frames.handshake_done done_entry s f (at_kind HandshakeDone both)
     go all both = flag_set w.frames.max_data data_entry s f (at_kind MaxData both)
     go (counts one_way) both = flag_set (of (dir_named one_way) w.frames.max_stream_id) (count_entry (dir_named one_way)) s f (at_kind (MaxStreams (dir_named one_way)) both)
     go blocked both = flag_set w.frames.data_blocked blocked_entry s f (at_kind DataBlocked both)
@@ -209,6 +230,7 @@ immediate_goes k w = ((λ said. cc), inr refl)
 
 -- ACK_FREQUENCY is none of them
 pub asked_flag : (k : Flag) (w : Waiting) (waits : Bool) → flag k (record w { frames = record w.frames { ack_frequency = waits } }) ≡ flag k w
+asked_flag confirmed w waits = refl
 asked_flag all w waits = refl
 asked_flag (counts one_way) w waits = refl
 asked_flag blocked w waits = refl

@@ -29,7 +29,7 @@ use Rattle.quic_machine.specs.PollCases.{ready_at, draft_at, frames_at, may_leav
 use Rattle.quic_machine.specs.FrameCases.{begun}
 use Rattle.quic_machine.specs.CallCases.{is_delivery, is_poll, is_timeout}
 use Rattle.quic_machine.specs.Machine.{after_call, gave}
-use Rattle.quic_headline.specs.Runs.{Told, Packet, Intake, folded}
+use Rattle.quic_headline.specs.Runs.{Told, Packet, Intake, folded, says_done, was_said_done}
 use Rattle.quic_headline.specs.Observer.{Sent, Terms, asks_of, Watch, first_watch, news, is_past, is_timely, Lens, watch_told}
 use Rattle.quic_headline.specs.Moments.{acknowledges}
 use Rattle.quic_headline.specs.InFlight.{is_ack_frequency}
@@ -142,7 +142,7 @@ module _ (p : Policy) (e : End) (now : ℕ) (k : Flag) where
 
 -- what the observer of x knows to be wanted
 abbrev pub wants_of : Party → Party → Wants
-wants_of x y = folded (wants_told (lens x y)) x.told (no_wants (first_watch x.final x.began x.made.path.remote x.initial_rtt x.initial_delay))
+wants_of x y = folded (wants_told (lens x y)) x.told (no_wants (first_watch x.final x.began x.made.path.remote x.first_rtt x.initial_delay))
 
 -- the watch within it is the observer's
 same_watch : (l : Lens) (told : List Told) (w : Wants) → (folded (wants_told l) told w).watch ≡ folded (watch_told l) told w.watch
@@ -150,7 +150,20 @@ same_watch l [] w = refl
 same_watch l (t ∷ told) w = same_watch l told (wants_told l t w)
 
 pub wants_watch : (x y : Party) → (wants_of x y).watch ≡ watch_of x y
-wants_watch x y = same_watch (lens x y) x.told (no_wants (first_watch x.final x.began x.made.path.remote x.initial_rtt x.initial_delay))
+wants_watch x y = same_watch (lens x y) x.told (no_wants (first_watch x.final x.began x.made.path.remote x.first_rtt x.initial_delay))
+
+-- where it was said that the handshake is done, the observer knows that
+done_told : (l : Lens) (told : List Told) (w : Wants) → (was_said_done told ≡ true) ⊎ (w.done ≡ true) → (folded (wants_told l) told w).done ≡ true
+done_told l [] w (inl none) = cc
+done_told l [] w (inr was) = was
+done_told l (t ∷ told) w (inl some) = elim (or_cases (says_done t.call t.answer) (was_said_done told) some) [
+  | inl here ↦ done_told l told (wants_told l t w) (inr (or_left (says_done t.call t.answer) w.done here))
+  | inr later ↦ done_told l told (wants_told l t w) (inl later)
+]
+done_told l (t ∷ told) w (inr was) = done_told l told (wants_told l t w) (inr (or_right (says_done t.call t.answer) w.done was))
+
+pub wants_done : (x y : Party) → was_said_done x.told ≡ true → (wants_of x y).done ≡ true
+wants_done x y said = done_told (lens x y) x.told (no_wants (first_watch x.final x.began x.made.path.remote x.first_rtt x.initial_delay)) (inl said)
 
 -- what an open end wants, by what is known to be wanted
 pub record IsWanted (w : Wants) (e : End) : Type 0 where
@@ -196,7 +209,7 @@ module _ (x y : Party) (call : Call) (a : Answer) (c : Calls Observed x y call a
   -- what is wanted behind the call
   pub wants_next : wants_of next y ≡ wants_behind x.terms.keep_alive t sents came after w
   wants_next =
-      folded_more (wants_told (lens x y)) x.told t (no_wants (first_watch x.final x.began x.made.path.remote x.initial_rtt x.initial_delay))
+      folded_more (wants_told (lens x y)) x.told t (no_wants (first_watch x.final x.began x.made.path.remote x.first_rtt x.initial_delay))
       ∙ ap (λ (ss : List Sent). wants_behind x.terms.keep_alive t ss (news w.watch.intake after.intake) after w) (went_behind x y call a c w.watch watched)
       ∙ ap (λ (j : Intake). wants_behind x.terms.keep_alive t sents (news j after.intake) after w) (came_before x y call a c w.watch watched)
       ∙ ap (λ (j : Intake). wants_behind x.terms.keep_alive t sents (news (came_to x y) j) after w) (came_behind x y call a c w.watch watched)

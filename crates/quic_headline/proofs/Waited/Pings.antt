@@ -29,7 +29,7 @@ use Rattle.quic_machine.specs.FrameCases.{Settling, Receives, named, acked_keeps
 use Rattle.quic_machine.specs.Steps as steps
 use Rattle.quic_machine.specs.InjectionCases.{by_injection}
 use Rattle.quic_machine.specs.LeaveCases.{by_event}
-use Rattle.quic_machine.specs.CallCases.{is_poll}
+use Rattle.quic_machine.specs.CallCases.{is_poll, by_done}
 use Rattle.quic_machine.specs.Machine.{after_delivered, after_call, gave, says_last}
 use Rattle.quic_headline.proofs.Packets.Apart.{by_next_id}
 use Rattle.quic_headline.specs.Waited.{stands, is_ping, asks_ping}
@@ -288,8 +288,9 @@ call_pinged p e theirs (calls.Close close) a silent opened = go e.closing.state
     go states.Drained = refl
     go states.Failed = refl
 call_pinged p e theirs calls.UseNextId a silent opened = by_next_id (SamePing e) e a refl (λ c. refl) (λ c most. refl)
+call_pinged p e theirs calls.HandshakeDone a silent opened = by_done (SamePing e) e a refl refl
 call_pinged p e theirs (calls.Inject injection) a silent opened = by_injection p e (says_last a) injection (SamePing e) refl (λ now. refl)
-call_pinged p e theirs calls.Event a silent opened = by_event e (SamePing e) refl (λ told. refl)
+call_pinged p e theirs calls.Event a silent opened = by_event e (SamePing e) refl refl (λ told. refl)
 call_pinged p e theirs call a silent opened = refl
 
 -- IMMEDIATE_ACK waits as before
@@ -309,6 +310,7 @@ call_hastened p e theirs (calls.Close close) a silent opened = go e.closing.stat
     go states.Drained = refl
     go states.Failed = refl
 call_hastened p e theirs calls.UseNextId a silent opened = by_next_id (SameBare of_immediate e) e a refl (λ c. refl) (λ c most. refl)
+call_hastened p e theirs calls.HandshakeDone a silent opened = by_done (SameBare of_immediate e) e a refl refl
 call_hastened p e theirs (calls.Inject injection) a silent opened = by_injection p e (says_last a) injection (SameBare of_immediate e) refl (λ now. refl)
-call_hastened p e theirs calls.Event a silent opened = by_event e (SameBare of_immediate e) refl (λ told. refl)
+call_hastened p e theirs calls.Event a silent opened = by_event e (SameBare of_immediate e) refl refl (λ told. refl)
 call_hastened p e theirs call a silent opened = refl

@@ -13,7 +13,7 @@ use Rattle.quic_machine.specs.declared.run.Answer.{Answer}
 use Rattle.quic_machine.specs.Closing.{Closing}
 use Rattle.quic_machine.specs.Calls.{closed_in}
 use Rattle.quic_machine.specs.End.{End}
-use Rattle.quic_machine.specs.CallCases.{is_delivery, is_poll}
+use Rattle.quic_machine.specs.CallCases.{is_delivery, is_poll, by_done}
 use Rattle.quic_machine.specs.InjectionCases.{by_injection}
 use Rattle.quic_machine.specs.LeaveCases.{by_event}
 use Rattle.quic_machine.specs.Machine.{says_last}
@@ -221,7 +221,8 @@ call_urges x y (calls.Close close) a c none opened due = inl (go x.end.closing.s
     go states.Drained is = is
     go states.Failed is = is
 call_urges x y calls.UseNextId a c none opened due = inl (sym (ap (λ (p : Pending). p.due) (next_acks x.end a)) ∙ due)
-call_urges x y calls.Event a c none opened due = inl (by_event x.end (λ (e : End). e.acknowledging.due ≡ true → x.end.acknowledging.due ≡ true) (λ is. is) (λ told is. is) due)
+call_urges x y calls.HandshakeDone a c none opened due = inl (by_done (λ (e : End). e.acknowledging.due ≡ true → x.end.acknowledging.due ≡ true) x.end a (λ is. is) (λ is. is) due)
+call_urges x y calls.Event a c none opened due = inl (by_event x.end (λ (e : End). e.acknowledging.due ≡ true → x.end.acknowledging.due ≡ true) (λ is. is) (λ is. is) (λ told is. is) due)
 call_urges x y call a c none opened due = inl due
 
 -- where an ACK frame goes, none is due

@@ -1,8 +1,8 @@
 //! Laws of moments, timers and round-trip times.
-ghost use Rattle.std.specs.Prelude.{◌≡◌, ◌≢◌, ℕ, ◌+◌, ◌-◌, ◌<◌, ◌≤◌, ◌^◌, List, ◌∷◌, length, fold, reverse, All, Any, Contains, Option, Some, None, IfSome, IsSomeAnd};
+ghost use Rattle.std.specs.Prelude.{◌≡◌, ◌≢◌, ℕ, ◌+◌, ◌-◌, ◌/◌, ◌<◌, ◌≤◌, ◌^◌, List, ◌∷◌, length, fold, reverse, All, Any, Contains, Option, Some, None, IfSome, IsSomeAnd};
 ghost use Rattle.quic_time.specs.Clocks.{saturated, granularity};
 ghost use Rattle.quic_time.specs.Timers.{Timers, timer_at, with_timer, no_timers, all_timers, next_timer, timers_after, IsLast};
-ghost use Rattle.quic_time.specs.Rtt.{Sample, assumed_rtt, with_sample, least_over, smoothed_over, var_over, estimate_over};
+ghost use Rattle.quic_time.specs.Rtt.{Sample, assumed_rtt, told_rtt, with_sample, least_over, smoothed_over, var_over, estimate_over};
 ghost use Rattle.quic_time.specs.declared.timer.Timer.{Timer};
 
 use crate::instant::{Duration, TIMER_GRANULARITY};
@@ -55,6 +55,12 @@ pub fn next_timeout_is_least()
 pub fn estimates_are_over_all_samples()
     ensures { (samples : List Sample) (initial : ℕ)
         → fold (λ r s. with_sample r s.delay s.rtt) (assumed_rtt initial) samples ≡ estimate_over (reverse samples) initial }
+{}
+
+/// A sample with which a path begins is what the first sample of a path makes of it, where half of it
+/// is its variation (RFC 9002, section 5.3).
+pub fn told_sample_is_the_first()
+    ensures { (initial delay rtt : ℕ) → with_sample (assumed_rtt initial) delay rtt ≡ told_rtt rtt (rtt / 2) }
 {}
 
 /// What an estimate keeps as the least sample is one of the samples, and none is less.

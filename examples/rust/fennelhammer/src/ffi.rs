@@ -22,6 +22,16 @@ pub struct fh_event {
     pub text_len: u64,
 }
 
+/// `fh_own_id`.
+#[repr(C)]
+#[derive(Clone, Copy, Default)]
+pub struct fh_own_id {
+    pub sequence: u64,
+    pub has_reset_token: u64,
+    pub id: [u8; 8],
+    pub reset_token: [u8; 16],
+}
+
 /// `fh_iovec`.
 #[repr(C)]
 pub struct fh_iovec {
@@ -76,6 +86,8 @@ extern "C" {
         len: usize,
     ) -> c_int;
     pub fn fh_next_event(conn: *mut fh_conn, event: *mut fh_event) -> c_int;
+    pub fn fh_ids_changed(conn: *mut fh_conn) -> c_int;
+    pub fn fh_own_ids(conn: *const fh_conn, out: *mut fh_own_id, room: usize) -> i64;
     pub fn fh_lost_text(conn: *const fh_conn, out: *mut u8, room: usize) -> i64;
     pub fn fh_open(conn: *mut fh_conn, dir: u32) -> i64;
     pub fn fh_accept(conn: *mut fh_conn, dir: u32) -> i64;
@@ -124,6 +136,8 @@ extern "C" {
     pub fn fh_receive_message(conn: *mut fh_conn, out: *mut u8, room: usize) -> i64;
     pub fn fh_max_message(conn: *const fh_conn) -> i64;
     pub fn fh_ping(conn: *mut fh_conn);
+    pub fn fh_handshake_done(conn: *mut fh_conn) -> c_int;
+    pub fn fh_use_next_id(conn: *mut fh_conn) -> c_int;
     pub fn fh_close(
         conn: *mut fh_conn,
         now: u64,

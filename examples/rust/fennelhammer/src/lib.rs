@@ -69,12 +69,20 @@ pub enum Error {
     Unsupported,
     /// The datagram broke a rule of QUIC: the endpoint is closing, and [`Event::Lost`] says why.
     Closed,
+    /// The endpoint is a client, and only a server says that the handshake is done.
+    Client,
+    /// It was said before that the handshake is done.
+    Again,
+    /// The endpoint isn't open.
+    NotOpen,
+    /// There is none.
+    Absent,
     /// The library gave a code that this crate doesn't know.
     Unknown(i64),
 }
 
 /// The errors that carry nothing, and their codes (`fh_error`).
-const CODES: [(i64, Error); 17] = [
+const CODES: [(i64, Error); 21] = [
     (-1, Error::Invalid),
     (-2, Error::Room),
     (-3, Error::Memory),
@@ -85,6 +93,7 @@ const CODES: [(i64, Error); 17] = [
     (-10, Error::DatagramSize),
     (-11, Error::Window),
     (-12, Error::KeyLimit),
+    (-13, Error::Absent),
     (-14, Error::Blocked),
     (-15, Error::ClosedStream),
     (-18, Error::Order),
@@ -92,6 +101,9 @@ const CODES: [(i64, Error); 17] = [
     (-20, Error::Disabled),
     (-21, Error::Unsupported),
     (-22, Error::Closed),
+    (-23, Error::Client),
+    (-24, Error::Again),
+    (-25, Error::NotOpen),
 ];
 const STOPPED: i64 = -16;
 const RESET: i64 = -17;
@@ -209,6 +221,20 @@ pub struct Transmit {
     pub ecn: u32,
 }
 
+/// An own connection ID: a datagram with these bytes behind its first byte is for its endpoint.
+#[derive(Clone, Copy, Debug, PartialEq, Eq)]
+pub struct OwnId {
+    /// The number under which it was issued; 0 of the first.
+    pub sequence: u64,
+    /// Its bytes.
+    pub id: [u8; 8],
+    /// The token by which a stateless reset is known (RFC 9000, section 10.3), but of the first.
+    pub reset_token: Option<[u8; 16]>,
+}
+
+/// The most own connection IDs that live at once.
+const OWN_IDS_MAX: usize = 8;
+
 /// What a read gave.
 #[derive(Clone, Copy, Debug, PartialEq, Eq)]
 pub struct Read {
@@ -239,6 +265,8 @@ pub enum Event {
     /// A message came while none was unread. One that was kept for [`Error::Room`] doesn't count,
     /// so this may come though it is there.
     Message,
+    /// At a client: the server says that the handshake is done (RFC 9001, section 4.1.2).
+    HandshakeConfirmed,
     /// The connection is lost.
     Lost(Lost),
 }
@@ -421,6 +449,28 @@ impl Connection {
         unsafe { ffi::fh_would_open(self.raw.as_ptr(), peer_address, at, len) == 1 }
     }
 
+    /// Whether own connection IDs were issued or retired since this was asked last, or since the
+    /// endpoint was made.
+    pub fn ids_changed(&mut self) -> bool {
+        unsafe { ffi::fh_ids_changed(self.raw.as_ptr()) == 1 }
+    }
+
+    /// The own connection IDs that live. Of an endpoint that has failed they say nothing, and one
+    /// that is drained drops all that comes: a program with many endpoints takes the IDs of both
+    /// out.
+    pub fn own_ids(&self) -> Result<Vec<OwnId>, Error> {
+        let mut room = [ffi::fh_own_id::default(); OWN_IDS_MAX];
+        let count = unsafe { ffi::fh_own_ids(self.raw.as_ptr(), room.as_mut_ptr(), room.len()) };
+        let own = room.iter().take(check(count)? as usize);
+        Ok(own
+            .map(|own| OwnId {
+                sequence: own.sequence,
+                id: own.id,
+                reset_token: Some(own.reset_token).filter(|_| own.has_reset_token == 1),
+            })
+            .collect())
+    }
+
     /// Takes the next event.
     pub fn next_event(&mut self) -> Option<Event> {
         let mut event = ffi::fh_event::default();
@@ -439,6 +489,7 @@ impl Connection {
             },
             6 => Event::Available(dir),
             7 => Event::Message,
+            9 => Event::HandshakeConfirmed,
             _ => Event::Lost(Lost::of(&event, self.lost_text(event.text_len as usize))),
         })
     }
@@ -570,6 +621,25 @@ impl Connection {
     /// Queues a PING.
     pub fn ping(&mut self) {
         unsafe { ffi::fh_ping(self.raw.as_ptr()) }
+    }
+
+    /// Says at a server that the handshake is done, and not before TLS is complete: the client
+    /// gets [`Event::HandshakeConfirmed`].
+    pub fn handshake_done(&mut self) -> Result<(), Error> {
+        check(i64::from(unsafe {
+            ffi::fh_handshake_done(self.raw.as_ptr())
+        }))
+        .map(drop)
+    }
+
+    /// Sends to the next connection ID that the peer gave, and retires those before it.
+    /// [`Error::Absent`], where it gave none, and [`Error::Blocked`], where too many retirements
+    /// would wait.
+    pub fn use_next_id(&mut self) -> Result<(), Error> {
+        check(i64::from(unsafe {
+            ffi::fh_use_next_id(self.raw.as_ptr())
+        }))
+        .map(drop)
     }
 
     /// Closes the connection. Go on until [`State::Drained`].

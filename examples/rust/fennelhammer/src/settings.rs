@@ -66,6 +66,11 @@ pub struct Settings {
     pub time_threshold_denominator: u64,
     /// Nanoseconds of a round trip before one was measured. Default 333000000 (333 ms).
     pub initial_rtt: u64,
+    /// Nanoseconds of a round trip that was measured before, as by the handshake, which counts as
+    /// the first sample; at most 60000000000 (60 s). 0: none was. Default 0.
+    pub first_rtt: u64,
+    /// Nanoseconds by which it varies: above 0 where `first_rtt` is, and at most 60000000000.
+    pub first_rtt_variation: u64,
     /// How many probe timeouts of losses mean persistent congestion; below 2^32. Default 3.
     pub persistent_congestion_threshold: u64,
     /// Bytes of NewReno's first congestion window; it has to hold two datagrams. Default 12000.

@@ -129,6 +129,48 @@ fn resets_and_stops_have_their_codes() {
 }
 
 #[test]
+fn the_handshake_is_confirmed() {
+    let mut pair = pair(&Settings::default());
+    pair.ends[1].handshake_done().unwrap();
+    assert_eq!(pair.ends[1].handshake_done(), Err(Error::Again));
+    assert_eq!(pair.ends[0].handshake_done(), Err(Error::Client));
+    pair.settle();
+    assert!(pair.events(0).contains(&Event::HandshakeConfirmed));
+    assert_eq!(pair.events(1), []);
+    pair.ends[1].close(pair.now, 0, b"").unwrap();
+    assert_eq!(pair.ends[1].handshake_done(), Err(Error::Again));
+}
+
+#[test]
+fn own_ids_change() {
+    let mut pair = pair(&Settings::default());
+    let own = pair.ends[0].own_ids().unwrap();
+    assert_eq!((own[0].id, own[0].reset_token), (IDS[0], None));
+    assert!(own[1..].iter().all(|id| id.reset_token.is_some()));
+    assert!(pair.ends[0].ids_changed() && !pair.ends[0].ids_changed());
+    assert_eq!(pair.ends[1].use_next_id(), Err(Error::Absent));
+    pair.settle();
+    pair.ends[1].use_next_id().unwrap();
+    pair.settle();
+    assert!(pair.ends[0].ids_changed());
+    let later = pair.ends[0].own_ids().unwrap();
+    assert_eq!(later[..own.len() - 1], own[1..]);
+}
+
+#[test]
+fn a_first_sample_counts() {
+    let mut settings = Settings::default();
+    settings.first_rtt = 20_000_000;
+    assert!(matches!(
+        endpoint(Side::Client, &settings),
+        Err(Error::Setting)
+    ));
+    settings.first_rtt_variation = 10_000_000;
+    let pair = pair(&settings);
+    assert_eq!(pair.ends[0].stats().rtt, 20_000_000);
+}
+
+#[test]
 fn a_write_is_blocked_and_goes_on() {
     let mut settings = Settings::default();
     settings.stream_receive_window = 4;

@@ -1,4 +1,4 @@
-//! Gets a file from a QUIC server, by `hq-interop`.
+//! Gets a file from a QUIC server, by `hq-interop`, or by HTTP/3 where the server has only that.
 //!
 //!     get CERT HOST PORT PATH FILE
 //!
@@ -6,22 +6,16 @@
 //! certificate has it, and PATH what is asked for, as `/file`. Until all has come FILE's name ends
 //! in `.part`: that file stays behind Ctrl-C, of which the server isn't told either.
 //!
-//! TLS 1.3 is rustls'; Initial and Handshake packets are this program's (`handshake`), and 1-RTT
-//! packets the endpoint's of `fennelhammer`, with packet protection around it (`protection`). The
-//! status is 0 where the file is whole. Else a line says why: [`Status`] has the statuses.
+//! TLS 1.3 is rustls'; Initial and Handshake packets, and packet protection, are `around`'s; and
+//! 1-RTT packets are the endpoint's, of `fennelhammer`. The status is 0 where the file is whole.
+//! Else a line says why: [`Status`] has the statuses.
 mod client;
-mod failure;
 mod fetch;
-mod frame;
-mod handshake;
-mod packet;
-mod parameters;
-mod protection;
-mod session;
-mod space;
+mod reply;
 
+use around::failure::{Failure, Status};
+use around::socket::Socket;
 use client::Client;
-use failure::{Failure, Status};
 use fetch::Fetch;
 use rustls::{Certificate, ClientConfig, RootCertStore};
 use std::fs::File;
@@ -29,7 +23,8 @@ use std::io::BufReader;
 use std::net::{ToSocketAddrs, UdpSocket};
 use std::process::ExitCode;
 
-/// What TLS is configured with: the certificates of a file, as roots, and `hq-interop`.
+/// What TLS is configured with: the certificates of a file, as roots, and both
+/// application protocols.
 fn config(roots: &str) -> Result<ClientConfig, Failure> {
     let file = File::open(roots).map_err(|error| Failure::fault(roots, error))?;
     let found = rustls_pemfile::certs(&mut BufReader::new(file));
@@ -47,20 +42,19 @@ fn config(roots: &str) -> Result<ClientConfig, Failure> {
         .map_err(|error| Failure::fault("TLS", error))?
         .with_root_certificates(store)
         .with_no_client_auth();
-    config.alpn_protocols = vec![b"hq-interop".to_vec()];
+    config.alpn_protocols = vec![b"hq-interop".to_vec(), b"h3".to_vec()];
     Ok(config)
 }
 
-/// A socket that is connected to the server, and never waits.
-fn connect(host: &str, port: u16) -> Result<UdpSocket, Failure> {
+/// A socket that is connected to the server.
+fn connect(host: &str, port: u16) -> Result<Socket, Failure> {
     let wrong = |error| Failure::fault(host, error);
     let mut addresses = (host, port).to_socket_addrs().map_err(wrong)?;
     let address = addresses.find(|address| address.is_ipv4());
     let address = address.ok_or_else(|| Failure::fault(host, "it has no IPv4 address"))?;
     let socket = UdpSocket::bind("0.0.0.0:0").map_err(wrong)?;
     socket.connect(address).map_err(wrong)?;
-    socket.set_nonblocking(true).map_err(wrong)?;
-    Ok(socket)
+    Socket::new(socket).map_err(wrong)
 }
 
 fn run(words: &[String]) -> Result<(), Failure> {
@@ -71,10 +65,11 @@ fn run(words: &[String]) -> Result<(), Failure> {
     let wrong = |_| Failure::new(Status::Usage, format!("{}: not a port", port));
     let port = port.parse().map_err(wrong)?;
     let (config, socket) = (config(cert)?, connect(host, port)?);
-    let mut client = Client::new(socket, config, host, Fetch::new(path, file)?)?;
+    let fetch = Fetch::new(format!("{}:{}", host, port), path, file)?;
+    let mut client = Client::new(socket, config, host, fetch)?;
     client.run()?;
     let (bytes, ms) = (client.fetch.received, client.now() / 1_000_000);
-    let protection = client.session.map(|session| session.protection);
+    let protection = client.link.session.map(|session| session.protection);
     let (refused, updates) = protection.map_or((0, 0), |it| (it.refused, it.updates));
     println!("{} bytes, {} ms, {} packets refused, {} key updates", bytes, ms, refused, updates);
     Ok(())

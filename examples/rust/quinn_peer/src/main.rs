@@ -2,17 +2,20 @@
 //! of its own, and the answer is the file, up to the FIN.
 //!
 //!     quinn_peer serve PORT CERT KEY FOLDER [OPTION..]   serves the files of FOLDER on loopback
-//!     quinn_peer get PORT CERT PATH FILE                 gets one from `localhost`
+//!     quinn_peer get PORT CERT PATH FILE [OPTION..]      gets one from `localhost`
 //!
 //! CERT and KEY are PEM files; a client trusts CERT as a root. A file that isn't there is a reset
 //! with code 404. Options, for tests: `retry=` validates addresses, `draft=` has no version 1,
 //! `alpn=NAME` is in place of `hq-interop`; after so many bytes of a file `reset=BYTES` resets with
-//! code 7, `close=BYTES` closes with code 9, and `update=BYTES` updates the keys again and again.
+//! code 7, `close=BYTES` closes with code 9, and `update=BYTES` updates the keys again and again. A
+//! client takes `alpn=NAME` and `update=BYTES`, too; `move=BYTES` goes on from another port again
+//! and again, and asks there for what isn't there, as it would send too little else; and
+//! `stop=BYTES` wants no more, by code 8.
 use quinn::{ClientConfig, Connecting, Connection, Endpoint, EndpointConfig, SendStream};
 use rustls::{version::TLS13, Certificate, PrivateKey, RootCertStore};
 use std::error::Error;
 use std::fs::File;
-use std::io::{BufReader, Read};
+use std::io::{BufReader, Read, Write};
 use std::net::{Ipv4Addr, UdpSocket};
 use std::path::{Component, Path, PathBuf};
 use std::sync::Arc;
@@ -31,6 +34,12 @@ impl Options {
 
     fn number(&self, name: &str) -> usize {
         self.value(name).and_then(|value| value.parse().ok()).unwrap_or(usize::MAX)
+    }
+
+    /// Whether so many bytes more are a multiple of an option's number, or go beyond one.
+    fn passes(&self, name: &str, before: usize, more: usize) -> bool {
+        let step = self.number(name);
+        before / step < (before + more) / step
     }
 }
 
@@ -67,7 +76,7 @@ async fn send_file(
     mut file: File,
     options: &Options,
 ) -> Fallible<()> {
-    let (mut block, mut sent, update) = (vec![0; 65536], 0, options.number("update"));
+    let (mut block, mut sent) = (vec![0; 65536], 0);
     loop {
         let len = file.read(&mut block)?;
         if len == 0 {
@@ -79,14 +88,18 @@ async fn send_file(
             return Ok(to.reset(7u32.into())?);
         }
         if sent >= options.number("close") {
-            return Ok(connection.close(9u32.into(), b"enough"));
+            return Ok(connection.close(9u32.into(), b"enough\nof it"));
         }
-        if (sent - len) / update < sent / update {
-            // Packets of the keys in use have to be acknowledged first (RFC 9001, section 6.1).
-            tokio::time::sleep(Duration::from_millis(100)).await;
-            connection.force_key_update();
+        if options.passes("update", sent - len, len) {
+            update(connection).await;
         }
     }
+}
+
+/// Updates the keys: packets of those in use have to be acknowledged first (RFC 9001, section 6.1).
+async fn update(connection: &Connection) {
+    tokio::time::sleep(Duration::from_millis(100)).await;
+    connection.force_key_update();
 }
 
 async fn serve_connection(incoming: Connecting, folder: PathBuf, options: Options) -> Fallible<()> {
@@ -118,21 +131,44 @@ async fn serve([port, cert, key, folder]: [&str; 4], options: Options) -> Fallib
     Ok(())
 }
 
-async fn get(port: &str, cert: &str, path: &str, file: &str) -> Fallible<()> {
+fn client_config(cert: &str, options: &Options) -> Fallible<ClientConfig> {
     let mut roots = RootCertStore::empty();
     certificates(cert)?.iter().try_for_each(|root| roots.add(root))?;
     let mut crypto = rustls::ClientConfig::builder()
         .with_safe_defaults()
         .with_root_certificates(roots)
         .with_no_client_auth();
-    crypto.alpn_protocols = vec![b"hq-interop".to_vec()];
+    crypto.alpn_protocols = vec![options.value("alpn").unwrap_or("hq-interop").into()];
+    Ok(ClientConfig::new(Arc::new(crypto)))
+}
+
+async fn get([port, cert, path, file]: [&str; 4], options: Options) -> Fallible<()> {
     let endpoint = Endpoint::client((Ipv4Addr::LOCALHOST, 0).into())?;
-    let (config, at) = (ClientConfig::new(Arc::new(crypto)), (Ipv4Addr::LOCALHOST, port.parse()?));
-    let connection = endpoint.connect_with(config, at.into(), "localhost")?.await?;
-    let (mut to, from) = connection.open_bi().await?;
+    let at = (Ipv4Addr::LOCALHOST, port.parse()?).into();
+    let config = client_config(cert, &options)?;
+    let connection = endpoint.connect_with(config, at, "localhost")?.await?;
+    let (mut to, mut from) = connection.open_bi().await?;
     to.write_all(format!("GET {}\r\n", path).as_bytes()).await?;
     to.finish().await?;
-    std::fs::write(file, from.read_to_end(1 << 30).await?)?;
+    let (mut file, mut got) = (File::create(file)?, 0);
+    while let Some(chunk) = from.read_chunk(65536, true).await? {
+        let len = chunk.bytes.len();
+        file.write_all(&chunk.bytes)?;
+        if options.passes("update", got, len) {
+            update(&connection).await;
+        }
+        if options.passes("move", got, len) {
+            endpoint.rebind(UdpSocket::bind((Ipv4Addr::LOCALHOST, 0))?)?;
+            let (mut to, _) = connection.open_bi().await?;
+            to.write_all(format!("GET /{}\r\n", "none".repeat(250)).as_bytes()).await?;
+            to.finish().await?;
+        }
+        got += len;
+        if got >= options.number("stop") {
+            from.stop(8u32.into())?;
+            break;
+        }
+    }
     connection.close(0u32.into(), b"got");
     Ok(endpoint.wait_idle().await)
 }
@@ -143,7 +179,7 @@ async fn main() -> Fallible<()> {
     let options = Options(words.split_off(words.len().min(5)));
     match words.iter().map(String::as_str).collect::<Vec<_>>()[..] {
         ["serve", port, cert, key, folder] => serve([port, cert, key, folder], options).await,
-        ["get", port, cert, path, file] => get(port, cert, path, file).await,
+        ["get", port, cert, path, file] => get([port, cert, path, file], options).await,
         _ => Err("usage: quinn_peer serve PORT CERT KEY FOLDER [OPTION..], or get ..".into()),
     }
 }

@@ -1,10 +1,10 @@
-use Rattle.std.proofs.Common.{◌≡◌, ◌+◌, ◌-◌, ◌*◌, ◌++◌, [], ◌∷◌, ℕ, List, map, refl, sym, ap, ◌∙◌, arith}
+use Rattle.std.proofs.Common.{◌≡◌, ◌-◌, ◌*◌, ◌++◌, [], ◌∷◌, ℕ, List, map, refl, sym, ap, ◌∙◌, arith}
 use Rattle.std.proofs.lemmas.List.{append-nil}
 use Rattle.quic_wire_core.specs.declared.shared.IssuedCid.{IssuedCid}
 use Rattle.quic_retransmits.specs.Retransmits.{Retransmits}
-use Rattle.quic_machine.specs.Ids.{later_numbers, drawn_ids, drawn_id}
+use Rattle.quic_machine.specs.Ids.{NumberedId, later_numbers, drawn_ids, drawn_id, with_number}
 use Rattle.quic_connection_parts.specs.Drawn.{words_of, after_words}
-use Rattle.quic_connection_parts.proofs.Issued.{next_numbers, next_living, next_waits, next_random}
+use Rattle.quic_connection_parts.proofs.Issued.{next_living, next_waits, next_random}
 use Rattle.quic_connection_parts.proofs.ids.issue_later.Goals as goal
 
 -- the same, where these ids wait to be told
@@ -14,7 +14,6 @@ with_waiting r cids = record r { new_cids = cids }
 pub loop-sequence-init : goal.loop-sequence-init
 loop-sequence-init g c = record {
   some = omega arith;
-  numbers = sym (append-nil c.args.numbers.now.items);
   living = sym (append-nil c.args.living.now.items);
   waits = ap (λ (l : List IssuedCid). with_waiting c.args.pending.now l) (sym (append-nil c.args.pending.now.new_cids));
   random = refl;
@@ -30,9 +29,8 @@ loop-sequence-preserved g c =
     let cid = c.random_id-cid.ensures.id in
     record {
       some = omega (arith, some);
-      numbers = next_numbers stream c.args.random.now l.random c.random_id-cid.new.random n i.some i.random c.args.numbers.now.items l.numbers.items c.push.new.self.items i.numbers c.in_ok-push.ensures.items;
-      living = next_living stream c.args.random.now l.random c.random_id-cid.new.random n i.some i.random c.args.living.now.items l.living.items c.push-in-loop-sequence.new.self.items i.living
-          (c.in_ok-push-2.ensures.items ∙ ap (λ (x : IssuedCid). l.living.items ++ x.id ∷ []) cid);
+      living = next_living stream c.args.random.now l.random c.random_id-cid.new.random n i.some i.random c.args.living.now.items l.living.items c.push.new.self.items i.living
+          (c.in_ok-push.ensures.items ∙ ap (λ (x : NumberedId). l.living.items ++ x ∷ []) c.issued.ensures ∙ ap (λ (x : IssuedCid). l.living.items ++ with_number x ∷ []) cid);
       waits =
           c.in_ok-push_new_cid.ensures.ok
           ∙ ap (λ (x : IssuedCid). with_waiting l.pending (l.pending.new_cids ++ x ∷ [])) cid
@@ -41,17 +39,11 @@ loop-sequence-preserved g c =
       random = next_random stream c.args.random.now l.random c.random_id-cid.new.random n i.some i.random c.random_id-cid.ensures.random;
     }
 
-pub returns-clause-numbers : goal.returns-clause-numbers
-returns-clause-numbers g c =
-    let some = c.requires.some in
-    let end : c.loop-sequence.sequence ≡ c.args.limit = omega arith in
-    c.loop-sequence.invariant.numbers ∙ ap (λ (n : ℕ). c.args.numbers.now.items ++ later_numbers n) end
-
 pub returns-clause-living : goal.returns-clause-living
 returns-clause-living g c =
     let some = c.requires.some in
     let end : c.loop-sequence.sequence ≡ c.args.limit = omega arith in
-    c.loop-sequence.invariant.living ∙ ap (λ (n : ℕ). c.args.living.now.items ++ map (λ cid. cid.id) (drawn_ids (words_of g.R.Rng.stream c.args.random.now) (later_numbers n))) end
+    c.loop-sequence.invariant.living ∙ ap (λ (n : ℕ). c.args.living.now.items ++ map with_number (drawn_ids (words_of g.R.Rng.stream c.args.random.now) (later_numbers n))) end
 
 pub returns-clause-waits : goal.returns-clause-waits
 returns-clause-waits g c =

@@ -20,6 +20,7 @@ use Rattle.quic_headline.proofs.Causes.Said.{closes_say_why, peer_closes_come}
 use Rattle.quic_headline.proofs.Causes.Taken.{taken_exactly}
 use Rattle.quic_headline.proofs.Causes.Unfailed.{never_fails}
 use Rattle.quic_headline.proofs.Channel.Clauses.{no_blame, taken_or_too_many}
+use Rattle.quic_headline.proofs.Confirmed.Clause.{confirmation_is_told, done_is_exact}
 use Rattle.quic_headline.proofs.Credit.Clause.{credit_is_bounded}
 use Rattle.quic_headline.proofs.Credit.Counts.{counts_are_bounded}
 use Rattle.quic_headline.proofs.Destined.InUse.{ids_are_in_use}
@@ -30,6 +31,7 @@ use Rattle.quic_headline.proofs.Events.Readables.{readables_are_told}
 use Rattle.quic_headline.proofs.Events.Writables.{writables_are_told}
 use Rattle.quic_headline.proofs.Held.Clause.{polls_send_messages, polls_send_what_waits}
 use Rattle.quic_headline.proofs.Held.Threefold.{threefold}
+use Rattle.quic_headline.proofs.Marking.Clause.{marks_go}
 use Rattle.quic_headline.proofs.Messages.Lists.{messages_go}
 use Rattle.quic_headline.proofs.Messages.Order.{messages_go_in_order}
 use Rattle.quic_headline.proofs.Moves.Changes.{path_changes_exactly}
@@ -39,7 +41,7 @@ use Rattle.quic_headline.proofs.NextIds.Stays.{stays_for_a_reason}
 use Rattle.quic_headline.proofs.Packets.Quiet.{heard_nothing}
 use Rattle.quic_headline.proofs.Places.Theorems.{accepted_were_opened, accepts_all, ack_moments, acknowledged_were_taken, asking_goes_where_let, blocked_only_without_bytes, datagrams_are_sized, end_after_all, finished_means_arrived, grown_limits_wait, ids_are_issued, ids_are_new, keys_last, loss_moments, loss_timer_quiet, messages_at_most_once, names_were_taken, newest_opens, newest_opens_at_end, number_limit, numbers_rise, once, opens_exactly, ordered_prefix, pacer_sets_its_timer, resets_are_told, size_is_of_history, sizes_move, slices, told_ids_are_known, tracks_in_flight, unknown_only_where_retired, window_is_of_history}
 use Rattle.quic_headline.proofs.Requests.Clause.{requests_say}
-use Rattle.quic_headline.proofs.Rest.Delivered.{delivered_at_rest}
+use Rattle.quic_headline.proofs.Rest.Delivered.{delivered_at_rest, done_at_rest}
 use Rattle.quic_headline.proofs.Rest.Owed.{nothing_owed_at_rest}
 use Rattle.quic_headline.proofs.Settled.Clause.{finished_is_told}
 use Rattle.quic_headline.proofs.Spread.Clause.{pacer_is_of_history}
@@ -106,6 +108,8 @@ returns c = λ r end honest is. (let heard = heard_nothing r honest in record {
     openings_are_told = openings_are_told r end honest is;
     readables_are_told = readables_are_told r end honest is;
     writables_are_told = writables_are_told r end honest is;
+    done_is_exact = done_is_exact r end honest is;
+    confirmation_is_told = confirmation_is_told r end honest is;
     views_tell = views_tell r end honest is;
   };
   acknowledges = record {
@@ -125,6 +129,7 @@ returns c = λ r end honest is. (let heard = heard_nothing r honest in record {
     loss_timer_quiet = loss_timer_quiet r end honest is;
     probes_pass = probes_pass r end honest is heard;
     probes_hasten = probes_hasten r end honest is;
+    marks_go = marks_go r end honest is;
     controllers_are_told = controllers_are_told r end honest is heard;
     window_is_of_history = window_is_of_history r end honest is;
   };
@@ -193,6 +198,7 @@ returns c = λ r end honest is. (let heard = heard_nothing r honest in record {
   };
   rests = record {
     delivered_at_rest = delivered_at_rest r end honest is;
+    done_at_rest = done_at_rest r end honest is;
     nothing_owed_at_rest = nothing_owed_at_rest r end honest is;
     blocked_only_for_unread = blocked_only_for_unread r end honest is;
     none_opened_only_for_undone = none_opened_only_for_undone r end honest is;

@@ -9,7 +9,7 @@ use Rattle.quic_congestion.specs.Congestion.{HasRoom}
 use Rattle.quic_congestion.specs.Search.{Discovery}
 use Rattle.quic_congestion.specs.SearchBounds.{IsSized}
 use Rattle.quic_congestion.proofs.SizedSearch.{sized_first}
-use Rattle.quic_machine.specs.End.{most_payload, are_sizes_wrong, is_window_small, are_keys_short, limits_of, new_end, words_drawn}
+use Rattle.quic_machine.specs.End.{most_payload, are_sizes_wrong, is_window_small, are_keys_short, is_sample_wrong, limits_of, new_end, words_drawn}
 use Rattle.quic_recovery_core.specs.AckFrequency.{initial_frequency}
 use Rattle.quic_machine.specs.Ids.{first_ids, most_ids, later_numbers, drawn_ids, words_behind, words_of_id}
 use Rattle.quic_retransmits.specs.Retransmits.{Retransmits, nothing_waits}
@@ -83,7 +83,8 @@ returns-clause-lawful g c =
     let room : 2 * first_mtu (transport_of settings) ≤ c.window-window.result = omega (arith, mtu, c.if-window-from.false) in
     let small : is_window_small settings c.window-window.result ≡ false = le-ltb c.window-window.result (2 * first_mtu (transport_of settings)) room in
     let keys : are_keys_short (limits_of g.K.PacketKey.seal_limit g.K.PacketKey.refusal_limit c.args.keys) ≡ false = search rules in
-    rw (← shown) (rw (read, own, peer, sizes, small, keys) refl)
+    let sample : is_sample_wrong settings.first_sample ≡ false = sym (c.is_sample_wrong.ensures ∙ ap (λ (x : TransportSettings). is_sample_wrong x.first_sample) c.transport-transport.ensures) ∙ search rules in
+    rw (← shown) (rw (read, own, peer, sizes, small, keys, sample) refl)
 
 pub new-requires : goal.new-requires
 new-requires g c = subst (λ (k : ℕ). 2 ≤ k) (sym (ap (λ p. p.active_connection_id_limit) c.theirs.view_is)) (c.in-Ok.ensures.spelled.1.each ActiveConnectionIdLimit).0

@@ -10,7 +10,7 @@ use Rattle.quic_connection_parts.proofs.ids.Ids.insert.Goals.{in-Some, in-None}
 pub invariant_of-self-2 : goal.invariant_of-self-2
 invariant_of-self-2 c =
     let i = c.self.invariant in
-    (i.0, i.1, i.2, subst (λ (ids : PeerIds). HaveNumbers ids) (sym c.insert.ensures.new) (insert_fits c.self.inside.peer c.args.frame c.requires.number i.3), i.4)
+    (i.0, i.1, subst (λ (ids : PeerIds). HaveNumbers ids) (sym c.insert.ensures.new) (insert_fits c.self.inside.peer c.args.frame c.requires.number i.2), i.3)
 
 pub returns-clause-form : goal.returns-clause-form
 returns-clause-form c =
@@ -18,4 +18,4 @@ returns-clause-form c =
       | in-Some w ↦ w.result-is ∙ ap (λ o. retires_for (Ok o)) (sym w.in-Some.is) ∙ ap retires_for c.in_ok-retired.ensures.answer
       | in-None w ↦ w.result-is ∙ ap (λ o. retires_for (Ok o)) (sym w.in-None.is) ∙ ap retires_for c.in_ok-retired.ensures.answer
     ] in
-    subst (λ r. IfOk r (λ retired. IfSome retired (λ range. range.end ≤ 2 ^ 62))) (sym same) (retires_fit c.self.inside.peer c.args.frame c.requires.number c.self.invariant.3)
+    subst (λ r. IfOk r (λ retired. IfSome retired (λ range. range.end ≤ 2 ^ 62))) (sym same) (retires_fit c.self.inside.peer c.args.frame c.requires.number c.self.invariant.2)

@@ -2,9 +2,9 @@ use Rattle.std.proofs.Common.{◌≡◌, ◌+◌, ◌<◌, ◌++◌, [], ◌∷�
 use Rattle.std.proofs.lemmas.List.{length-append}
 use Rattle.quic_ids.specs.CidState.{OwnIds, after_new}
 use Rattle.quic_wire_core.specs.declared.shared.IssuedCid.{IssuedCid}
-use Rattle.quic_machine.specs.Ids.{Ids, undrawn_id, issued_one}
+use Rattle.quic_machine.specs.Ids.{Ids, NumberedId, with_number, undrawn_id, issued_one}
 use Rattle.quic_connection_parts.specs.Living.{RiseBelow}
-use Rattle.quic_connection_parts.proofs.Living.{rises_more, many_more}
+use Rattle.quic_connection_parts.proofs.Living.{rises_more, numbers_of, numbers_more}
 use Rattle.quic_connection_parts.proofs.Issued.{issues_living, issues_one, view_issued}
 use Rattle.quic_connection_parts.proofs.ids.Ids.issue.Goals as goal
 
@@ -13,32 +13,30 @@ invariant_of-self-2 c =
     let i = c.self.inside in
     let inv = c.self.invariant in
     let n : ℕ = i.own.issued in
-    let own : c.add_one.new.own ≡ after_new i.own (undrawn_id n ∷ []) c.args.now = c.in_ok-add_one.ensures.ok ∙ ap (λ (x : IssuedCid). after_new i.own (x ∷ []) c.args.now) (c.undrawn_id.ensures ∙ ap undrawn_id c.issued-sequence.ensures) in
-    let nums : c.push_reserved.new.self.items ≡ i.numbers.items ++ n ∷ [] = c.push_reserved.ensures.items ∙ ap (λ (l : List ℕ). l ++ c.issued-sequence.result ∷ []) c.reserve.ensures.items ∙ ap (λ (k : ℕ). i.numbers.items ++ k ∷ []) c.issued-sequence.ensures in
-    let livs : c.push_reserved-2.new.self.items ≡ i.living.items ++ (undrawn_id n).id ∷ [] = c.push_reserved-2.ensures.items ∙ ap (λ (l : List (List ℕ)). l ++ c.new.result ∷ []) c.reserve-2.ensures.items ∙ ap (λ (x : List ℕ). i.living.items ++ x ∷ []) c.new.ensures in
-    let unds : c.push_reserved-3.new.self.items ≡ i.undrawn.items ++ c.args.behind ∷ [] = c.push_reserved-3.ensures.items ∙ ap (λ (l : List ℕ). l ++ c.args.behind ∷ []) c.reserve-3.ensures.items in
+    let cid : c.undrawn_id-cid.result ≡ undrawn_id n = c.undrawn_id-cid.ensures ∙ ap undrawn_id c.issued-sequence.ensures in
+    let own : c.add_one.new.own ≡ after_new i.own (undrawn_id n ∷ []) c.args.now = c.in_ok-add_one.ensures.ok ∙ ap (λ (x : IssuedCid). after_new i.own (x ∷ []) c.args.now) cid in
+    let livs : c.push_reserved.new.self.items ≡ i.living.items ++ with_number (undrawn_id n) ∷ [] = c.push_reserved.ensures.items ∙ ap (λ (l : List NumberedId). l ++ c.issued.result ∷ []) c.reserve.ensures.items ∙ ap (λ (x : NumberedId). i.living.items ++ x ∷ []) (c.issued.ensures ∙ ap with_number cid) in
+    let unds : c.push_reserved-2.new.self.items ≡ i.undrawn.items ++ c.args.behind ∷ [] = c.push_reserved-2.ensures.items ∙ ap (λ (l : List ℕ). l ++ c.args.behind ∷ []) c.reserve-2.ensures.items in
     let same = ap (λ (ids : Ids). ids.own.issued) c.self.view_is in
     let below = c.requires in
     let few : n < 4611686018427387904 = omega (arith, same, below) in
-    let up : RiseBelow i.own.living 0 n = subst (λ (l : List ℕ). RiseBelow l 0 n) inv.0 inv.2 in
+    let lives : c.add_one.new.own.living ≡ i.own.living ++ n ∷ [] = ap (λ (o : OwnIds). o.living) own ∙ issues_living i.own n c.args.now inv.1 refl in
     let iss : c.add_one.new.own.issued ≡ n + 1 = ap (λ (o : OwnIds). o.issued) own ∙ issues_one i.own n c.args.now few in
-    let len : length c.push_reserved-3.new.self.items ≡ length i.undrawn.items + 1 = ap length unds ∙ length-append i.undrawn.items (c.args.behind ∷ []) in
-    let less = inv.4 in (
-      nums ∙ ap (λ (l : List ℕ). l ++ n ∷ []) inv.0 ∙ sym (ap (λ (o : OwnIds). o.living) own ∙ issues_living i.own n c.args.now up refl),
-      ap length nums ∙ many_more i.numbers.items i.living.items n (undrawn_id n).id inv.1 ∙ sym (ap length livs),
-      subst (λ (k : ℕ). RiseBelow c.push_reserved.new.self.items 0 k) (sym iss) (subst (λ (l : List ℕ). RiseBelow l 0 (n + 1)) (sym nums) (rises_more i.numbers.items 0 n (omega arith) inv.2)),
-      inv.3,
+    let len : length c.push_reserved-2.new.self.items ≡ length i.undrawn.items + 1 = ap length unds ∙ length-append i.undrawn.items (c.args.behind ∷ []) in
+    let less = inv.3 in (
+      ap numbers_of livs ∙ numbers_more i.living.items (with_number (undrawn_id n)) ∙ ap (λ (l : List ℕ). l ++ n ∷ []) inv.0 ∙ sym lives,
+      subst (λ (k : ℕ). RiseBelow c.add_one.new.own.living 0 k) (sym iss) (subst (λ (l : List ℕ). RiseBelow l 0 (n + 1)) (sym lives) (rises_more i.own.living 0 n (omega arith) inv.1)),
+      inv.2,
       omega (arith, len, iss, less),
     )
 
 pub returns-clause-ids : goal.returns-clause-ids
 returns-clause-ids c =
     let i = c.self.inside in
-    let inv = c.self.invariant in
     let n : ℕ = i.own.issued in
-    let own : c.add_one.new.own ≡ after_new i.own (undrawn_id n ∷ []) c.args.now = c.in_ok-add_one.ensures.ok ∙ ap (λ (x : IssuedCid). after_new i.own (x ∷ []) c.args.now) (c.undrawn_id.ensures ∙ ap undrawn_id c.issued-sequence.ensures) in
-    let nums : c.push_reserved.new.self.items ≡ i.numbers.items ++ n ∷ [] = c.push_reserved.ensures.items ∙ ap (λ (l : List ℕ). l ++ c.issued-sequence.result ∷ []) c.reserve.ensures.items ∙ ap (λ (k : ℕ). i.numbers.items ++ k ∷ []) c.issued-sequence.ensures in
-    let livs : c.push_reserved-2.new.self.items ≡ i.living.items ++ (undrawn_id n).id ∷ [] = c.push_reserved-2.ensures.items ∙ ap (λ (l : List (List ℕ)). l ++ c.new.result ∷ []) c.reserve-2.ensures.items ∙ ap (λ (x : List ℕ). i.living.items ++ x ∷ []) c.new.ensures in
-    let unds : c.push_reserved-3.new.self.items ≡ i.undrawn.items ++ c.args.behind ∷ [] = c.push_reserved-3.ensures.items ∙ ap (λ (l : List ℕ). l ++ c.args.behind ∷ []) c.reserve-3.ensures.items in
-    view_issued i.own i.numbers.items i.living.items i.undrawn.items i.limit i.peer c.args.behind c.args.now c.add_one.new.own c.push_reserved.new.self.items c.push_reserved-2.new.self.items c.push_reserved-3.new.self.items inv.1 own nums livs unds
+    let cid : c.undrawn_id-cid.result ≡ undrawn_id n = c.undrawn_id-cid.ensures ∙ ap undrawn_id c.issued-sequence.ensures in
+    let own : c.add_one.new.own ≡ after_new i.own (undrawn_id n ∷ []) c.args.now = c.in_ok-add_one.ensures.ok ∙ ap (λ (x : IssuedCid). after_new i.own (x ∷ []) c.args.now) cid in
+    let livs : c.push_reserved.new.self.items ≡ i.living.items ++ with_number (undrawn_id n) ∷ [] = c.push_reserved.ensures.items ∙ ap (λ (l : List NumberedId). l ++ c.issued.result ∷ []) c.reserve.ensures.items ∙ ap (λ (x : NumberedId). i.living.items ++ x ∷ []) (c.issued.ensures ∙ ap with_number cid) in
+    let unds : c.push_reserved-2.new.self.items ≡ i.undrawn.items ++ c.args.behind ∷ [] = c.push_reserved-2.ensures.items ∙ ap (λ (l : List ℕ). l ++ c.args.behind ∷ []) c.reserve-2.ensures.items in
+    view_issued i.own i.living.items i.changed i.undrawn.items i.limit i.peer c.args.behind c.args.now c.add_one.new.own c.push_reserved.new.self.items c.push_reserved-2.new.self.items own livs unds
     ∙ ap (λ (ids : Ids). issued_one c.args.behind c.args.now ids) c.self.view_is

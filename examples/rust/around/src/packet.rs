@@ -22,6 +22,7 @@ pub enum Level {
     Handshake,
 }
 
+/// What a packet is.
 pub enum Kind {
     /// The versions that the server has.
     VersionNegotiation(Vec<u32>),
@@ -31,15 +32,20 @@ pub enum Kind {
     Long(Level, usize),
     /// A 1-RTT packet, whose IDs stay empty here.
     Short,
-    /// Of no use to a client of version 1.
+    /// A long header of another version than 1.
+    OtherVersion,
+    /// Of no use.
     Other,
 }
 
 /// A packet, and where in its datagram it stands.
 pub struct Packet {
     pub kind: Kind,
+    /// The connection IDs of a long header: to where it goes, and from where it comes.
     pub dcid: Vec<u8>,
     pub scid: Vec<u8>,
+    /// Whether it is an Initial packet with a token.
+    pub has_token: bool,
     pub at: Range<usize>,
 }
 
@@ -66,30 +72,33 @@ fn read_packet(datagram: &[u8], begin: usize) -> Option<Packet> {
     let (mut end, is_fixed) = (datagram.len(), first & 0x40 != 0);
     if first & 0x80 == 0 {
         let kind = if is_fixed { Kind::Short } else { Kind::Other };
-        return Some(Packet { kind, dcid: Vec::new(), scid: Vec::new(), at: begin..end });
+        let (dcid, scid) = Default::default();
+        return Some(Packet { kind, dcid, scid, has_token: false, at: begin..end });
     }
     let version = big_endian(from.take(4)?);
     let (dcid, scid) = (from.id()?.to_vec(), from.id()?.to_vec());
+    let mut has_token = false;
     let kind = match first >> 4 & 3 {
         _ if version == 0 => {
             Kind::VersionNegotiation(from.0.chunks_exact(4).map(big_endian).collect())
         }
-        _ if version != VERSION || !is_fixed => Kind::Other,
+        _ if version != VERSION => Kind::OtherVersion,
+        _ if !is_fixed => Kind::Other,
         3 => Kind::Retry(from.0[..from.0.len().checked_sub(TAG)?].to_vec()),
         kind => {
-            let token = if kind == 0 { from.prefixed()? } else { &[] };
+            has_token = kind == 0 && !from.prefixed()?.is_empty();
             let len = from.varint()?;
             let number_at = end - begin - from.0.len();
             from.take(len)?;
             end -= from.0.len();
             match kind {
-                0 if token.is_empty() => Kind::Long(Level::Initial, number_at),
+                0 => Kind::Long(Level::Initial, number_at),
                 2 => Kind::Long(Level::Handshake, number_at),
-                _ => Kind::Other, // No server has a token, or sends 0-RTT.
+                _ => Kind::Other, // There is no 0-RTT here.
             }
         }
     };
-    Some(Packet { kind, dcid, scid, at: begin..end })
+    Some(Packet { kind, dcid, scid, has_token, at: begin..end })
 }
 
 /// A long header up to its length; the token is an Initial packet's.
@@ -102,6 +111,15 @@ pub fn long_header(level: Level, dcid: &[u8], scid: &[u8], token: &[u8]) -> Vec<
         put_prefixed(&mut header, &[], token);
     }
     header
+}
+
+/// A Version Negotiation packet, from where the client's packet went to where that came from.
+pub fn version_negotiation(asked: &Packet) -> Vec<u8> {
+    let mut packet = vec![0xc0, 0, 0, 0, 0];
+    put_prefixed(&mut packet, &[], &asked.scid);
+    put_prefixed(&mut packet, &[], &asked.dcid);
+    packet.extend(VERSION.to_be_bytes());
+    packet
 }
 
 /// Seals a packet of this header and number; its frames fit a datagram, and have two bytes or more.

@@ -4,39 +4,46 @@
 //! The endpoint's keys are stand-ins: the mask of a header is the sample itself, and the tag has
 //! the packet number in eight bytes and the letter of the sender's side eight times. That is taken
 //! off each datagram that the endpoint gives, and put on each that it gets; lengths stay. The
-//! endpoint knows one key phase, 0: a key update of the server is followed here.
+//! endpoint knows one key phase, 0: a key update of the peer is followed here.
 use crate::failure::{Failure, Status};
 use crate::handshake::{Id, OneRtt};
 use crate::packet::{protect, unprotect, TAG};
+use fennelhammer::Side;
 use rustls::quic::{HeaderProtectionKey, PacketKey, PacketKeySet, Secrets};
 
 const KEY_PHASE: u8 = 0x04;
 /// Where the packet number stands behind an own ID.
 const NUMBER_AT: usize = 1 + std::mem::size_of::<Id>();
-/// What the stand-in tag of a server ends with.
-const MARK: &[u8; 8] = b"ssssssss";
+/// What the stand-in tags of a client and a server end with.
+const CLIENT: [u8; 8] = *b"cccccccc";
+const SERVER: [u8; 8] = *b"ssssssss";
 
+/// The keys of both sides, and what they were used for.
 pub struct Protection {
     local_header: HeaderProtectionKey,
     remote_header: HeaderProtectionKey,
     pub current: PacketKeySet,
-    /// The server's key of the phase before, for packets that come late.
+    /// What the peer's stand-in tags end with.
+    mark: [u8; 8],
+    /// The peer's key of the phase before, for packets that come late.
     previous: Option<PacketKey>,
     next: PacketKeySet,
     secrets: Secrets,
-    /// The key phase bit now, and the first packet of the server that had it.
+    /// The key phase bit now, and the first packet of the peer that had it.
     phase: u8,
     phase_began: u64,
     /// One more than the greatest number that came.
     expected: u64,
-    /// How many packets didn't open, and how often the server updated its keys.
+    /// How many packets didn't open, and how often the peer updated its keys.
     pub refused: u64,
     pub updates: u64,
 }
 
 impl Protection {
-    pub fn new((keys, mut secrets): OneRtt) -> Self {
+    /// Around an endpoint of this side.
+    pub fn new(side: Side, (keys, mut secrets): OneRtt) -> Self {
         Protection {
+            mark: if side == Side::Client { SERVER } else { CLIENT },
             local_header: keys.local.header,
             remote_header: keys.remote.header,
             current: PacketKeySet { local: keys.local.packet, remote: keys.remote.packet },
@@ -61,7 +68,7 @@ impl Protection {
         let number = datagram[tag_at..].iter().take(8);
         let number = number.fold(0, |number, &byte| number << 8 | u64::from(byte));
         if !number.to_be_bytes().ends_with(&datagram[number_at..number_at + width]) {
-            let why = "the server's connection IDs have many lengths";
+            let why = "the peer's connection IDs have many lengths";
             return Err(Failure::new(Status::Refused, why));
         }
         datagram[0] |= self.phase;
@@ -72,7 +79,7 @@ impl Protection {
         protect(&self.local_header, datagram, number_at).map_err(wrong)
     }
 
-    /// Opens a packet of the server in place, so that the endpoint takes it: whether it did. Where
+    /// Opens a packet of the peer in place, so that the endpoint takes it: whether it did. Where
     /// it doesn't open it counts as refused.
     pub fn open(&mut self, packet: &mut [u8]) -> Result<bool, Failure> {
         let header = unprotect(&self.remote_header, packet, NUMBER_AT, self.expected);
@@ -100,13 +107,13 @@ impl Protection {
         self.expected = self.expected.max(number + 1);
         let tag_at = packet.len() - TAG;
         packet[tag_at..tag_at + 8].copy_from_slice(&number.to_be_bytes());
-        packet[tag_at + 8..].copy_from_slice(MARK);
+        packet[tag_at + 8..].copy_from_slice(&self.mark);
         mask(packet, NUMBER_AT, frames_at - NUMBER_AT);
         packet[0] = packet[0] & !KEY_PHASE ^ packet[NUMBER_AT + 4] & 0x1f;
         Ok(true)
     }
 
-    /// The server updated its keys, from this packet on: both sides' next ones are in use.
+    /// The peer updated its keys, from this packet on: both sides' next ones are in use.
     fn update(&mut self, number: u64) {
         let next = std::mem::replace(&mut self.next, self.secrets.next_packet_keys());
         let current = std::mem::replace(&mut self.current, next);

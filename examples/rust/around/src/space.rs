@@ -76,6 +76,7 @@ impl Space {
         Some(data)
     }
 
+    /// Whether there is something to be sent in it, and keys for that.
     pub fn has_to_send(&self) -> bool {
         self.keys.is_some() && (self.ack_due || self.probe || self.from < self.outgoing.len())
     }

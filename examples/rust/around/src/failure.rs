@@ -1,9 +1,12 @@
-//! Why a file isn't got.
+//! Why a connection, or what was asked on it, failed.
 use std::fmt::Display;
 use thiserror::Error;
 
-/// Errors of QUIC (RFC 9000, section 20.1): the general one, and where those of TLS begin, of which
-/// one is no_application_protocol (RFC 7301, section 3.2).
+/// Errors of QUIC (RFC 9000, section 20.1): for a connection that can't be, for transport
+/// parameters, the general one, and where those of TLS begin, of which one is
+/// no_application_protocol (RFC 7301, section 3.2).
+const CONNECTION_REFUSED: u64 = 0x02;
+const TRANSPORT_PARAMETER_ERROR: u64 = 0x08;
 const PROTOCOL_VIOLATION: u64 = 0x0a;
 const CRYPTO_ERROR: u64 = 0x100;
 const NO_APPLICATION_PROTOCOL: u64 = CRYPTO_ERROR + 120;
@@ -15,32 +18,34 @@ pub enum Status {
     Fault = 1,
     /// or the arguments are.
     Usage,
-    /// Nothing came from the server for too long.
+    /// Nothing came from the peer for too long.
     Silent,
     /// The server's certificate isn't trusted.
     Certificate,
     /// No application protocol, or no version, is in common.
     NoProtocol,
     NoVersion,
-    /// The server reset the stream, or closed the connection.
+    /// The peer reset a stream, refused what was asked, or closed the connection.
     Refused,
-    /// The server broke a rule.
+    /// The peer broke a rule.
     Broken,
 }
 
-/// Why a file isn't got.
+/// Why a connection, or what was asked on it, failed.
 #[derive(Debug, Error)]
 #[error("{why}")]
 pub struct Failure {
     pub status: Status,
     why: String,
-    /// By which error the server is told during the handshake, if it is to be told.
+    /// By which error of QUIC the peer is told during the handshake, if it is to be told; and by
+    /// which one of the application after it.
     pub code: Option<u64>,
+    pub application_code: u64,
 }
 
 impl Failure {
     pub fn new(status: Status, why: impl Display) -> Self {
-        Failure { status, why: why.to_string(), code: None }
+        Failure { status, why: why.to_string(), code: None, application_code: status as u64 }
     }
 
     /// What is at fault here, and why.
@@ -48,22 +53,39 @@ impl Failure {
         Failure::new(Status::Fault, format!("{}: {}", what, why))
     }
 
-    /// A rule that the server broke.
+    /// A peer with whom there can be no connection.
+    pub fn unfit(why: impl Display) -> Self {
+        Failure { code: Some(CONNECTION_REFUSED), ..Failure::new(Status::Refused, why) }
+    }
+
+    /// A rule that the peer broke.
     pub fn broken(why: impl Display) -> Self {
-        let why = format!("the server broke a rule: {}", why);
+        let why = format!("the peer broke a rule: {}", why);
         Failure { code: Some(PROTOCOL_VIOLATION), ..Failure::new(Status::Broken, why) }
     }
 
-    /// The server closed the connection during the handshake.
+    /// Transport parameters of the peer that can't be (RFC 9000, sections 7.3 and 7.4).
+    pub fn parameters(why: impl Display) -> Self {
+        let broken = Failure::broken(format!("its transport parameters: {}", why));
+        Failure { code: Some(TRANSPORT_PARAMETER_ERROR), ..broken }
+    }
+
+    /// A rule of HTTP/3 that the peer broke, and its error.
+    pub fn http3(application_code: u64, why: impl Display) -> Self {
+        Failure { application_code, ..Failure::broken(why) }
+    }
+
+    /// The peer closed the connection during the handshake.
     pub fn closed(code: u64, text: &[u8]) -> Self {
         if code == NO_APPLICATION_PROTOCOL {
             return Failure::new(
                 Status::NoProtocol,
-                "no application protocol in common: no hq-interop",
+                "no application protocol in common: neither hq-interop nor h3",
             );
         }
         let text = String::from_utf8_lossy(text);
-        Failure::new(Status::Refused, format!("the server closed by error {:#x}: {}", code, text))
+        let why = format!("the peer closed by error {:#x}: {}", code, text.escape_debug());
+        Failure::new(Status::Refused, why)
     }
 
     /// What TLS refused, by this alert.

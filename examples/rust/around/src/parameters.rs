@@ -6,14 +6,18 @@ const ORIGINAL_DESTINATION_CONNECTION_ID: u64 = 0x00;
 const INITIAL_SOURCE_CONNECTION_ID: u64 = 0x0f;
 const RETRY_SOURCE_CONNECTION_ID: u64 = 0x10;
 
-/// Appends to an endpoint's transport parameters its first connection ID.
-pub fn append(parameters: &mut Vec<u8>, own_id: &[u8]) {
+/// Appends to an endpoint's transport parameters its first connection ID, and at a server where the
+/// client's first packet went.
+pub fn append(parameters: &mut Vec<u8>, own_id: &[u8], original: Option<&[u8]>) {
     put_prefixed(parameters, &[INITIAL_SOURCE_CONNECTION_ID], own_id);
+    let original = original.into_iter();
+    original.for_each(|id| put_prefixed(parameters, &[ORIGINAL_DESTINATION_CONNECTION_ID], id));
 }
 
-/// Whether a server saw the connection IDs that its client saw: where the first Initial packet
-/// went, the source of the server's own first, and the source of a Retry, if one came.
-pub fn agree(parameters: &[u8], first: &[u8], server: &[u8], retry: Option<&[u8]>) -> bool {
+/// Whether a peer saw the connection IDs that were seen here: the source of its own first Initial
+/// packet; and a server where the client's first packet went, and the source of a Retry, if one
+/// came, of which a client says nothing.
+pub fn agree(parameters: &[u8], peer: &[u8], first: Option<&[u8]>, retry: Option<&[u8]>) -> bool {
     let mut from = Reader(parameters);
     let next = || (!from.0.is_empty()).then(|| Some((from.varint()?, from.prefixed()?)));
     let told: Option<Vec<(u64, &[u8])>> = std::iter::from_fn(next).collect();
@@ -21,7 +25,7 @@ pub fn agree(parameters: &[u8], first: &[u8], server: &[u8], retry: Option<&[u8]
         let mut values = told.iter().flatten().filter(|(it, _)| *it == name).map(|(_, id)| *id);
         values.next() == id && values.next().is_none()
     };
-    is_told(ORIGINAL_DESTINATION_CONNECTION_ID, Some(first))
-        && is_told(INITIAL_SOURCE_CONNECTION_ID, Some(server))
+    is_told(INITIAL_SOURCE_CONNECTION_ID, Some(peer))
+        && is_told(ORIGINAL_DESTINATION_CONNECTION_ID, first)
         && is_told(RETRY_SOURCE_CONNECTION_ID, retry)
 }

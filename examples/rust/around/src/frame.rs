@@ -6,6 +6,7 @@ use std::ops::RangeInclusive;
 pub struct Reader<'a>(pub &'a [u8]);
 
 impl<'a> Reader<'a> {
+    /// So many bytes, if there are.
     pub fn take(&mut self, len: u64) -> Option<&'a [u8]> {
         let len = usize::try_from(len).ok()?;
         let taken = self.0.get(..len)?;
@@ -64,6 +65,7 @@ pub fn put_ack(out: &mut Vec<u8>, ranges: &[RangeInclusive<u64>]) {
     }
 }
 
+/// A frame that a packet of the handshake may have.
 pub enum Frame<'a> {
     Padding,
     Ping,
