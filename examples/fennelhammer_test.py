@@ -199,7 +199,7 @@ class Calls(unittest.TestCase):
             self.fails(Code.INVALID, connection.write, 1 << 62, b"x")
             self.fails(Code.CLOSED_STREAM, connection.finish, 4)
             self.assertEqual(connection.receive(0, bytearray(b"@")), 1)
-        self.assertIn(b"unproved", library().fh_build())
+        self.assertIn(b"proved", library().fh_build())
 
     def test_seals(self):
         secret = "9ac312a7f877468ebe69422748ad00a15443f18203a07d6060f688f30f21632b"  # A.5

@@ -23,6 +23,12 @@
  *
  * Pointers are kept by no call: what they point to is the caller's again once the call is back. A
  * call takes up to some 50 KB of the caller's stack, as was measured.
+ *
+ * What is proved: of a native build nothing, and fh_build says which a library is. Of a proved one
+ * each function returns, reads and writes nothing but what it is handed and what its endpoint has,
+ * and does no fault, for a caller who sees to the above. Where it says "Proved" beside a function a
+ * contract says that of it as well, as the reference machine of the proofs has it (crates/quic_c).
+ * All else that stands here is tested.
  */
 #ifndef FENNELHAMMER_H
 #define FENNELHAMMER_H
@@ -248,7 +254,9 @@ int64_t fh_parameters(const fh_settings *settings, uint8_t *out, size_t room);
  *
  * Answers 0. FH_ERR_SIZE, FH_ERR_SETTING, FH_ERR_INVALID (a side that is neither), FH_ERR_SEED,
  * FH_ERR_ID_LENGTH, FH_ERR_PARAMETERS, FH_ERR_DATAGRAM_SIZE, FH_ERR_WINDOW, FH_ERR_KEY_LIMIT,
- * FH_ERR_MEMORY. */
+ * FH_ERR_MEMORY.
+ *
+ * Proved: that an endpoint is given where 0 is answered, and else none. */
 int fh_new(const fh_settings *settings, uint32_t side, const uint8_t *own_id, size_t own_id_len,
            const uint8_t *peer_id, size_t peer_id_len, const uint8_t *peer_parameters,
            size_t peer_parameters_len, uint64_t peer_address, const uint8_t *seed, size_t seed_len,
@@ -287,7 +295,9 @@ enum fh_dropped {
  *
  * Answers 0 where all its frames were taken, and a number of fh_dropped where it was dropped.
  * FH_ERR_INVALID: an ECN codepoint above 3. FH_ERR_CLOSED: the endpoint is closing now.
- * FH_ERR_FAILED. */
+ * FH_ERR_FAILED.
+ *
+ * Proved: the answer and what the endpoint is then, but for FH_ERR_FAILED. */
 int fh_receive(fh_conn *conn, uint64_t now, uint64_t peer_address, uint32_t ecn, uint8_t *datagram,
                size_t len);
 
@@ -296,26 +306,37 @@ int fh_receive(fh_conn *conn, uint64_t now, uint64_t peer_address, uint32_t ecn,
  * sent, and is given but once.
  *
  * Answers its length in bytes, and 0 where there is nothing to send now. FH_ERR_ROOM: `room` is
- * below fh_max_datagram_size; no datagram was made then. FH_ERR_FAILED. */
+ * below fh_max_datagram_size; no datagram was made then. FH_ERR_FAILED.
+ *
+ * Proved: the answer and what the endpoint is then, but for FH_ERR_FAILED. That no datagram is
+ * longer than fh_max_datagram_size is tested: one that were would be lost, with FH_ERR_ROOM. */
 int64_t fh_poll(fh_conn *conn, uint64_t now, uint8_t *out, size_t room, uint64_t *peer_address,
                 uint32_t *ecn);
 
 /* The room that fh_poll asks for, in bytes: no datagram of this endpoint is longer, MTU probes
- * among them. It is the same for the whole life of the endpoint; 1452 by the default settings. */
+ * among them. It is the same for the whole life of the endpoint; 1452 by the default settings.
+ *
+ * Proved: that it changes nothing. */
 size_t fh_max_datagram_size(const fh_conn *conn);
 
 /* Lets the timers expire whose deadline is `now` or earlier.
  *
- * Answers 0. FH_ERR_FAILED. */
+ * Answers 0. FH_ERR_FAILED.
+ *
+ * Proved: the answer and what the endpoint is then. */
 int fh_timeout(fh_conn *conn, uint64_t now);
 
 /* The earliest deadline, at which fh_timeout is to be called; FH_NEVER where none is set. It may be
- * over already. */
+ * over already.
+ *
+ * Proved: the answer, and that it changes nothing. */
 uint64_t fh_next_timeout(const fh_conn *conn);
 
 /* Whether a datagram from this address would open here, whatever the endpoint's state, and also if
  * it came before: 1 or 0. So a program with many endpoints on one socket finds whose it is. The
- * bytes are changed, as `scratch` is opened in place: hand a copy in. */
+ * bytes are changed, as `scratch` is opened in place: hand a copy in.
+ *
+ * Proved: the answer, and that it changes nothing. */
 int fh_would_open(const fh_conn *conn, uint64_t peer_address, uint8_t *scratch, size_t len);
 
 /* ---- to which endpoint a datagram is */
@@ -334,14 +355,18 @@ typedef struct fh_own_id {
 
 /* Whether own connection IDs were issued or retired since this was asked last, or since the
  * endpoint was made: 1 or 0. A program with many endpoints on one socket asks it behind each call
- * that hands something in, and where it is 1 reads the IDs anew. */
+ * that hands something in, and where it is 1 reads the IDs anew.
+ *
+ * Proved: the answer and what the endpoint is then. */
 int fh_ids_changed(fh_conn *conn);
 
 /* Writes the own connection IDs that live, by ascending number. They are there as soon as they are
  * issued, before the peer is told. Of an endpoint that has failed they say nothing, and one that is
  * drained drops all that comes: a program with many endpoints takes the IDs of both out.
  *
- * Answers how many they are, at most FH_OWN_IDS_MAX. FH_ERR_ROOM: they are more than `room`. */
+ * Answers how many they are, at most FH_OWN_IDS_MAX. FH_ERR_ROOM: they are more than `room`.
+ *
+ * Proved: that it changes nothing. */
 int64_t fh_own_ids(const fh_conn *conn, fh_own_id *out, size_t room);
 
 /* ---- events */
@@ -390,7 +415,9 @@ typedef struct fh_event {
 
 /* Takes the next event, and gives it by `event`.
  *
- * Answers 1; 0 where there is none, and then `event` stays as it was. */
+ * Answers 1; 0 where there is none, and then `event` stays as it was.
+ *
+ * Proved: whether there is one, and what the endpoint is then. */
 int fh_next_event(fh_conn *conn, fh_event *event);
 
 /* Writes the text that says more of why the connection is lost, for people to read: what the peer
@@ -399,7 +426,9 @@ int fh_next_event(fh_conn *conn, fh_event *event);
  * time and more than once. No zero byte is put behind it.
  *
  * Answers how many bytes it wrote, 0 where there is no text. FH_ERR_ROOM: `room` is below the
- * text's length. */
+ * text's length.
+ *
+ * Proved: that it changes nothing. */
 int64_t fh_lost_text(const fh_conn *conn, uint8_t *out, size_t room);
 
 /* ---- streams */
@@ -407,13 +436,17 @@ int64_t fh_lost_text(const fh_conn *conn, uint8_t *out, size_t room);
 /* Opens the next stream of a kind (RFC 9000, section 4.6).
  *
  * Answers its ID. FH_ERR_INVALID: neither kind. FH_ERR_BLOCKED: the peer's limit is reached
- * (FH_EVENT_AVAILABLE says when it was raised), or the endpoint isn't open. */
+ * (FH_EVENT_AVAILABLE says when it was raised), or the endpoint isn't open.
+ *
+ * Proved: the answer and what the endpoint is then. */
 int64_t fh_open(fh_conn *conn, uint32_t dir);
 
 /* Accepts the first stream of a kind that the peer opened and that wasn't accepted. Read from it at
  * once: no FH_EVENT_READABLE tells of the bytes that came with it.
  *
- * Answers its ID. FH_ERR_INVALID: neither kind. FH_ERR_NONE: no stream waits. */
+ * Answers its ID. FH_ERR_INVALID: neither kind. FH_ERR_NONE: no stream waits.
+ *
+ * Proved: the answer and what the endpoint is then. */
 int64_t fh_accept(fh_conn *conn, uint32_t dir);
 
 /* Writes as many of the bytes as fit on a stream, and copies them (RFC 9000, sections 2.2 and 4.1).
@@ -422,7 +455,9 @@ int64_t fh_accept(fh_conn *conn, uint32_t dir);
  * FH_ERR_BLOCKED. FH_ERR_INVALID: an ID of 2^62 or above. FH_ERR_BLOCKED: a limit leaves no room,
  * or the endpoint isn't open. FH_ERR_STOPPED: the peer asked for no more, by the code that is given
  * by `error_code`; reset the stream. FH_ERR_CLOSED_STREAM: no such stream, or it was finished or
- * reset. FH_ERR_MEMORY. `error_code` stays as it was but for FH_ERR_STOPPED. */
+ * reset. FH_ERR_MEMORY. `error_code` stays as it was but for FH_ERR_STOPPED.
+ *
+ * Proved: the answer, but for FH_ERR_MEMORY. */
 int64_t fh_write(fh_conn *conn, uint64_t stream, const uint8_t *data, size_t len,
                  uint64_t *error_code);
 
@@ -441,26 +476,34 @@ int64_t fh_writev(fh_conn *conn, uint64_t stream, const fh_iovec *iov, size_t co
 /* Finishes a stream: its FIN goes behind all that was written (RFC 9000, section 3.1).
  *
  * Answers 0. FH_ERR_INVALID, FH_ERR_STOPPED (with the code by `error_code`), FH_ERR_CLOSED_STREAM
- * and FH_ERR_MEMORY as fh_write. */
+ * and FH_ERR_MEMORY as fh_write.
+ *
+ * Proved: the answer and what the endpoint is then, but for FH_ERR_MEMORY. */
 int fh_finish(fh_conn *conn, uint64_t stream, uint64_t *error_code);
 
 /* Resets a stream with a code (RFC 9000, section 3.1): nothing else of it is sent.
  *
  * Answers 0. FH_ERR_INVALID: an ID or a code of 2^62 or above. FH_ERR_CLOSED_STREAM: no such
- * stream, or it was reset, or the peer has all of it. FH_ERR_MEMORY. */
+ * stream, or it was reset, or the peer has all of it. FH_ERR_MEMORY.
+ *
+ * Proved: the answer and what the endpoint is then, but for FH_ERR_MEMORY. */
 int fh_reset(fh_conn *conn, uint64_t stream, uint64_t error_code);
 
 /* Asks the peer by STOP_SENDING, with a code, to send no more on a stream (RFC 9000, section 3.5);
  * nothing of it is read any more.
  *
  * Answers 0. FH_ERR_INVALID: an ID or a code of 2^62 or above. FH_ERR_CLOSED_STREAM: no such
- * stream, or nothing is left to read. FH_ERR_MEMORY. */
+ * stream, or nothing is left to read. FH_ERR_MEMORY.
+ *
+ * Proved: the answer and what the endpoint is then, but for FH_ERR_MEMORY. */
 int fh_stop(fh_conn *conn, uint64_t stream, uint64_t error_code);
 
 /* Sets the priority of a stream: streams of a greater one are sent first. It is 0 at first, and
  * counts when the stream is queued next.
  *
- * Answers 0. FH_ERR_INVALID: an ID of 2^62 or above. FH_ERR_CLOSED_STREAM, FH_ERR_MEMORY. */
+ * Answers 0. FH_ERR_INVALID: an ID of 2^62 or above. FH_ERR_CLOSED_STREAM, FH_ERR_MEMORY.
+ *
+ * Proved: the answer and what the endpoint is then, but for FH_ERR_MEMORY. */
 int fh_set_priority(fh_conn *conn, uint64_t stream, int32_t priority);
 
 /* Reads bytes of a stream in order, at most `room` of them (RFC 9000, section 2.2). Gives by
@@ -503,12 +546,16 @@ int64_t fh_receive_message(fh_conn *conn, uint8_t *out, size_t room);
 /* The longest message that may be sent now, in bytes: the path may take longer or shorter ones
  * later.
  *
- * FH_ERR_UNSUPPORTED: the peer takes none. */
+ * FH_ERR_UNSUPPORTED: the peer takes none.
+ *
+ * Proved: that it changes nothing. */
 int64_t fh_max_message(const fh_conn *conn);
 
 /* ---- the connection */
 
-/* Queues a PING, so that the peer acknowledges (RFC 9000, section 19.2). */
+/* Queues a PING, so that the peer acknowledges (RFC 9000, section 19.2).
+ *
+ * Proved: what the endpoint is then. */
 void fh_ping(fh_conn *conn);
 
 /* Says at a server that the handshake is done, as whoever makes it finds: HANDSHAKE_DONE goes until
@@ -516,7 +563,9 @@ void fh_ping(fh_conn *conn);
  * is complete (RFC 9000, section 19.20).
  *
  * Answers 0. FH_ERR_CLIENT: the endpoint is a client. FH_ERR_AGAIN: it was said before.
- * FH_ERR_NOT_OPEN. */
+ * FH_ERR_NOT_OPEN.
+ *
+ * Proved: the answer and what the endpoint is then. */
 int fh_handshake_done(fh_conn *conn);
 
 /* Sends to the next connection ID that the peer gave from now on, and retires those before it (RFC
@@ -524,7 +573,9 @@ int fh_handshake_done(fh_conn *conn);
  * server whose peer moved to another address.
  *
  * Answers 0. FH_ERR_NONE: the peer told of no later one. FH_ERR_BLOCKED: more than 80 retirements
- * would wait. FH_ERR_MEMORY. */
+ * would wait. FH_ERR_MEMORY.
+ *
+ * Proved: the answer and what the endpoint is then. */
 int fh_use_next_id(fh_conn *conn);
 
 /* Closes the connection at the time `now` with a code of the application and a text, of which as
@@ -532,7 +583,9 @@ int fh_use_next_id(fh_conn *conn);
  * more. Go on handing in, polling and timing until the state is FH_STATE_DRAINED. Does nothing
  * where the endpoint isn't open.
  *
- * Answers 0. FH_ERR_INVALID: a code of 2^62 or above. FH_ERR_MEMORY. */
+ * Answers 0. FH_ERR_INVALID: a code of 2^62 or above. FH_ERR_MEMORY.
+ *
+ * Proved: the answer and what the endpoint is then. */
 int fh_close(fh_conn *conn, uint64_t now, uint64_t error_code, const uint8_t *text, size_t len);
 
 /* Whether an endpoint is open (RFC 9000, section 10). */
@@ -543,20 +596,30 @@ enum fh_state {
     FH_STATE_FAILED = 3   /* an allocation failed: free it */
 };
 
-/* Which state the endpoint is in: a number of fh_state. */
+/* Which state the endpoint is in: a number of fh_state.
+ *
+ * Proved: the answer, and that it changes nothing. */
 int fh_get_state(const fh_conn *conn);
 
-/* Whether the peer's address is validated (RFC 9000, section 8): 1 or 0. */
+/* Whether the peer's address is validated (RFC 9000, section 8): 1 or 0.
+ *
+ * Proved: the answer, and that it changes nothing. */
 int fh_is_validated(const fh_conn *conn);
 
-/* The bytes that a datagram has at most now, but for an MTU probe (RFC 9000, section 14). */
+/* The bytes that a datagram has at most now, but for an MTU probe (RFC 9000, section 14).
+ *
+ * Proved: the answer, and that it changes nothing. */
 size_t fh_current_mtu(const fh_conn *conn);
 
 /* How long a round trip takes, as estimated now, in nanoseconds (RFC 9002, section 5.3): the
- * smoothed time, and before the first sample `initial_rtt`. */
+ * smoothed time, and before the first sample `initial_rtt`.
+ *
+ * Proved: the answer, and that it changes nothing. */
 uint64_t fh_rtt(const fh_conn *conn);
 
-/* How many bytes may be in flight: the congestion window (RFC 9002, section 7). */
+/* How many bytes may be in flight: the congestion window (RFC 9002, section 7).
+ *
+ * Proved: the answer, and that it changes nothing. */
 uint64_t fh_congestion_window(const fh_conn *conn);
 
 /* What was counted of an endpoint since it was made, and what it knows of its path. No count passes
@@ -591,7 +654,9 @@ typedef struct fh_stats {
 
 /* Gives the figures by `stats`. `size` is sizeof(fh_stats) as the caller was compiled.
  *
- * Answers 0. FH_ERR_SIZE where this library knows no fh_stats of that size. */
+ * Answers 0. FH_ERR_SIZE where this library knows no fh_stats of that size.
+ *
+ * Proved: that it changes nothing. */
 int fh_get_stats(const fh_conn *conn, fh_stats *stats, size_t size);
 
 #ifdef __cplusplus

@@ -26,13 +26,14 @@ class Missing(Exception):
 
 
 class Program:
-    """A program's crate, in its repository: the nearest folder above it that has a crates.txt."""
+    """A program's crate, or a static library's, in its repository: the nearest folder above it that
+    has a crates.txt."""
 
-    def __init__(self, folder):
+    def __init__(self, folder, root="main.rt"):
         self.folder = Path(folder).resolve()
         self.name = self.folder.name
-        if not (self.folder / "src" / "main.rt").is_file():
-            raise Missing(f"{folder} is no crate of a program: it has no src/main.rt")
+        if not (self.folder / "src" / root).is_file():
+            raise Missing(f"{folder} is no crate of what is wanted: it has no src/{root}")
         above = [top for top in self.folder.parents if (top / "crates.txt").is_file()]
         if not above:
             raise Missing(f"no folder above {folder} has a crates.txt")

@@ -1,5 +1,6 @@
 //! Why calls are refused.
-ghost use Rattle.std.specs.Prelude.{◌<◌, length};
+ghost use Rattle.std.specs.Prelude.{◌≡◌, ◌<◌, length};
+ghost use Rattle.quic_c_core.specs.Answers.{error_number};
 
 use quic_connection::{
     ClosedStream, ConfigError, Failed, FinishError, HandshakeDoneError, NextIdError, ReadError,
@@ -90,7 +91,9 @@ pub enum CallError {
 
 impl CallError {
     /// The number of the error, as `fh_error` of the header has it: -1 to -25.
-    pub fn code(self) -> i32 {
+    pub fn code(self) -> i32
+        ensures { result ≡ error_number self }
+    {
         match self {
             CallError::Invalid => -1,
             CallError::Room => -2,
@@ -166,18 +169,30 @@ pub fn error_text(code: i64) -> &'static [u8]
 }
 
 impl From<AllocError> for CallError {
+    ghost use Rattle.quic_c_core.specs.declared.call_error.CallError.TheVariants as errors;
+
+    ghost from_gives = { λ _ e. e ≡ errors.Memory };
+
     fn from(_: AllocError) -> Self {
         CallError::Memory
     }
 }
 
 impl From<Failed> for CallError {
+    ghost use Rattle.quic_c_core.specs.declared.call_error.CallError.TheVariants as errors;
+
+    ghost from_gives = { λ _ e. e ≡ errors.Failed };
+
     fn from(_: Failed) -> Self {
         CallError::Failed
     }
 }
 
 impl From<VarIntBoundsExceeded> for CallError {
+    ghost use Rattle.quic_c_core.specs.declared.call_error.CallError.TheVariants as errors;
+
+    ghost from_gives = { λ _ e. e ≡ errors.Invalid };
+
     fn from(_: VarIntBoundsExceeded) -> Self {
         CallError::Invalid
     }
@@ -204,6 +219,10 @@ impl From<ConfigError> for CallError {
 }
 
 impl From<HandshakeDoneError> for CallError {
+    ghost use Rattle.quic_c_core.specs.Answers.{of_done};
+
+    ghost from_gives = { λ error e. e ≡ of_done error };
+
     fn from(error: HandshakeDoneError) -> Self {
         match error {
             HandshakeDoneError::Client => CallError::Client,
@@ -214,6 +233,10 @@ impl From<HandshakeDoneError> for CallError {
 }
 
 impl From<NextIdError> for CallError {
+    ghost use Rattle.quic_c_core.specs.Answers.{of_next_id};
+
+    ghost from_gives = { λ error e. e ≡ of_next_id error };
+
     fn from(error: NextIdError) -> Self {
         match error {
             NextIdError::NoId => CallError::Absent,
@@ -224,6 +247,10 @@ impl From<NextIdError> for CallError {
 }
 
 impl From<WriteError> for CallError {
+    ghost use Rattle.quic_c_core.specs.Answers.{of_write};
+
+    ghost from_gives = { λ error e. e ≡ of_write error };
+
     fn from(error: WriteError) -> Self {
         match error {
             WriteError::Blocked => CallError::Blocked,
@@ -235,6 +262,10 @@ impl From<WriteError> for CallError {
 }
 
 impl From<FinishError> for CallError {
+    ghost use Rattle.quic_c_core.specs.Answers.{of_finish};
+
+    ghost from_gives = { λ error e. e ≡ of_finish error };
+
     fn from(error: FinishError) -> Self {
         match error {
             FinishError::Stopped(code) => CallError::Stopped(code),
@@ -245,6 +276,10 @@ impl From<FinishError> for CallError {
 }
 
 impl From<UpdateError> for CallError {
+    ghost use Rattle.quic_c_core.specs.Answers.{of_update};
+
+    ghost from_gives = { λ error e. e ≡ of_update error };
+
     fn from(error: UpdateError) -> Self {
         match error {
             UpdateError::ClosedStream => CallError::ClosedStream,
@@ -274,6 +309,10 @@ impl From<ReadError> for CallError {
 }
 
 impl From<SendDatagramError> for CallError {
+    ghost use Rattle.quic_c_core.specs.Answers.{of_send};
+
+    ghost from_gives = { λ error e. e ≡ of_send error };
+
     fn from(error: SendDatagramError) -> Self {
         match error {
             SendDatagramError::UnsupportedByPeer => CallError::Unsupported,

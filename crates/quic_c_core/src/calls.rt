@@ -6,15 +6,15 @@ use crate::events::EventRecord;
 use crate::figures::Stats;
 use crate::own_ids::IdRecord;
 use crate::settings::Settings;
-use crate::streams::{Piece, dir_of, read_all, read_one, stream_of, write_each};
-use quic_connection::{RecvStream, SendStream, StreamId, Streams, VarInt};
+use crate::streams::{Piece, read_all, read_one, stream_of, write_each};
+use quic_connection::{RecvStream, SendStream, StreamId};
 use std::alloc::Global;
 
 /// What may be asked of an endpoint; [`Endpoint`](crate::Endpoint) is the one that answers.
 ///
 /// A function that calls any endpoint by this trait is proved without a look at what a connection
 /// holds, and so in far less time than one over [`Endpoint`](crate::Endpoint) itself. That is why
-/// the calls of a stream have their bodies here, over the handles of streams.
+/// a read, and a write of several buffers, have their bodies here, over the handles of streams.
 pub trait Calls: Drop {
     /// Makes an endpoint at this time, of the random source that the seed comes to.
     ///
@@ -104,9 +104,6 @@ pub trait Calls: Drop {
     /// - [`CallError::Room`]: the room is smaller; nothing is copied.
     fn put_lost_text(&self, out: &mut [u8]) -> Result<usize, CallError>;
 
-    /// All streams.
-    fn streams(&mut self) -> Streams<'_>;
-
     /// The sending half of a stream.
     fn send_stream(&mut self, id: StreamId) -> SendStream<'_>;
 
@@ -119,11 +116,7 @@ pub trait Calls: Drop {
     ///
     /// - [`CallError::Invalid`]: neither kind.
     /// - [`CallError::Blocked`]: the peer lets no more be opened, or the endpoint isn't open.
-    final fn open(&mut self, dir: u32) -> Result<u64, CallError> {
-        let dir = dir_of(dir)?;
-        let id = self.streams().open(dir).ok_or(CallError::Blocked)?;
-        Ok(VarInt::from(id).into_inner())
-    }
+    fn open(&mut self, dir: u32) -> Result<u64, CallError>;
 
     /// Accepts the first stream of a kind that the peer opened and that wasn't accepted: its ID.
     ///
@@ -131,11 +124,7 @@ pub trait Calls: Drop {
     ///
     /// - [`CallError::Invalid`]: neither kind.
     /// - [`CallError::Absent`]: no stream waits.
-    final fn accept(&mut self, dir: u32) -> Result<u64, CallError> {
-        let dir = dir_of(dir)?;
-        let id = self.streams().accept(dir).ok_or(CallError::Absent)?;
-        Ok(VarInt::from(id).into_inner())
-    }
+    fn accept(&mut self, dir: u32) -> Result<u64, CallError>;
 
     /// Writes as many of the bytes as fit on a stream: how many.
     ///
@@ -144,10 +133,7 @@ pub trait Calls: Drop {
     /// - [`CallError::Invalid`]: an ID of 2^62 or above.
     /// - [`CallError::Blocked`], [`CallError::Stopped`], [`CallError::ClosedStream`],
     ///   [`CallError::Memory`]: as `WriteError` says.
-    final fn write(&mut self, id: u64, data: &[u8]) -> Result<usize, CallError> {
-        let id = stream_of(id)?;
-        Ok(self.send_stream(id).write(data)?)
-    }
+    fn write(&mut self, id: u64, data: &[u8]) -> Result<usize, CallError>;
 
     /// Writes several buffers, one behind the other, until one doesn't fit whole: how many bytes.
     ///
@@ -166,10 +152,7 @@ pub trait Calls: Drop {
     /// - [`CallError::Invalid`]: an ID of 2^62 or above.
     /// - [`CallError::Stopped`], [`CallError::ClosedStream`], [`CallError::Memory`]: as
     ///   `FinishError` says.
-    final fn finish(&mut self, id: u64) -> Result<(), CallError> {
-        let id = stream_of(id)?;
-        Ok(self.send_stream(id).finish()?)
-    }
+    fn finish(&mut self, id: u64) -> Result<(), CallError>;
 
     /// Resets a stream with a code.
     ///
@@ -177,11 +160,7 @@ pub trait Calls: Drop {
     ///
     /// - [`CallError::Invalid`]: an ID or a code of 2^62 or above.
     /// - [`CallError::ClosedStream`], [`CallError::Memory`]: as `UpdateError` says.
-    final fn reset(&mut self, id: u64, code: u64) -> Result<(), CallError> {
-        let id = stream_of(id)?;
-        let code = VarInt::from_u64(code)?;
-        Ok(self.send_stream(id).reset(code)?)
-    }
+    fn reset(&mut self, id: u64, code: u64) -> Result<(), CallError>;
 
     /// Asks the peer to send no more on a stream, with a code.
     ///
@@ -189,11 +168,7 @@ pub trait Calls: Drop {
     ///
     /// - [`CallError::Invalid`]: an ID or a code of 2^62 or above.
     /// - [`CallError::ClosedStream`], [`CallError::Memory`]: as `UpdateError` says.
-    final fn stop(&mut self, id: u64, code: u64) -> Result<(), CallError> {
-        let id = stream_of(id)?;
-        let code = VarInt::from_u64(code)?;
-        Ok(self.recv_stream(id).stop(code)?)
-    }
+    fn stop(&mut self, id: u64, code: u64) -> Result<(), CallError>;
 
     /// Sets the priority of a stream.
     ///
@@ -201,10 +176,7 @@ pub trait Calls: Drop {
     ///
     /// - [`CallError::Invalid`]: an ID of 2^62 or above.
     /// - [`CallError::ClosedStream`], [`CallError::Memory`]: as `UpdateError` says.
-    final fn set_priority(&mut self, id: u64, priority: i32) -> Result<(), CallError> {
-        let id = stream_of(id)?;
-        Ok(self.send_stream(id).set_priority(priority)?)
-    }
+    fn set_priority(&mut self, id: u64, priority: i32) -> Result<(), CallError>;
 
     /// Reads bytes of a stream, in order or not, to the front of a room: where they stand, how many
     /// they are, and whether the stream ends behind them.

@@ -43,10 +43,9 @@ use quic_congestion::{Controller, ControllerFactory};
 use quic_connection_parts::Config;
 use quic_connection_parts::closing::Closing;
 use quic_connection_parts::idle::negotiate_max_idle_timeout;
-use quic_connection_parts::ids::{Ids, OWN_ID_LENGTH};
+use quic_connection_parts::ids::Ids;
 use quic_connection_parts::making::{
-    are_keys_short, are_sizes_wrong, first_filter, first_path, first_streams, is_sample_wrong,
-    told_ack_delay,
+    first_filter, first_path, first_streams, refusal, told_ack_delay,
 };
 use quic_connection_parts::receiving::AckDemand;
 use quic_machine::{ConfigError, Instant, LostReason, State, TransportConfig};
@@ -55,6 +54,7 @@ use quic_packet::crypto::{HeaderKey, Keys, PacketKey};
 use quic_parameters::TransportParameters;
 use quic_paths::{Address, PathData, PathResponses};
 use quic_recovery_core::AckFrequencyState;
+use quic_send_buffer::StreamMeta;
 use quic_spaces::{PacketNumberFilter, PacketSpace, ack_due};
 use quic_stats::ConnectionStats;
 use quic_streams_handles::{EndStreams, RecvStream, SendStream, Streams};
@@ -116,6 +116,8 @@ pub struct Connection<H, K, R, C: Controller> {
     stats: ConnectionStats,
     keys: Keys<H, K>,
     random: R,
+    // Memory that is kept for the STREAM frames of the next packets. Contracts don't see it.
+    spare_frames: Vec<Vec<StreamMeta>>,
     alloc: Global,
 }
 
@@ -257,40 +259,18 @@ impl<H: HeaderKey + Drop, K: PacketKey + Drop, R: Rng + Drop, C: Controller> Con
             drop(random);
             return Err(ConfigError::Parameters);
         };
-        if own_id.as_slice().len() != OWN_ID_LENGTH || peer_id.as_slice().is_empty() {
-            drop(keys);
-            drop(random);
-            return Err(ConfigError::IdLength);
-        }
         let transport = config.transport();
-        if are_sizes_wrong(&transport, &theirs) {
-            drop(keys);
-            drop(random);
-            return Err(ConfigError::Size);
-        }
         // The proof reads between which sizes the search stays.
+        let _first = transport.get_initial_mtu();
         let _least = transport.get_min_mtu();
         let _search = transport.get_mtu_discovery_config();
         let mut path = first_path(remote, now, &transport, config.factory(), &theirs);
         let window = path.congestion.window();
-        let mtu = transport.get_initial_mtu();
-        if window < 2 * u64::from(mtu) {
+        if let Some(error) = refusal(&transport, window, &keys, &theirs, own_id, peer_id) {
             drop(path);
             drop(keys);
             drop(random);
-            return Err(ConfigError::Window);
-        }
-        if are_keys_short(&keys) {
-            drop(path);
-            drop(keys);
-            drop(random);
-            return Err(ConfigError::KeyLimit);
-        }
-        if is_sample_wrong(&transport) {
-            drop(path);
-            drop(keys);
-            drop(random);
-            return Err(ConfigError::FirstSample);
+            return Err(error);
         }
         path.validated = validated;
         let mut random = random;
@@ -338,6 +318,7 @@ impl<H: HeaderKey + Drop, K: PacketKey + Drop, R: Rng + Drop, C: Controller> Con
             stats: ConnectionStats::default(),
             keys,
             random,
+            spare_frames: Vec::new(alloc),
             alloc,
         };
         Ok(connection.validating())

@@ -61,16 +61,20 @@ fn on_streams_acked(streams: &mut EndStreams, frames: &[StreamMeta]) -> Result<(
 }
 
 /// What a packet carried of streams is acknowledged: the bytes, ends and resets that it carried
-/// never go again.
+/// never go again. The list of its STREAM frames is given back, for its memory.
 ///
 /// # Errors
 ///
 /// - [`AllocError`]: an allocation fails. The streams are of no more use then.
-pub fn on_carried_acked(streams: &mut EndStreams, packet: SentPacket) -> Result<(), AllocError>
+pub fn on_carried_acked(
+    streams: &mut EndStreams,
+    packet: SentPacket,
+) -> Result<Vec<StreamMeta>, AllocError>
     ensures { OnOk result (streams_of streams.new.state streams.new.pending ≡ with_carried_acked packet.carried (streams_of streams.old.state streams.old.pending)) }
 {
     on_kept_acked(streams, packet.retransmits);
-    on_streams_acked(streams, packet.stream_frames.as_slice())
+    on_streams_acked(streams, packet.stream_frames.as_slice())?;
+    Ok(packet.stream_frames)
 }
 
 /// The STREAM frames of a packet are lost: what they carried goes again. An error is want of

@@ -105,6 +105,10 @@ impl Closing {
         ensures answer { result ≡ loss_to_tell self.old }
         ensures next { self.new ≡ after_told (loss_to_tell self.old) self.old }
     {
+        // Mostly there is none, and nothing is moved.
+        if self.untold.is_none() {
+            return None;
+        }
         self.untold.take()
     }
 

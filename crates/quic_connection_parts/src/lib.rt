@@ -20,6 +20,7 @@ pub mod polling;
 pub mod receiving;
 pub mod searching;
 pub mod sent;
+pub mod spare;
 pub mod statistics;
 pub mod stream_frames;
 pub mod telling;

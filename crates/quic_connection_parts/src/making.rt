@@ -1,17 +1,19 @@
 //! What an end is made of, and when it can't be.
-ghost use Rattle.std.specs.Prelude.{◌≡◌, ◌*◌, true, None};
+ghost use Rattle.std.specs.Prelude.{◌≡◌, ◌*◌, true, None, Ok};
 ghost use Rattle.quic_parameters.specs.Parameters.{AreInRange};
+ghost use Rattle.quic_parameters.specs.declared.transport_parameters.error.TransportParametersError.{TransportParametersError};
 ghost use Rattle.quic_config.specs.Transport.{Settings, transport_of, first_mtu};
-ghost use Rattle.quic_machine.specs.End.{limits_of, first_streams, are_sizes_wrong, are_keys_short, is_sample_wrong, is_time_wrong};
+ghost use Rattle.quic_machine.specs.End.{limits_of, refusal_of, first_streams, are_sizes_wrong, are_keys_short, is_sample_wrong, is_time_wrong};
 ghost use Rattle.quic_spaces.specs.Filter.{first_filter};
 ghost use Rattle.quic_connection_parts.specs.Drawn.{words_of, after_words};
 ghost use Rattle.quic_connection_parts.specs.Telling.{path_limited};
 ghost use Rattle.quic_paths.specs.Paths.{new_path};
 ghost use Rattle.quic_retransmits.specs.Retransmits.{nothing_waits};
 
+use crate::ids::OWN_ID_LENGTH;
 use quic_config::{MAX_FIRST_SAMPLE_NANOS, MAX_UDP_PAYLOAD};
 use quic_congestion::{Controller, ControllerFactory};
-use quic_machine::{Instant, TransportConfig};
+use quic_machine::{ConfigError, Instant, TransportConfig};
 use quic_packet::crypto::{Keys, PacketKey};
 use quic_parameters::TransportParameters;
 use quic_paths::{Address, PathData};
@@ -20,7 +22,7 @@ use quic_spaces::PacketNumberFilter;
 use quic_streams_handles::EndStreams;
 use quic_streams_state::StreamsState;
 use quic_time::Duration;
-use quic_wire_core::Side;
+use quic_wire_core::{ConnectionId, Side};
 use rand_core::Rng;
 use std::alloc::Global;
 
@@ -54,7 +56,7 @@ pub fn first_streams(
 
 /// Whether the sizes of datagrams can't be: more than a UDP payload may have, or more on each path
 /// than the peer takes (RFC 9000, section 18.2).
-pub fn are_sizes_wrong(transport: &TransportConfig, theirs: &TransportParameters) -> bool
+fn are_sizes_wrong(transport: &TransportConfig, theirs: &TransportParameters) -> bool
     ensures { (settings : Settings) → transport_of settings ≡ transport.now → result ≡ are_sizes_wrong settings theirs.now }
 {
     let least = transport.get_min_mtu();
@@ -103,7 +105,7 @@ const LEAST_KEY_LIMIT: u64 = 16;
 
 /// Whether the keys of an end last too short: the own one may seal fewer packets than any does, or
 /// the peer's may refuse fewer.
-pub fn are_keys_short<H, K: PacketKey>(keys: &Keys<H, K>) -> bool
+fn are_keys_short<H, K: PacketKey>(keys: &Keys<H, K>) -> bool
     ensures { result ≡ are_keys_short (limits_of K.seal_limit K.refusal_limit keys.now) }
 {
     keys.packet.local.confidentiality_limit() < LEAST_KEY_LIMIT
@@ -119,11 +121,41 @@ fn is_time_wrong(time: Duration) -> bool
 }
 
 /// Whether the first sample can't be, where one is told.
-pub fn is_sample_wrong(transport: &TransportConfig) -> bool
+fn is_sample_wrong(transport: &TransportConfig) -> bool
     ensures { result ≡ is_sample_wrong transport.now.first_sample }
 {
     match transport.get_first_sample() {
         Some(sample) => is_time_wrong(sample.rtt) || is_time_wrong(sample.variation),
         None => false,
     }
+}
+
+/// Why no end is made with this configuration and these keys, if none is, for a peer that told
+/// this, where the congestion controller begins with this window: the first reason there is.
+pub fn refusal<H, K: PacketKey>(
+    transport: &TransportConfig,
+    window: u64,
+    keys: &Keys<H, K>,
+    theirs: &TransportParameters,
+    own_id: ConnectionId,
+    peer_id: ConnectionId,
+) -> Option<ConfigError>
+    ensures { (settings : Settings) → transport_of settings ≡ transport.now → result ≡ refusal_of {E = TransportParametersError} settings window (limits_of K.seal_limit K.refusal_limit keys.now) (Ok theirs.now) own_id peer_id }
+{
+    if own_id.as_slice().len() != OWN_ID_LENGTH || peer_id.as_slice().is_empty() {
+        return Some(ConfigError::IdLength);
+    }
+    if are_sizes_wrong(transport, theirs) {
+        return Some(ConfigError::Size);
+    }
+    if window < 2 * u64::from(transport.get_initial_mtu()) {
+        return Some(ConfigError::Window);
+    }
+    if are_keys_short(keys) {
+        return Some(ConfigError::KeyLimit);
+    }
+    if is_sample_wrong(transport) {
+        return Some(ConfigError::FirstSample);
+    }
+    None
 }

@@ -1,6 +1,6 @@
 //! What stands in a packet: messages, frames about streams, PING, IMMEDIATE_ACK, ACK_FREQUENCY
 //! and PADDING.
-ghost use Rattle.std.specs.Prelude.{◌≡◌, ◌+◌, ◌-◌, ◌<◌, ◌≤◌, ◌^◌, ◌++◌, replicate, take, IfOk, OnOk, vec_len, vec_capacity, max};
+ghost use Rattle.std.specs.Prelude.{◌≡◌, ◌+◌, ◌-◌, ◌<◌, ◌≤◌, ◌^◌, ◌++◌, [], replicate, take, IfOk, OnOk, vec_len, vec_capacity, max};
 ghost use Rattle.quic_wire.specs.Value.{ping, immediate_ack, ack_frequency};
 ghost use Rattle.quic_wire.specs.FrameView.{ack_frequency_view};
 ghost use Rattle.quic_wire.specs.Writing.{spelling, spelled_all, frame_size, Fits};
@@ -14,6 +14,7 @@ use crate::sent::{Carried, kept_request};
 use crate::statistics::{count_frames, count_streams};
 use quic_messages::DatagramState;
 use quic_retransmits::{Retransmits, ThinRetransmits};
+use quic_send_buffer::StreamMeta;
 use quic_stats::FrameStats;
 use quic_streams_handles::EndStreams;
 use quic_wire::frame::{Ack, AckFrequency, Frame, Stream, put_frame};
@@ -23,7 +24,8 @@ use std::alloc::{AllocError, Global};
 /// Appends messages and frames about streams behind the frames of a packet whose payload begins at
 /// `body` and may have `most` bytes, for which there is room: frames of control, DATAGRAM frames
 /// behind them, and STREAM frames behind these. This answers what they carry, with ACK_FREQUENCY
-/// where `requests` says that it went before them.
+/// where `requests` says that it went before them; the list of STREAM frames is `stream_frames`,
+/// which is empty.
 ///
 /// # Errors
 ///
@@ -38,8 +40,10 @@ pub fn put_content(
     requests: bool,
     body: usize,
     most: usize,
+    mut stream_frames: Vec<StreamMeta>,
     out: &mut Vec<u8>,
 ) -> Result<Carried, AllocError>
+    requires unused { stream_frames.items ≡ [] }
     requires body { body ≤ vec_len out.old }
     requires within { vec_len out.old ≤ body + most }
     requires room { body + most ≤ vec_capacity out.old }
@@ -55,7 +59,6 @@ pub fn put_content(
 {
     let retransmits = put_control_frames(streams, stats, alloc, requests, body, most, out)?;
     put_messages(datagrams, stats, body, most, out);
-    let mut stream_frames = Vec::new(alloc);
     streams
         .state
         .write_stream_frames(out, body + most, fair, &mut stream_frames)?;

@@ -63,9 +63,14 @@ fn parameters(alloc: Global, side: Side) -> Result<Vec<u8>> {
     Ok(list)
 }
 
+/// An end on the heap, since one is great. An error is want of memory.
+fn boxed(alloc: Global, end: End) -> Result<Box<End>, AllocError> {
+    Ok(Box::new(alloc, end)?)
+}
+
 /// An end, as a handshake leaves it at moment 0: ids and parameters are exchanged, both ends have
-/// the keys, and the peer's address is validated. Its application has these bytes to write.
-fn make(alloc: Global, side: Side, unwritten: &'static [u8]) -> Result<Box<Party>> {
+/// the keys, and the peer's address is validated.
+fn make_end(alloc: Global, side: Side) -> Result<Box<End>> {
     let told = parameters(alloc, !side)?;
     let making = Making {
         config: config(),
@@ -78,18 +83,17 @@ fn make(alloc: Global, side: Side, unwritten: &'static [u8]) -> Result<Box<Party
         validated: true,
     };
     let end = making.connection(alloc, side, Instant::from_nanos(0), &told, first_id(!side))?;
-    let party = Party {
-        side,
-        end,
-        sent: VecDeque::new(alloc),
-        unwritten,
-    };
-    Ok(boxed(alloc, party)?)
+    Ok(boxed(alloc, end)?)
 }
 
-/// It lies on the heap, since an end is great.
-fn boxed(alloc: Global, party: Party) -> Result<Box<Party>, AllocError> {
-    Ok(Box::new(alloc, party)?)
+/// An end whose application has these bytes to write.
+fn make(alloc: Global, side: Side, unwritten: &'static [u8]) -> Result<Party> {
+    Ok(Party {
+        side,
+        end: make_end(alloc, side)?,
+        sent: VecDeque::new(alloc),
+        unwritten,
+    })
 }
 
 /// Lets the client ask, the server answer and the client close, until no datagram is under way and
@@ -126,5 +130,5 @@ fn main(rt: HostRuntime) -> Result<()> {
     let answer = b"42, but what was the question, once more?";
     let mut client = make(rt.alloc(), Side::Client, b"What is the answer?")?;
     let mut server = make(rt.alloc(), Side::Server, answer)?;
-    talk(&rt, client.as_mut(), server.as_mut())
+    talk(&rt, &mut client, &mut server)
 }

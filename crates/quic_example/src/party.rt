@@ -23,7 +23,7 @@ pub(crate) struct Flight {
 #[derive(Drop)]
 pub(crate) struct Party {
     pub(crate) side: Side,
-    pub(crate) end: End,
+    pub(crate) end: Box<End>,
     pub(crate) sent: VecDeque<Flight>,
     pub(crate) unwritten: &'static [u8],
 }

@@ -1,7 +1,7 @@
 -- That the handshake is done (RFC 9001, section 4.1.2): a server's application says so, and its
 -- peer is told by HANDSHAKE_DONE, which goes until it is acknowledged (RFC 9000, sections 13.3 and
 -- 19.20). Of the handshake itself nothing is said here.
-use Rattle.std.specs.Prelude.{◌≡◌, Bool, true, false, Result, Ok, Err}
+use Rattle.std.specs.Prelude.{Bool, true, false, Result, Ok, Err}
 use Rattle.quic_wire_core.specs.declared.stream_id.Side.{Side}
 use Rattle.quic_wire_core.specs.declared.stream_id.Side.TheVariants.{Client, Server}
 use Rattle.quic_machine.specs.declared.answers.HandshakeDoneError.{HandshakeDoneError}

@@ -1,6 +1,6 @@
 -- Connection ids at an end (RFC 9000, section 5.1): what frames about them leave, what is drawn
 -- behind a packet, and the change to another id of the peer.
-use Rattle.std.specs.Prelude.{◌≡◌, ◌⊎◌, ℕ, Bool, true, false, nat_lt, ◌&&◌, if◌then◌else◌, List, [], ◌∷◌, ◌++◌, length, Option, Some, None, Result, Ok, Err}
+use Rattle.std.specs.Prelude.{◌≡◌, ◌⊎◌, ℕ, Bool, true, false, nat_lt, ◌&&◌, if◌then◌else◌, [], ◌∷◌, ◌++◌, length, Option, Some, None, Result, Ok, Err}
 use Rattle.std.specs.declared.ops.Range.{Range}
 use Rattle.quic_wire.specs.Value.{NewConnectionIdValue}
 use Rattle.quic_retransmits.specs.Retransmits.{after_retire, can_retire, most_retirements}
@@ -10,7 +10,7 @@ use Rattle.quic_machine.specs.declared.answers.NextIdError.{NextIdError}
 use Rattle.quic_machine.specs.declared.answers.NextIdError.TheVariants as next_errors
 use Rattle.quic_machine.specs.declared.run.Answer.{Answer}
 use Rattle.quic_machine.specs.declared.run.Answer.TheVariants as answers
-use Rattle.quic_machine.specs.Ids.{Ids, Drawing, destination, words_behind, undrawn_id, retired, may_issue, issued_one, drawn_places, ids_drawn, routes_told, frame_of, taken_up, retires_for_next, next_used}
+use Rattle.quic_machine.specs.Ids.{Drawing, destination, words_behind, undrawn_id, retired, may_issue, issued_one, drawn_places, ids_drawn, routes_told, frame_of, taken_up, retires_for_next, next_used}
 use Rattle.quic_machine.specs.End.{End, with_ids, with_frames, words_drawn}
 use Rattle.quic_machine.specs.Sizes.{shortened}
 

@@ -1,6 +1,6 @@
 -- Connection ids (RFC 9000, section 5.1): the own ones that live, and those of the peer that are
 -- known.
-use Rattle.std.specs.Prelude.{◌≡◌, ℕ, ◌+◌, ◌-◌, ◌^◌, Bool, true, false, ◌&&◌, ◌||◌, ◌==◌, not, nat_lt, min, if◌then◌else◌, List, [], ◌∷◌, ◌++◌, map, filter, length, replicate, set, slice_get, Option, Some, None, option_map, Result, Ok, Err}
+use Rattle.std.specs.Prelude.{ℕ, ◌+◌, ◌-◌, ◌^◌, Bool, true, false, ◌&&◌, ◌||◌, ◌==◌, not, nat_lt, min, if◌then◌else◌, List, [], ◌∷◌, ◌++◌, map, filter, replicate, set, slice_get, Option, Some, None, option_map, Result, Ok, Err}
 use Rattle.std.specs.Int.{w64, to_be_bytes}
 use Rattle.std.specs.List.{range_with_len, list_any}
 use Rattle.std.specs.declared.ops.Range.{Range}

@@ -1,7 +1,7 @@
 //! The application of the client, which asks.
 
-use crate::endpoint::{Application, Reading, millis, read};
-use crate::{Endpoint, answer, messages};
+use crate::endpoint::{Application, Calls, Reading, millis, read};
+use crate::{answer, messages};
 use anyhow::{Result, bail};
 use quic_connection::{
     Bytes, Dir, Event, Instant, LostReason, Side, StreamEvent, StreamId, UpdateError, VarInt,
@@ -41,7 +41,7 @@ impl Client {
     pub(crate) fn begin(
         &mut self,
         rt: &(impl Print + AllocGlobal),
-        endpoint: &mut Endpoint,
+        endpoint: &mut impl Calls,
     ) -> Result<()> {
         self.ask_all(rt, endpoint, Instant::from_nanos(0))
     }
@@ -51,7 +51,7 @@ impl Client {
     fn ask_all(
         &mut self,
         rt: &(impl Print + AllocGlobal),
-        endpoint: &mut Endpoint,
+        endpoint: &mut impl Calls,
         now: Instant,
     ) -> Result<()> {
         for _ in self.made..REQUESTS {
@@ -70,7 +70,7 @@ impl Client {
     fn read(
         &mut self,
         rt: &(impl Print + AllocGlobal),
-        endpoint: &mut Endpoint,
+        endpoint: &mut impl Calls,
         now: Instant,
         id: StreamId,
     ) -> Result<()> {
@@ -99,7 +99,7 @@ impl Client {
     }
 
     /// One request more is done: a message for every fifth, and a close behind the last.
-    fn on_done(&mut self, endpoint: &mut Endpoint, now: Instant) -> Result<()> {
+    fn on_done(&mut self, endpoint: &mut impl Calls, now: Instant) -> Result<()> {
         self.done = self.done.saturating_add(1);
         if self.done.is_multiple_of(5) {
             messages::send(endpoint, b"five more are done")?;
@@ -116,7 +116,7 @@ impl Application for Client {
     fn on_event(
         &mut self,
         rt: &(impl Print + AllocGlobal),
-        endpoint: &mut Endpoint,
+        endpoint: &mut impl Calls,
         now: Instant,
         event: &Event,
     ) -> Result<()> {
@@ -146,7 +146,7 @@ fn wanted(index: u64) -> usize {
 }
 
 /// Writes a request on a new stream, which the windows hold.
-fn ask(alloc: Global, endpoint: &mut Endpoint, id: StreamId) -> Result<()> {
+fn ask(alloc: Global, endpoint: &mut impl Calls, id: StreamId) -> Result<()> {
     let request = format!(in alloc; "{}", wanted(id.index()))?;
     let mut stream = endpoint.send_stream(id);
     if stream.write(request.as_bytes())? < request.len() {
@@ -169,7 +169,7 @@ fn check(alloc: Global, index: u64, answer: &[u8]) -> Result<()> {
 }
 
 /// Stops an answer: nothing more of it is read, and no event tells of it.
-fn stop(endpoint: &mut Endpoint, id: StreamId) -> Result<()> {
+fn stop(endpoint: &mut impl Calls, id: StreamId) -> Result<()> {
     match endpoint.recv_stream(id).stop(VarInt::from_u32(2)) {
         Ok(()) | Err(UpdateError::ClosedStream) => Ok(()),
         Err(error) => Err(error.into()),

@@ -3,8 +3,53 @@
 use crate::network::Lane;
 use crate::{Endpoint, MANY, PEER};
 use anyhow::{Result, bail};
-use quic_connection::{Chunks, Event, Instant, ReadError, ReadableError, Received, StreamId};
+use quic_connection::{
+    Bytes, Chunks, Connection, Datagrams, Event, Instant, ReadError, ReadableError, Received,
+    RecvStream, SendStream, StreamId, Streams, VarInt,
+};
 use std::alloc::Global;
+
+/// What an application may ask of its endpoint. Its calls are those of a connection: an application
+/// names neither the keys of one nor its congestion controller, and is proved without a look at
+/// what one holds.
+pub(crate) trait Calls {
+    /// All streams, by which one is opened or accepted.
+    fn streams(&mut self) -> Streams<'_>;
+
+    /// The sending half of a stream.
+    fn send_stream(&mut self, id: StreamId) -> SendStream<'_>;
+
+    /// The receiving half of a stream.
+    fn recv_stream(&mut self, id: StreamId) -> RecvStream<'_>;
+
+    /// The messages that wait, in and out.
+    fn datagrams(&mut self) -> Datagrams<'_>;
+
+    /// Closes the connection at this time, with a code and a text.
+    fn close(&mut self, now: Instant, code: VarInt, text: Bytes);
+}
+
+impl Calls for Endpoint {
+    fn streams(&mut self) -> Streams<'_> {
+        Connection::streams(self)
+    }
+
+    fn send_stream(&mut self, id: StreamId) -> SendStream<'_> {
+        Connection::send_stream(self, id)
+    }
+
+    fn recv_stream(&mut self, id: StreamId) -> RecvStream<'_> {
+        Connection::recv_stream(self, id)
+    }
+
+    fn datagrams(&mut self) -> Datagrams<'_> {
+        Connection::datagrams(self)
+    }
+
+    fn close(&mut self, now: Instant, code: VarInt, text: Bytes) {
+        Connection::close(self, now, code, text);
+    }
+}
 
 /// What an application does.
 pub(crate) trait Application {
@@ -12,7 +57,7 @@ pub(crate) trait Application {
     fn on_event(
         &mut self,
         rt: &(impl Print + AllocGlobal),
-        endpoint: &mut Endpoint,
+        endpoint: &mut impl Calls,
         now: Instant,
         event: &Event,
     ) -> Result<()>;
@@ -86,7 +131,11 @@ pub(crate) enum Reading {
 }
 
 /// Reads what has come on a stream, and appends it.
-pub(crate) fn read(endpoint: &mut Endpoint, id: StreamId, bytes: &mut Vec<u8>) -> Result<Reading> {
+pub(crate) fn read(
+    endpoint: &mut impl Calls,
+    id: StreamId,
+    bytes: &mut Vec<u8>,
+) -> Result<Reading> {
     match endpoint.recv_stream(id).read(true) {
         Ok(mut chunks) => {
             let reading = take_chunks(&mut chunks, bytes)?;

@@ -12,7 +12,7 @@ mod network;
 mod server;
 
 use crate::client::Client;
-use crate::endpoint::{next_time, serve, take};
+use crate::endpoint::{Application, next_time, serve, take};
 use crate::network::Lane;
 use crate::server::Server;
 use anyhow::Result;
@@ -84,16 +84,15 @@ fn endpoints(alloc: Global) -> Result<Box<Endpoints>> {
 fn talk(
     rt: &(impl Print + AllocGlobal),
     endpoints: &mut Endpoints,
+    client: &mut impl Application,
+    server: &mut impl Application,
     up: &mut Lane,
     down: &mut Lane,
 ) -> Result<()> {
-    let mut client = Client::new(rt.alloc());
-    let mut server = Server::new(rt.alloc());
     let mut now = Instant::from_nanos(0);
-    client.begin(rt, &mut endpoints.client)?;
     for _ in 0..MANY {
-        serve(rt, &mut endpoints.client, &mut client, up, now)?;
-        serve(rt, &mut endpoints.server, &mut server, down, now)?;
+        serve(rt, &mut endpoints.client, client, up, now)?;
+        serve(rt, &mut endpoints.server, server, down, now)?;
         let client_time = next_time(&endpoints.client, down);
         let server_time = next_time(&endpoints.server, up);
         let Some(next) = [client_time, server_time].iter().copied().flatten().min() else {
@@ -107,23 +106,43 @@ fn talk(
     Ok(())
 }
 
+/// Makes all requests, and answers them.
+fn request(
+    rt: &(impl Print + AllocGlobal),
+    endpoints: &mut Endpoints,
+    up: &mut Lane,
+    down: &mut Lane,
+) -> Result<()> {
+    let mut client = Client::new(rt.alloc());
+    let mut server = Server::new(rt.alloc());
+    client.begin(rt, &mut endpoints.client)?;
+    talk(rt, endpoints, &mut client, &mut server, up, down)
+}
+
+/// Prints how many datagrams of this side a lane lost.
+fn print_losses(rt: &impl Print, side: Side, lane: &Lane) -> Result<()> {
+    println!(rt;
+        "the network lost {} of {} datagrams of the {side}",
+        lane.lost, lane.sent
+    )?;
+    Ok(())
+}
+
+/// Prints what became of both endpoints.
+fn print_states(rt: &impl Print, endpoints: &Endpoints) -> Result<()> {
+    let (client, server) = (endpoints.client.state(), endpoints.server.state());
+    println!(rt; "the client is {client}, the server is {server}")?;
+    Ok(())
+}
+
 fn main(rt: HostRuntime) -> Result<()> {
     println!(rt; "the keys of this program hide nothing")?;
     let mut endpoints = endpoints(rt.alloc())?;
     // Of what the client sends every fifth datagram is lost, of what the server sends every fourth.
     let mut up = Lane::new(rt.alloc(), 5);
     let mut down = Lane::new(rt.alloc(), 4);
-    talk(&rt, endpoints.as_mut(), &mut up, &mut down)?;
-    println!(rt;
-        "the network lost {} of {} datagrams of the client",
-        up.lost, up.sent
-    )?;
-    println!(rt;
-        "the network lost {} of {} datagrams of the server",
-        down.lost, down.sent
-    )?;
-    let ends = endpoints.as_ref();
-    let (client, server) = (ends.client.state(), ends.server.state());
-    println!(rt; "the client is {client}, the server is {server}")?;
-    Ok(())
+    request(&rt, endpoints.as_mut(), &mut up, &mut down)?;
+    print_losses(&rt, Side::Client, &up)?;
+    print_losses(&rt, Side::Server, &down)?;
+    print_states(&rt, endpoints.as_ref())
 }

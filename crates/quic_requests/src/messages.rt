@@ -1,12 +1,12 @@
 //! Messages, which may be lost and aren't sent again (RFC 9221).
 
-use crate::endpoint::millis;
-use crate::{Endpoint, MANY};
+use crate::MANY;
+use crate::endpoint::{Calls, millis};
 use anyhow::Result;
 use quic_connection::{Bytes, Instant, Side};
 
 /// Queues a message. Where there is no room for it, older ones go for it.
-pub(crate) fn send(endpoint: &mut Endpoint, text: &'static [u8]) -> Result<()> {
+pub(crate) fn send(endpoint: &mut impl Calls, text: &'static [u8]) -> Result<()> {
     Ok(endpoint.datagrams().send(Bytes::from_static(text), true)?)
 }
 
@@ -14,7 +14,7 @@ pub(crate) fn send(endpoint: &mut Endpoint, text: &'static [u8]) -> Result<()> {
 pub(crate) fn receive(
     rt: &impl Print,
     side: Side,
-    endpoint: &mut Endpoint,
+    endpoint: &mut impl Calls,
     now: Instant,
 ) -> Result<()> {
     for _ in 0..MANY {

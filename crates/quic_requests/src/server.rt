@@ -1,7 +1,7 @@
 //! The application of the server, which answers.
 
-use crate::endpoint::{Application, Reading, millis, read};
-use crate::{Endpoint, MANY, answer, messages};
+use crate::endpoint::{Application, Calls, Reading, millis, read};
+use crate::{MANY, answer, messages};
 use anyhow::{Result, bail};
 use quic_connection::{
     Dir, Event, FinishError, Instant, LostReason, SendStream, Side, StreamEvent, StreamId,
@@ -40,7 +40,7 @@ impl Server {
     fn accept_all(
         &mut self,
         rt: &(impl Print + AllocGlobal),
-        endpoint: &mut Endpoint,
+        endpoint: &mut impl Calls,
         now: Instant,
     ) -> Result<()> {
         for _ in 0..MANY {
@@ -62,7 +62,7 @@ impl Server {
     fn read(
         &mut self,
         rt: &(impl Print + AllocGlobal),
-        endpoint: &mut Endpoint,
+        endpoint: &mut impl Calls,
         now: Instant,
         id: StreamId,
     ) -> Result<()> {
@@ -84,7 +84,7 @@ impl Server {
     }
 
     /// Writes what is left of an answer, as far as limits let it, and finishes it.
-    fn write(&mut self, endpoint: &mut Endpoint, id: StreamId) -> Result<()> {
+    fn write(&mut self, endpoint: &mut impl Calls, id: StreamId) -> Result<()> {
         let Some(task) = self.tasks.get_mut(&id.index()) else {
             return Ok(());
         };
@@ -95,7 +95,7 @@ impl Server {
     }
 
     /// Answers nothing more of a request: what is left of its answer is reset with this code.
-    fn give_up(&mut self, endpoint: &mut Endpoint, id: StreamId, code: VarInt) -> Result<()> {
+    fn give_up(&mut self, endpoint: &mut impl Calls, id: StreamId, code: VarInt) -> Result<()> {
         self.tasks.remove(&id.index());
         match endpoint.send_stream(id).reset(code) {
             // All of it may have arrived before.
@@ -105,7 +105,7 @@ impl Server {
     }
 
     /// The client has an answer: a message for every fifth.
-    fn on_answered(&mut self, endpoint: &mut Endpoint) -> Result<()> {
+    fn on_answered(&mut self, endpoint: &mut impl Calls) -> Result<()> {
         self.answered = self.answered.saturating_add(1);
         if self.answered.is_multiple_of(5) {
             messages::send(endpoint, b"five more have arrived")?;
@@ -118,7 +118,7 @@ impl Application for Server {
     fn on_event(
         &mut self,
         rt: &(impl Print + AllocGlobal),
-        endpoint: &mut Endpoint,
+        endpoint: &mut impl Calls,
         now: Instant,
         event: &Event,
     ) -> Result<()> {
@@ -153,7 +153,7 @@ impl Application for Server {
 /// Writes what is left of an answer: whether it is finished. Where a limit leaves no room,
 /// `StreamEvent::Writable` tells when to write on; behind a write that took a part nothing does, so
 /// the rest is written at once.
-fn write_rest(endpoint: &mut Endpoint, id: StreamId, task: &mut Task) -> Result<bool> {
+fn write_rest(endpoint: &mut impl Calls, id: StreamId, task: &mut Task) -> Result<bool> {
     let mut stream = endpoint.send_stream(id);
     for _ in 0..MANY {
         let rest = task.answer.get(task.written..).unwrap_or(&[]);

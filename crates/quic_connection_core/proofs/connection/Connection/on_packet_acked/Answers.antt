@@ -11,7 +11,7 @@ returns-clause-ok g c =
     let now = c.args.self.now in
     let known = c.forget_known.new.self in
     let streams = c.on_carried_acked.new.streams in
-    let acked = c.in_ok-on_carried_acked.ensures ∙ ap (λ w. with_carried_acked c.args.packet.carried (streams_at w.end)) c.self.view_is in
+    let acked = c.in_ok-frames.ensures ∙ ap (λ w. with_carried_acked c.args.packet.carried (streams_at w.end)) c.self.view_is in
     ap (λ w. with_end w (with_streams w.end (streams_of streams.state streams.pending))) c.self.view_is
     ∙ ap (λ t. with_end known (with_streams known.end t)) acked
     ∙ ap (λ w. with_end w (with_streams w.end (with_carried_acked c.args.packet.carried (streams_at w.end)))) (c.forget_known.ensures ∙ ap (λ p. with_end now (without_known p.carried.largest_acked now.end)) c.packet.view_is)

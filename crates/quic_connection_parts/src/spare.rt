@@ -1,0 +1,31 @@
+//! Memory of lists that is kept for the next ones, so that not each takes its own.
+ghost use Rattle.std.specs.Prelude.{◌≡◌, []};
+
+use std::alloc::Global;
+
+/// How many places a list has at most whose memory is kept.
+const MOST_PLACES: usize = 16;
+
+/// How many lists are kept at most.
+const MOST_LISTS: usize = 32;
+
+/// An empty list, in memory that was kept, if some was.
+pub fn spare_list<T: Drop>(spare: &mut Vec<Vec<T>>, alloc: Global) -> Vec<T>
+    ensures { result.items ≡ [] }
+{
+    let Some(mut list) = spare.pop() else {
+        return Vec::new(alloc);
+    };
+    list.clear();
+    list
+}
+
+/// Keeps the memory of a list, unless it has none or much, or enough is kept.
+pub fn keep_list<T: Drop>(spare: &mut Vec<Vec<T>>, list: Vec<T>) {
+    let places = list.capacity();
+    if places == 0 || places > MOST_PLACES || spare.len() >= MOST_LISTS {
+        return;
+    }
+    // Where there is no room for it either, it goes.
+    let _ = spare.push(list);
+}
