@@ -10,3 +10,4 @@ pub mod Opens
 pub mod NewIds
 pub mod Clause
 pub mod PeerLimits
+pub mod Opening

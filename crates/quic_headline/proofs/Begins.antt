@@ -5,6 +5,8 @@ pub mod OnStreams
 pub mod Walk
 pub mod Apart
 pub mod Moved
+pub mod Untold
+pub mod Far
 pub mod Flights
 pub mod Gone
 pub mod Acks

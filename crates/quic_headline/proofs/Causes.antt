@@ -9,6 +9,7 @@ pub mod Crowded
 pub mod Shown
 pub mod Judged
 pub mod Refused
+pub mod Handed
 pub mod Pieces
 pub mod Blameless
 pub mod Reasons
@@ -24,3 +25,5 @@ pub mod Owed
 pub mod Said
 pub mod Unfailed
 pub mod Taken
+pub mod Shut
+pub mod Refusals

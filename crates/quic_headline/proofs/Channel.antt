@@ -5,6 +5,7 @@ pub mod Counted
 pub mod Openers
 pub mod Given
 pub mod Stops
+pub mod Stopping
 pub mod Names
 pub mod Counts
 pub mod Messages
@@ -26,3 +27,5 @@ pub mod Assembled
 pub mod Passed
 pub mod Within
 pub mod Clauses
+pub mod Codes
+pub mod Unreset

@@ -1,6 +1,7 @@
 pub mod Sole
 pub mod Issues
 pub mod Own
+pub mod Numbered
 pub mod Known
 pub mod Used
 pub mod Issued

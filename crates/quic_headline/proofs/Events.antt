@@ -5,3 +5,5 @@ pub mod Openings
 pub mod Readables
 pub mod Again
 pub mod Writables
+pub mod Lost
+pub mod Available

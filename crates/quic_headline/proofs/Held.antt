@@ -8,3 +8,5 @@ pub mod Messages
 pub mod Clause
 pub mod Limited
 pub mod Threefold
+pub mod Control
+pub mod Limits

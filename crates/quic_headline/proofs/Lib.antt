@@ -31,5 +31,6 @@ pub mod NextIds
 pub mod Validated
 pub mod Alone
 pub mod Requests
+pub mod Responses
 pub mod Moves
 pub mod Confirmed

@@ -33,6 +33,7 @@ pub mod Searches
 pub mod Sizes
 pub mod Numbered
 pub mod Waited
+pub mod RoundTrip
 pub mod Flying
 pub mod Closes
 pub mod Bare
@@ -50,5 +51,7 @@ pub mod Widths
 pub mod Group
 pub mod Sight
 pub mod Acked
+pub mod Flew
 pub mod Referring
 pub mod References
+pub mod LeftOut

@@ -13,3 +13,4 @@ pub mod Newest
 pub mod Together
 pub mod Everything
 pub mod Theorems
+pub mod Drawn

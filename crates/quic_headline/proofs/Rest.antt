@@ -4,6 +4,8 @@ pub mod Between
 pub mod Sizes
 pub mod Quiet
 pub mod Delivered
+pub mod SizesCame
+pub mod Control
 pub mod Awaited
 pub mod Reached
 pub mod Standing

@@ -1,6 +1,7 @@
 pub mod Along
 pub mod Pings
 pub mod Left
+pub mod Tokens
 pub mod Gates
 pub mod Polls
 pub mod Clause

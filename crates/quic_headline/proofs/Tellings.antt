@@ -10,3 +10,4 @@ pub mod Hearing
 pub mod First
 pub mod Calls
 pub mod Clause
+pub mod Reno

@@ -7,6 +7,7 @@ pub mod Half
 pub mod Consumed
 pub mod Taken
 pub mod Group
+pub mod Least
 pub mod Places
 pub mod Exchange
 pub mod Resting

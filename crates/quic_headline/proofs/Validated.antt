@@ -4,3 +4,4 @@ pub mod Went
 pub mod Group
 pub mod Asking
 pub mod Clause
+pub mod Own

@@ -1,7 +1,7 @@
 -- What makes something wait at an end to go (RFC 9000, sections 2.4, 3.1, 3.5, 4.1, 4.2, 4.6,
 -- 13.2.1 and 13.3; RFC 9002, sections 6.1 and 6.2.4; RFC 9221, section 5). What waits, the end says
 -- itself; the causes are read off a run's lists.
-use Rattle.std.specs.Prelude.{ℕ, suc, ◌<◌, ◌≤◌, ◌≡◌, ◌⊎◌, ◌==◌, ◌&&◌, ◌||◌, not, nat_lt, nat_le, Bool, true, false, List, [], ◌∷◌, ◌++◌, length, Option, Some, unwrap_or, Ok, Err}
+use Rattle.std.specs.Prelude.{ℕ, suc, ◌+◌, ◌/◌, ◌<◌, ◌≤◌, ◌≡◌, ◌⊎◌, ◌==◌, ◌&&◌, ◌||◌, min, max, if◌then◌else◌, not, nat_lt, nat_le, Bool, true, false, List, [], ◌∷◌, ◌++◌, length, Option, Some, unwrap_or, Ok, Err}
 use Rattle.std.specs.List.{list_any}
 use Rattle.std.specs.Option.{is_some, is_none}
 use Rattle.quic_wire_core.specs.declared.stream_id.Side.{Side}
@@ -19,13 +19,14 @@ use Rattle.quic_machine.specs.declared.run.Call.{Call}
 use Rattle.quic_machine.specs.declared.run.Call.TheVariants as calls
 use Rattle.quic_machine.specs.declared.run.Answer.{Answer}
 use Rattle.quic_machine.specs.declared.run.Answer.TheVariants as answers
-use Rattle.quic_machine.specs.CallCases.{is_poll, is_timeout}
+use Rattle.quic_machine.specs.CallCases.{is_poll}
 use Rattle.quic_machine.specs.End.{End}
 use Rattle.quic_machine.specs.Machine.{World, end_at}
-use Rattle.quic_headline.specs.Runs.{Run, Told, Packet, In, until, state_at, AreServed, LeadsTo, written, ended_by, reset_by, says_done}
+use Rattle.quic_headline.specs.Runs.{Run, Told, Packet, In, until, state_at, AreServed, LeadsTo, written, reads, bytes_of, ended_by, reset_by, says_done}
 use Rattle.quic_headline.specs.Observer.{Sent, HoldsOffset, HoldsEnd, Watch, watch, news, loss_due, is_past, is_timely, has_changed, generation_at, sents_until}
 use Rattle.quic_headline.specs.Headline.{IsAt}
-use Rattle.quic_headline.specs.Amounts.{data_limit, stream_limit}
+use Rattle.quic_headline.specs.Amounts.{greatest_in, data_limit_in, stream_limit_in, data_limit, stream_limit}
+use Rattle.quic_headline.specs.Credit.{all_consumed}
 use Rattle.quic_headline.specs.InUse.{brought, next_of, in_use, TellsStays}
 use Rattle.quic_headline.specs.InFlight.{is_handshake_done, is_max_data, is_max_streams, is_data_blocked, is_ack_frequency}
 use Rattle.quic_headline.specs.Duties.{Limited, AllData, StreamData, StreamCount, has_reset, has_stop, limit_waits, on_half}
@@ -34,6 +35,8 @@ use Rattle.quic_headline.specs.AcksDue.{is_immediate_ack, is_due, acked_between}
 use Rattle.quic_headline.specs.Unread.{stopped_by}
 use Rattle.quic_headline.specs.Messages.{sent_by}
 use Rattle.quic_headline.specs.Requests.{Asking, asking_at, wants_anew}
+use Rattle.quic_headline.specs.Polls as polls
+use Rattle.quic_headline.specs.Expiring.{Questions, asks_anew, questions}
 use Rattle.quic_headline.specs.Waited.{count_silent, may_come, stands, is_ping, is_path_challenge, is_path_response, asks_ping, wakes, probes_in_vain, wants}
 
 -- ---- what may wait
@@ -148,8 +151,10 @@ HasGone ss q = ⊥
 -- due behind it for packets that ask, and whether one was urged by its mark since one went,
 -- when the time without a packet is over, if it is kept, how the end asks its peer to acknowledge,
 -- the number of the peer's id that it uses before the call, and whether that stays where its path
--- changes by the call; and its side, the peer's parameters, and the datagrams that it gave before
--- the call.
+-- changes by the call; how it asks before the call whether its peer receives, and whether the
+-- peer's address is seen to be validated then; and its side, the peer's parameters, how many bytes
+-- it lets come on all streams past those that were consumed, how many on a stream past those that
+-- were read, and the datagrams that it gave before the call.
 pub record Seen : Type 0 where
   pub told : List Told
   pub now : Told
@@ -162,8 +167,12 @@ pub record Seen : Type 0 where
   pub asking : Asking
   pub using : ℕ
   pub stays : Bool
+  pub questions : Questions
+  pub validated : Bool
   pub side : Side
   pub params : ParameterValues
+  pub window : ℕ
+  pub stream_window : ℕ
   pub gave : List Sent
 
 -- the packets that came by it
@@ -243,6 +252,21 @@ abbrev pub is_retirement : FrameValue → Bool
 is_retirement (retire_connection_id n) = true
 is_retirement f = false
 
+-- a number before others, unless it is one of them
+abbrev pub and_number : ℕ → List ℕ → List ℕ
+and_number n ns = if list_any (λ m. m == n) ns then ns else n ∷ ns
+
+-- the numbers of own ids that frames retire, before others, each once
+abbrev pub retired_in : List FrameValue → List ℕ → List ℕ
+retired_in [] ns = ns
+retired_in (retire_connection_id n ∷ fs) ns = and_number n (retired_in fs ns)
+retired_in (f ∷ fs) ns = retired_in fs ns
+
+-- and those that packets retire
+abbrev pub retired_numbers : List Packet → List ℕ
+retired_numbers [] = []
+retired_numbers (p ∷ ps) = retired_in p.frames (retired_numbers ps)
+
 -- whether it may retire the peer's id of a number where one is in use: it brings that one, which
 -- comes late, below the one in use (section 19.15). Where it asks for some to be retired, which no
 -- honest peer does here, it isn't said which
@@ -295,24 +319,55 @@ has_said s = stands (says_blocked (data_limit s.params s.before.intake.took)) s.
 abbrev pub has_said_on : ℕ → Seen → Bool
 has_said_on id s = stands (says_blocked_on id (stream_limit s.params s.side s.before.intake.took id)) s.gave
 
+-- whether the peer was told of an own id under a number before
+abbrev pub was_told : ℕ → Seen → Bool
+was_told number s = stands (says (NewId number)) s.gave
+
+-- below which number own ids are issued by then: as many may live as the peer takes, by its
+-- active_connection_id_limit (section 18.2), though 8 at most, a number of our own, and one more is
+-- issued for each that it retired (section 5.1.1)
+abbrev pub issued_below : Seen → ℕ
+issued_below s = min s.params.active_connection_id_limit 8 + length (retired_numbers s.behind.intake.took)
+
+-- the greatest number that frames of these datagrams say, by what each says, or 0
+abbrev pub most_said : (FrameValue → ℕ) → List Sent → ℕ
+most_said says [] = 0
+most_said says (s ∷ ss) = max (greatest_in says s.frames) (most_said says ss)
+
+-- whether a limit that lies this window past what is used up lies so far above the greatest that
+-- the peer was told, by datagrams or, as the window alone, as the connection began, that it is told
+-- anew: by an eighth of the window, or by one, if that is more (sections 4.1 and 4.2)
+abbrev pub is_far : (window used said : ℕ) → Bool
+is_far window used said = nat_le (max window said + max (window / 8) 1) (window + used)
+
+-- whether the limit on a stream does by a call: what is used up of it are the bytes that were read
+abbrev pub is_far_on : ℕ → Seen → Bool
+is_far_on id s = is_far s.stream_window (length (bytes_of (reads id (s.told ++ s.now ∷ [])))) (most_said (stream_limit_in id) s.gave)
+
+-- whether the limit on the data of all streams does: what is used up is what was consumed of all
+abbrev pub is_far_in_all : Seen → Bool
+is_far_in_all s = is_far s.window (all_consumed s.behind.intake.took (s.told ++ s.now ∷ [])) (most_said data_limit_in s.gave)
+
 -- Whether a call, or a frame that comes by it, asks for a control frame: a reset and a stop are
--- called for (RFC 9000, sections 3.1 and 3.5); MAX_DATA goes where more was used up (section 4.1),
--- MAX_STREAM_DATA where more of the stream was read, and MAX_STREAMS where a stream may be done
--- (section 4.6); and the frames that say that a limit is used up where a write is blocked, unless
--- one said that limit before (sections 19.12 and 19.13). The peer is told of an own id where it
--- retires one. An id of the peer is retired where the next one is used and its number lies below
--- that, or where it comes late. A poll asks the peer by ACK_FREQUENCY where it is to be asked anew
--- (QUIC Acknowledgement Frequency, section 4). And HANDSHAKE_DONE goes where the application says
--- that the handshake is done (section 19.20).
+-- called for (RFC 9000, sections 3.1 and 3.5); MAX_DATA goes where more was used up, and
+-- MAX_STREAM_DATA where the stream was read, and so much more that the limit lies far above what
+-- was said (sections 4.1 and 4.2), and MAX_STREAMS where a stream may be done (section 4.6); and
+-- the frames that say that a limit is used up where a write is blocked, unless one said that limit
+-- before (sections 19.12 and 19.13). The peer is told of an own id where a frame retires one, under
+-- a number that it wasn't told, below the one that `issued_below` gives. An id of the peer is
+-- retired where the next one is used and its number lies below that, or where it comes late. A poll
+-- asks the peer by ACK_FREQUENCY where it is to be asked anew (QUIC Acknowledgement Frequency,
+-- section 4). And HANDSHAKE_DONE goes where the application says that the handshake is done
+-- (section 19.20).
 abbrev pub asks_for : Seen → Control → Bool
 asks_for s (ResetOf id) = is_some (reset_by id s.now.call s.now.answer)
 asks_for s (StopOf id) = stopped_by id s.now.call s.now.answer
-asks_for s (LimitOf AllData) = uses_up s.now.call s.now.answer || brings brings_data s
-asks_for s (LimitOf (StreamData id)) = reads_on id s.now.call s.now.answer
+asks_for s (LimitOf AllData) = (uses_up s.now.call s.now.answer || brings brings_data s) && is_far_in_all s
+asks_for s (LimitOf (StreamData id)) = reads_on id s.now.call s.now.answer && is_far_on id s
 asks_for s (LimitOf (StreamCount dir)) = uses_up s.now.call s.now.answer || brings may_end s
 asks_for s Blocked = finds_blocked (λ id. true) s.now.call s.now.answer && not (has_said s)
 asks_for s (BlockedOn id) = finds_blocked (λ j. j == id) s.now.call s.now.answer && not (has_said_on id s)
-asks_for s (NewId number) = brings is_retirement s
+asks_for s (NewId number) = brings is_retirement s && (not (was_told number s) && nat_lt number (issued_below s))
 asks_for s (Retirement number) = passes_over s number || brings (retires s.using number) s
 asks_for s Request = is_poll s.now.call && wants_anew s.asking s.before.own s.before.flight
 asks_for s Done = says_done s.now.call s.now.answer
@@ -329,13 +384,14 @@ may_hasten s = s.due || (s.marked || (is_poll s.now.call && nat_lt may_come (cou
 -- over, or a probe waits in vain, by which IMMEDIATE_ACK may wait; probes wait where the timer of
 -- losses expires; a message is sent; bytes are written, or an end is told; a control frame is
 -- called for; what a datagram bore is lost; or a probe says it again. PATH_CHALLENGE waits only
--- where a moment comes, at which the timer of path validation may expire, or where the path changes
--- (section 9.3), and PATH_RESPONSE only where PATH_CHALLENGE comes (section 8.2).
+-- where the path changes (section 9.3), or the moment comes at which the end asks anew an address
+-- that isn't validated (section 8.2.4), and PATH_RESPONSE only where PATH_CHALLENGE comes (section
+-- 8.2).
 abbrev pub HasCause : Seen → Thing → Type 0
 HasCause s Ack = may_hasten s ≡ true
 HasCause s Ping = makes_ping s ≡ true
 HasCause s Immediate = fails_to_probe s ≡ true
-HasCause s Challenge = is_timeout s.now.call || has_changed s.before s.behind ≡ true
+HasCause s Challenge = asks_anew s.validated s.now s.behind s.questions ≡ true
 HasCause s Response = brings is_path_challenge s ≡ true
 HasCause s Probe = makes_probes s ≡ true
 HasCause s (Message message) = In message (sent_by s.now.call s.now.answer)
@@ -359,8 +415,12 @@ seen_at r stays side i call a = record {
   asking = asking_at r side;
   using = in_use r stays side i;
   stays = stays (generation_at r side (suc i));
+  questions = questions r side i;
+  validated = (polls.seen_at r side i).validated;
   side = side;
   params = (end_at side r.start).peer_params;
+  window = (end_at side r.start).streams.receiving.window;
+  stream_window = (end_at side r.start).streams.receiving.stream_window;
   gave = sents_until r side i;
 }
 

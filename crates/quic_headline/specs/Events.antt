@@ -1,16 +1,17 @@
 -- What an application is told of: where it asks what is told next and nothing is, nothing is left
 -- to tell, by the run's lists.
-use Rattle.std.specs.Prelude.{ℕ, ◌+◌, ◌-◌, ◌<◌, ◌≡◌, Bool, true, false, nat_lt, not, ◌==◌, ◌&&◌, ◌||◌, if◌then◌else◌, max, nat_le, List, [], ◌∷◌, ◌++◌, length, Some, None, Err}
+use Rattle.std.specs.Prelude.{ℕ, ◌+◌, ◌-◌, ◌<◌, ◌≤◌, ◌≡◌, Bool, true, false, nat_lt, not, ◌==◌, ◌&&◌, ◌||◌, if◌then◌else◌, max, nat_le, List, [], ◌∷◌, ◌++◌, length, Some, None, Err}
 use Rattle.std.specs.List.{list_any}
 use Rattle.quic_wire_core.specs.declared.stream_id.Side.{Side}
 use Rattle.quic_wire_core.specs.declared.stream_id.Dir.{Dir}
 use Rattle.quic_wire_core.specs.declared.stream_id.Dir.TheVariants.{Bi, Uni}
 use Rattle.quic_wire_core.specs.StreamId.{other_side, dir_of}
 use Rattle.quic_wire.specs.Value.{FrameValue, stream, datagram}
-use Rattle.quic_streams_parts.specs.declared.answers.StreamEvent.TheVariants.{Opened, Readable, Writable}
+use Rattle.quic_streams_parts.specs.declared.answers.StreamEvent.TheVariants.{Opened, Readable, Writable, Available}
 use Rattle.quic_streams_parts.specs.declared.answers.WriteError.TheVariants.{Blocked}
-use Rattle.quic_streams_parts.specs.Dirs.{is_own}
+use Rattle.quic_streams_parts.specs.Dirs.{of, is_own}
 use Rattle.quic_machine.specs.declared.answers.Event.TheVariants as events
+use Rattle.quic_machine.specs.declared.answers.LostReason.{LostReason}
 use Rattle.quic_machine.specs.declared.answers.State.TheVariants as states
 use Rattle.quic_machine.specs.declared.run.Call.{Call}
 use Rattle.quic_machine.specs.declared.run.Call.TheVariants as calls
@@ -18,11 +19,14 @@ use Rattle.quic_machine.specs.declared.run.Answer.{Answer}
 use Rattle.quic_machine.specs.declared.run.Answer.TheVariants as answers
 use Rattle.quic_machine.specs.Policy.{Policy}
 use Rattle.quic_machine.specs.Start.{AreStarted}
-use Rattle.quic_machine.specs.Machine.{policy_at}
+use Rattle.quic_machine.specs.Machine.{policy_at, end_at}
 use Rattle.quic_headline.specs.Runs.{Run, Told, Packet, Intake, nothing_came, and_told, folded, until, given_of, state_at, AreServed, written, ended, reset}
 use Rattle.quic_headline.specs.Observer.{news, took}
 use Rattle.quic_headline.specs.Headline.{IsAt}
 use Rattle.quic_headline.specs.Amounts.{peer_parameters, first_told, stream_limit_in, greatest, left_for}
+use Rattle.quic_headline.specs.PeerLimits.{count_in}
+use Rattle.quic_headline.specs.Polls.{seen_at}
+use Rattle.quic_headline.specs.FewEvents.{lost_in}
 use Rattle.quic_headline.specs.Ids.{WasOpened}
 use Rattle.quic_headline.specs.Credit.{was_reset, is_read_up}
 
@@ -229,3 +233,55 @@ writing r s side id i = folded (writing_told (policy_at side r.keys) (given_of r
 abbrev pub WritablesAreTold : Run → Type 0
 WritablesAreTold r = (s : AreStarted r.start) (side : Side) (i id : ℕ) → AreServed r i → IsAt r i side calls.Event (answers.Event None) → state_at r side i ≡ states.Open → ended id (until r side i) ≡ false → reset id (until r side i) ≡ None → 0 < left_for r s side i id
     → (writing r s side id i).waits ≡ false
+
+-- ---- streams that an end may open itself (RFC 9000, section 4.6)
+
+-- whether a call told that more streams of a kind may be opened
+abbrev pub tells_available : Dir → Call → Answer → Bool
+tells_available Bi calls.Event (answers.Event (Some (events.Stream (Available Bi)))) = true
+tells_available Uni calls.Event (answers.Event (Some (events.Stream (Available Uni)))) = true
+tells_available dir call a = false
+
+-- what came to an end, and the packets that it had taken when it was told last that more streams of
+-- a kind may be opened
+pub record MayOpen : Type 0 where
+  pub intake : Intake
+  pub heard : List Packet
+
+-- nothing came
+abbrev pub may_open_first : MayOpen
+may_open_first = record { intake = nothing_came; heard = [] }
+
+-- one call more
+abbrev pub may_open_told : Policy → List (List ℕ) → Dir → Told → MayOpen → MayOpen
+may_open_told p given dir t m = record { intake = and_told p given t m.intake; heard = if tells_available dir t.call t.answer then m.intake.took else m.heard }
+
+-- the packets that an end had taken when it was told last, by the first so many answers, that more
+-- streams of a kind may be opened
+abbrev pub heard_available : Run → Side → Dir → ℕ → List Packet
+heard_available r side dir i = (folded (may_open_told (policy_at side r.keys) (given_of r (other_side side)) dir) (until r side i) may_open_first).heard
+
+-- where an open end is told nothing next, the greatest count of streams that MAX_STREAMS frames
+-- brought it is no greater than that with which it was made, or than what they had brought when it
+-- was told last that more streams of their kind may be opened
+abbrev pub AvailableIsTold : Run → Type 0
+AvailableIsTold r = (side : Side) (i : ℕ) (dir : Dir) → AreServed r i → state_at r side i ≡ states.Open → IsAt r i side calls.Event (answers.Event None)
+    → greatest (count_in dir) (took r side i) ≤ max (of dir (end_at side r.start).streams.opening.own_limit) (greatest (count_in dir) (heard_available r side dir i))
+
+-- ---- the loss of the connection (RFC 9000, section 10)
+
+-- how often an application was told by these calls that its connection is lost
+abbrev pub losses_told : List Told → ℕ
+losses_told [] = 0
+losses_told (t ∷ ts) = lost_in t.call t.answer + losses_told ts
+
+-- A loss is told once at most; with the reason that is seen of the end; and where nothing is told
+-- next at an end of which one is seen, it was told.
+pub record LossIsToldAt (r : Run) (side : Side) (i : ℕ) : Type 0 where
+  pub once : losses_told (until r side i) ≤ 1
+  pub why : (reason : LostReason) → IsAt r i side calls.Event (answers.Event (Some (events.Lost reason))) → (seen_at r side i).reason ≡ Some reason
+  pub told : (reason : LostReason) → IsAt r i side calls.Event (answers.Event None) → (seen_at r side i).reason ≡ Some reason → losses_told (until r side i) ≡ 1
+
+-- so it is at each place
+abbrev pub LossIsTold : Run → Type 0
+LossIsTold r = (side : Side) (i : ℕ) → AreServed r i → LossIsToldAt r side i

@@ -12,8 +12,7 @@ use Rattle.quic_wire.specs.Items.{items}
 use Rattle.quic_packet.specs.Number.{window}
 use Rattle.quic_packet.specs.Keys.{width_in}
 use Rattle.quic_packet.specs.Datagram.{Opening, opened_packet}
-use Rattle.quic_time.specs.Rtt.{Rtt, best_rtt, conservative_rtt, with_sample}
-use Rattle.quic_config.specs.Transport.{first_estimate}
+use Rattle.quic_time.specs.Rtt.{Rtt}
 use Rattle.quic_spaces.specs.Numbers.{greatest_of}
 use Rattle.quic_machine.specs.declared.answers.State.{State}
 use Rattle.quic_machine.specs.declared.answers.State.TheVariants as states
@@ -24,6 +23,7 @@ use Rattle.quic_machine.specs.Opens.{own_id_length}
 use Rattle.quic_machine.specs.Migration.{is_probing}
 use Rattle.quic_machine.specs.End.{End}
 use Rattle.quic_machine.specs.Machine.{policy_at, end_at, gave}
+use Rattle.quic_headline.specs.RoundTrip.{round_with, expected_round, longest_round, first_round}
 use Rattle.quic_headline.specs.Runs.{Run, Told, Packet, Intake, In, nothing_came, destination, frames_of, names, acknowledged, expected_behind, and_told, folded, until, given_of}
 
 -- ---- what was sent
@@ -121,7 +121,7 @@ latest = 2 ^ 64 - 1
 -- how long after it went a datagram is lost, once a later one is acknowledged: that part of the
 -- round trip, no less than a millisecond
 abbrev pub late_by : Terms → Rtt → ℕ
-late_by t rtt = min (max (t.part.0 * conservative_rtt rtt / t.part.1) 1000000) latest
+late_by t rtt = min (max (t.part.0 * longest_round rtt / t.part.1) 1000000) latest
 
 -- whether one that went at this moment went so long ago
 abbrev pub is_late : ℕ → ℕ → ℕ → Bool
@@ -212,7 +212,7 @@ measures named a acked = if is_greatest named a.largest && list_any asks_of acke
 -- no longer than this (section 5.3)
 abbrev pub rtt_behind : Terms → ℕ → ℕ → AckValue → Option Sent → Rtt → Rtt
 rtt_behind t delay clock a None rtt = rtt
-rtt_behind t delay clock a (Some s) rtt = with_sample rtt (min (min (a.delay * 2 ^ t.exponent * 1000) latest) delay) (clock - s.moment)
+rtt_behind t delay clock a (Some s) rtt = round_with rtt (min (min (a.delay * 2 ^ t.exponent * 1000) latest) delay) (clock - s.moment)
 
 -- An ACK frame that names datagrams in flight, which are these: they are acknowledged, the others
 -- stay but for those that are lost, and no probe waits. One that names none leaves all in flight.
@@ -301,7 +301,7 @@ and_sent s f = if closes_of s then f else and_flying s f
 -- times its variation or a millisecond, and the peer's delay; doubled at each expiry, up to 16
 -- times
 abbrev pub waited : Flight → ℕ → ℕ
-waited f expiries = min (min (min (best_rtt f.rtt + max (4 * f.rtt.var) 1000000) latest + longest f) latest * 2 ^ min expiries 16) latest
+waited f expiries = min (min (min (expected_round f.rtt + max (4 * f.rtt.var) 1000000) latest + longest f) latest * 2 ^ min expiries 16) latest
 
 -- when the last that asks is to be acknowledged, at the latest
 abbrev pub probe_due : Flight → Option Sent → Option ℕ
@@ -505,7 +505,7 @@ lens_of r side = record { serves = serves side; taker = policy_at (other_side si
 
 -- nothing happened yet to an end that gives these datagrams in all
 abbrev pub watch_from : End → List (List ℕ) → Watch
-watch_from e gives = first_watch gives e.closing.clock e.path.remote (first_estimate e.transport) (e.peer_params.max_ack_delay * 1000000)
+watch_from e gives = first_watch gives e.closing.clock e.path.remote (first_round e.transport) (e.peer_params.max_ack_delay * 1000000)
 
 -- what the observer of an end knows by the first so many answers
 abbrev pub watch : Run → Side → ℕ → Watch

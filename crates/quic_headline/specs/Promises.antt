@@ -13,6 +13,7 @@ use Rattle.quic_headline.specs.Grown.{GrownLimitsWait}
 use Rattle.quic_headline.specs.Messages.{MessagesAtMostOnce}
 use Rattle.quic_headline.specs.Polls.{PollsSendWhatWaits, PollsSendMessages, ProbesPass, WindowIsOfHistory, PacerSetsItsTimer, AskingGoesWhereLet}
 use Rattle.quic_headline.specs.Rest.{DeliveredAtRest, DoneAtRest, NothingOwedAtRest}
+use Rattle.quic_headline.specs.ControlArrived.{ResetsAtRest, StopsAtRest, RetirementsAtRest, LimitsAtRest, StreamLimitsAtRest}
 use Rattle.quic_headline.specs.AcksDue.{AcksAreDue}
 use Rattle.quic_headline.specs.Resets.{ResetsAreTold}
 use Rattle.quic_headline.specs.Ids.{IdsAreNew, AcceptedWereOpened}
@@ -27,21 +28,27 @@ use Rattle.quic_headline.specs.Undone.{NoneOpenedOnlyForUndone}
 use Rattle.quic_headline.specs.Credit.{CreditIsBounded, CountsAreBounded}
 use Rattle.quic_headline.specs.Allowed.{ReadsAreAllowed, ReadsAreOver, WritesAreAllowed, ResetsAreAllowed}
 use Rattle.quic_headline.specs.Queue.{MessagesGo, MessagesGoInOrder}
-use Rattle.quic_headline.specs.Events.{MessagesAreTold, OpeningsAreTold, ReadablesAreTold, WritablesAreTold}
+use Rattle.quic_headline.specs.Events.{MessagesAreTold, OpeningsAreTold, ReadablesAreTold, WritablesAreTold, AvailableIsTold, LossIsTold}
 use Rattle.quic_headline.specs.Confirmed.{DoneIsExact, ConfirmationIsTold}
 use Rattle.quic_headline.specs.Marking.{MarksGo}
 use Rattle.quic_headline.specs.Telling.{ControllersAreTold}
+use Rattle.quic_headline.specs.Reno.{RenoWindows}
 use Rattle.quic_headline.specs.AckFrames.{AcksCountMarks, AcksNameAll}
 use Rattle.quic_headline.specs.Requests.{RequestsSay, RequestsGo}
 use Rattle.quic_headline.specs.Pings.{PingsGo, ProbesHasten}
+use Rattle.quic_headline.specs.Going.{ControlGoes, RetirementsGo, LimitsGo}
 use Rattle.quic_headline.specs.Waited.{AckTimersAreSet, EachWaited}
 use Rattle.quic_headline.specs.Begins.{WaitingBegins}
+use Rattle.quic_headline.specs.Codes.{StopsSay, ResetsSay, NothingBehindResets}
 use Rattle.quic_headline.specs.Spread.{PacerIsOfHistory}
 use Rattle.quic_headline.specs.Threefold.{Threefold}
-use Rattle.quic_headline.specs.PeerLimits.{LimitsAreThePeers}
-use Rattle.quic_headline.specs.Validated.{ValidatedByAnswer, AnswersValidate}
+use Rattle.quic_headline.specs.PeerLimits.{LimitsAreThePeers, OpeningIsExact}
+use Rattle.quic_headline.specs.Validated.{ChallengesAreOwn, ValidatedByAnswer, AnswersValidate}
+use Rattle.quic_headline.specs.Responses.{ResponsesAnswer, ChallengesAnswered, PathFramesFill}
+use Rattle.quic_headline.specs.LeftOut.{NumbersAreDrawn}
 use Rattle.quic_headline.specs.Moves.{GoesToPath, PathChangesExactly, DropsOtherAddresses}
 use Rattle.quic_headline.specs.Expiring.{IdleMoments, AliveMoments, PathMoments, ClosedTimers, CloseMoments, CloseMomentsStay, DrainsInTime}
+use Rattle.quic_headline.specs.Shut.{IdlesOut, ClosesForPeer, ClosesForApplication, RefusalsClose}
 use Rattle.quic_headline.specs.Closes.{ClosesSayWhy, PeerClosesCome, ClosesAreOwed, OwedClosesGo, DrainedAreSilent}
 
 -- What reads give of a stream, and when it is told to be finished (RFC 9000, sections 2.2, 3.1 and
@@ -93,6 +100,8 @@ pub record Limits (r : Run) : Type 0 where
   -- an open end keeps to the limits in its peer's parameters and frames (sections 4.1, 4.6 and
   -- 18.2)
   pub limits_are_the_peers : LimitsAreThePeers r
+  -- a call opens a stream exactly while the greatest count in these lets it (section 4.6)
+  pub opening_is_exact : OpeningIsExact r
   -- a write takes as much as the peer's limits and the send window leave (section 4.1)
   pub writes_take_what_limits_allow : WritesTakeWhatLimitsAllow r
   -- a limit that grew waits to be told (sections 4.1, 4.2 and 4.6)
@@ -116,9 +125,25 @@ pub record Waits (r : Run) : Type 0 where
   -- PING goes where it was asked for, or keep-alive asks for it, but for window, pacer and address
   -- (sections 8.1, 10.1.2 and 19.2)
   pub pings_go : PingsGo r
+  -- RESET_STREAM, STOP_SENDING and HANDSHAKE_DONE go where they are owed, but for window, pacer and
+  -- address (sections 3.5, 13.3, 19.4, 19.5 and 19.20)
+  pub control_goes : ControlGoes r
+  -- RETIRE_CONNECTION_ID goes for each id below that in use, but for window, pacer and address
+  -- (sections 5.1.2 and 19.16)
+  pub retirements_go : RetirementsGo r
+  -- MAX_DATA and MAX_STREAM_DATA go where they are to be raised, but for window, pacer and address
+  -- (sections 4.1, 4.2, 19.9 and 19.10)
+  pub limits_go : LimitsGo r
   -- what waits behind a call waited before it, or has one of the causes for which such goes
   -- (section 13.3)
   pub waiting_begins : WaitingBegins r
+  -- STOP_SENDING has the code with which the application stopped its stream (sections 3.5 and 19.5)
+  pub stops_say : StopsSay r
+  -- RESET_STREAM has that with which it reset one, and says how many bytes were written (section
+  -- 19.4)
+  pub resets_say : ResetsSay r
+  -- behind that no STREAM frame of its stream goes (section 3.3)
+  pub nothing_behind_resets : NothingBehindResets r
 
 -- Which messages go, and which are received (RFC 9221, section 5).
 pub record Messages (r : Run) : Type 0 where
@@ -131,7 +156,7 @@ pub record Messages (r : Run) : Type 0 where
   -- a datagram has the first of these, in their order (section 5)
   pub messages_go_in_order : MessagesGoInOrder r
 
--- What applications are told by events and queries. The first four say what was told where no event
+-- What applications are told by events and queries. The first six say what was told where no event
 -- is left (RFC 9000, section 2).
 pub record Tells (r : Run) : Type 0 where
   -- that messages came, since the first of those that wait to be received (RFC 9221, section 5)
@@ -142,8 +167,12 @@ pub record Tells (r : Run) : Type 0 where
   pub readables_are_told : ReadablesAreTold r
   -- that a stream takes bytes again, since a write on it was blocked (sections 4.1 and 19.10)
   pub writables_are_told : WritablesAreTold r
-  -- an application that says that the handshake is done is let at a server, once, while that is open
-  -- (section 19.20)
+  -- that more streams may be opened, since the last count came that lets an open end (section 4.6)
+  pub available_is_told : AvailableIsTold r
+  -- that the connection is lost, once, with its reason, and is told there (section 10)
+  pub loss_is_told : LossIsTold r
+  -- an application that says that the handshake is done is let at a server, once, while that is
+  -- open (section 19.20)
   pub done_is_exact : DoneIsExact r
   -- that the handshake is confirmed, once, to a client to which HANDSHAKE_DONE came (RFC 9001,
   -- section 4.1.2)
@@ -198,6 +227,9 @@ pub record Loses (r : Run) : Type 0 where
   pub marks_go : MarksGo r
   -- the window is that of a controller which was told what the lists say (sections 6, 7 and 7.6)
   pub controllers_are_told : ControllersAreTold r
+  -- where the controller is NewReno, it is the one that its rules make of that (sections 7.3, 7.6
+  -- and 7.8)
+  pub reno_windows : RenoWindows r
   -- it is that of one which was told what the calls tell (section 7)
   pub window_is_of_history : WindowIsOfHistory r
 
@@ -213,8 +245,9 @@ pub record Paces (r : Run) : Type 0 where
 
 -- How many bytes datagrams have (RFC 9000, section 14; RFC 8899).
 pub record Sizes (r : Run) : Type 0 where
-  -- a datagram has at most the current size, or is an MTU probe of the size looked for (section 14);
-  -- an ack-eliciting one has at most the least size while a PTO probe waits (RFC 8899, section 4.3)
+  -- a datagram has at most the current size, or is an MTU probe of the size looked for (section
+  -- 14); an ack-eliciting one has at most the least size while a PTO probe waits (RFC 8899, section
+  -- 4.3)
   pub datagrams_are_sized : DatagramsAreSized r
   -- the size shown is the last that the controller was told of (RFC 8899, section 4.3)
   pub size_is_of_history : SizeIsOfHistory r
@@ -226,6 +259,9 @@ pub record Sizes (r : Run) : Type 0 where
 pub record Numbers (r : Run) : Type 0 where
   -- each datagram has a number, one or two above the one before (sections 12.3 and 17.1)
   pub numbers_rise : NumbersRise r
+  -- those that are left out behind the first are drawn from the random source, each for a power of
+  -- two (section 21.4)
+  pub numbers_are_drawn : NumbersAreDrawn r
   -- an injection is answered `Opens` exactly where its bytes open (sections 5.2 and 12.2)
   pub opens_exactly : OpensExactly r
   -- each datagram opens as it was sent where none above it was taken (sections 12.3, 17.1 and A.3)
@@ -256,20 +292,30 @@ pub record Identifies (r : Run) : Type 0 where
 pub record Validates (r : Run) : Type 0 where
   -- until then at most three times the bytes that came from there go there (section 8.1)
   pub threefold : Threefold r
+  -- a PATH_CHALLENGE has data that were drawn from the random source (section 8.2.1)
+  pub challenges_are_own : ChallengesAreOwn r
   -- it becomes validated only by the answer to the challenge that went (section 8.2.2)
   pub validated_by_answer : ValidatedByAnswer r
   -- it becomes validated by that answer (section 8.2.3)
   pub answers_validate : AnswersValidate r
+  -- a PATH_RESPONSE has the data of the newest challenge that came from where its end takes its
+  -- peer to be (section 8.2.2)
+  pub responses_answer : ResponsesAnswer r
+  -- one goes where a challenge came, but for window, pacer and address (section 8.2.2)
+  pub challenges_answered : ChallengesAnswered r
+  -- a datagram with a frame of path validation has 1200 bytes (sections 8.2.1 and 8.2.2)
+  pub path_frames_fill : PathFramesFill r
   -- each datagram goes to where its end takes its peer to be (sections 9.3 and 10.2)
   pub goes_to_path : GoesToPath r
-  -- that changes, and isn't validated then, exactly where the newest packet that was taken came from
-  -- elsewhere to a server, and doesn't only probe (sections 9.1 and 9.3)
+  -- that changes, and isn't validated then, exactly where the newest packet that was taken came
+  -- from elsewhere to a server, and doesn't only probe (sections 9.1 and 9.3)
   pub path_changes_exactly : PathChangesExactly r
   -- a client drops all that comes from elsewhere, and nothing else is dropped for its address
   -- (section 9)
   pub drops_other_addresses : DropsOtherAddresses r
 
--- Why an end closes, and that it takes what comes otherwise (RFC 9000, sections 10 and 11).
+-- Why an end closes, that it closes for that, and takes what comes otherwise (RFC 9000, sections 10
+-- and 11).
 pub record Causes (r : Run) : Type 0 where
   -- no end closes for a rule that the other one broke (sections 4.1, 4.5, 4.6 and 13.1)
   pub no_blame : NoBlame r
@@ -298,6 +344,15 @@ pub record Causes (r : Run) : Type 0 where
   pub key_limited : KeyLimited r
   -- no key seals more than it may (RFC 9001, section 6.6)
   pub keys_last : KeysLast r
+  -- an open end whose idle timer has come as it handles a moment is drained for it (section 10.1)
+  pub idles_out : IdlesOut r
+  -- one that took a close of its peer's is drained for that, from there on (section 10.2.2)
+  pub closes_for_peer : ClosesForPeer r
+  -- an open one that its application closes is closing for that (section 10.2)
+  pub closes_for_application : ClosesForApplication r
+  -- to one that is open fewer packets came that didn't open than its peer's key may refuse (RFC
+  -- 9001, section 6.6)
+  pub refusals_close : RefusalsClose r
 
 -- What closes say, and when they go (RFC 9000, section 10.2).
 pub record Closes (r : Run) : Type 0 where
@@ -338,6 +393,20 @@ pub record Rests (r : Run) : Type 0 where
   -- HANDSHAKE_DONE has arrived where it was said that the handshake is done (sections 13.3 and
   -- 19.20)
   pub done_at_rest : DoneAtRest r
+  -- the reset of each stream that was reset has arrived, with its code and final size (RFC 9000,
+  -- sections 3.1, 13.3 and 19.4)
+  pub resets_at_rest : ResetsAtRest r
+  -- STOP_SENDING of each stream that was stopped has arrived, unless its final size came (RFC 9000,
+  -- sections 3.5 and 13.3)
+  pub stops_at_rest : StopsAtRest r
+  -- each id of the peer below that in use was retired there (RFC 9000, sections 5.1.2 and 19.16)
+  pub retirements_at_rest : RetirementsAtRest r
+  -- the greatest limits that were said on all data, and on how many streams are opened, have
+  -- arrived (RFC 9000, sections 4.1, 4.6 and 13.3)
+  pub limits_at_rest : LimitsAtRest r
+  -- so has that on the data of each stream whose final size didn't come, and that wasn't stopped
+  -- (RFC 9000, sections 4.1 and 13.3)
+  pub stream_limits_at_rest : StreamLimitsAtRest r
   -- no acknowledgement is owed (RFC 9000, sections 13.2.1 and 13.2.4)
   pub nothing_owed_at_rest : NothingOwedAtRest r
   -- a write is blocked only for bytes that were left unread (RFC 9000, section 4.1)

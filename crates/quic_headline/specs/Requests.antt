@@ -5,10 +5,10 @@ use Rattle.std.specs.List.{list_any}
 use Rattle.quic_wire_core.specs.declared.stream_id.Side.{Side}
 use Rattle.quic_wire.specs.Value.{FrameValue, AckFrequencyValue, ack_frequency}
 use Rattle.quic_config.specs.Configs.{FrequencySettings}
-use Rattle.quic_time.specs.Rtt.{best_rtt}
 use Rattle.quic_machine.specs.declared.run.View.{View}
 use Rattle.quic_machine.specs.End.{End}
 use Rattle.quic_machine.specs.Machine.{end_at}
+use Rattle.quic_headline.specs.RoundTrip.{expected_round}
 use Rattle.quic_headline.specs.Runs.{Run, In, AreServed}
 use Rattle.quic_headline.specs.Observer.{Sent, Flight, latest, watch}
 use Rattle.quic_headline.specs.InFlight.{is_ack_frequency}
@@ -25,8 +25,8 @@ abbrev pub requests_in : List Sent → ℕ
 requests_in [] = 0
 requests_in (s ∷ ss) = count_requests s.frames + requests_in ss
 
--- How an end asks: what it is configured to ask for, if it is; and the least delay that its peer can
--- be asked for, in microseconds, which the peer told if it takes ACK_FREQUENCY (section 3).
+-- How an end asks: what it is configured to ask for, if it is; and the least delay that its peer
+-- can be asked for, in microseconds, which the peer told if it takes ACK_FREQUENCY (section 3).
 pub record Asking : Type 0 where
   pub settings : Option FrequencySettings
   pub least : Option ℕ
@@ -44,7 +44,7 @@ asking_at r side = asking_of (end_at side r.start)
 -- shorter than the least that the peer can be asked for
 abbrev pub wanted_delay : FrequencySettings → ℕ → Flight → ℕ
 wanted_delay settings least f =
-    max (min (unwrap_or (option_map (λ nanos. nanos / 1000 * 1000) settings.max_delay) f.delay) (max (best_rtt f.rtt) 25000000)) (min (least * 1000) latest)
+    max (min (unwrap_or (option_map (λ nanos. nanos / 1000 * 1000) settings.max_delay) f.delay) (max (expected_round f.rtt) 25000000)) (min (least * 1000) latest)
 
 -- the delay that the peer was asked for last, or else the one to which it keeps
 abbrev pub last_delay : Flight → ℕ

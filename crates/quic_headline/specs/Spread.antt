@@ -4,8 +4,7 @@
 use Rattle.std.specs.Prelude.{ℕ, zero, suc, ◌+◌, ◌≤◌, ◌≡◌, ◌⊎◌, max, not, ◌==◌, ◌&&◌, ◌||◌, Bool, true, false, nat_lt, if◌then◌else◌, IfSome, List, [], ◌∷◌, ◌++◌, filter, map, length, slice_get, Option, Some, None}
 use Rattle.std.specs.List.{list_any}
 use Rattle.quic_wire_core.specs.declared.stream_id.Side.{Side}
-use Rattle.quic_time.specs.Rtt.{best_rtt}
-use Rattle.quic_congestion.specs.Pacer.{Pacing, Ask, answer_of, pacing_after, new_pacing}
+use Rattle.quic_congestion.specs.Pacer.{Pacing, Ask}
 use Rattle.quic_congestion.specs.Pacer as pacer
 use Rattle.quic_machine.specs.declared.answers.State.TheVariants as states
 use Rattle.quic_machine.specs.declared.run.RunEvent.{RunEvent}
@@ -13,8 +12,10 @@ use Rattle.quic_machine.specs.declared.run.Call.{Call}
 use Rattle.quic_machine.specs.declared.run.Call.TheVariants as calls
 use Rattle.quic_machine.specs.declared.run.Answer.{Answer}
 use Rattle.quic_machine.specs.declared.run.View.{View}
-use Rattle.quic_machine.specs.Control.{if_later}
+use Rattle.quic_machine.specs.End.{End}
 use Rattle.quic_machine.specs.Machine.{end_at}
+use Rattle.quic_headline.specs.RoundTrip.{expected_round, first_round}
+use Rattle.quic_headline.specs.Tokens.{full_pacer, begun_pacer, names_for, spent_by}
 use Rattle.quic_headline.specs.Runs.{Run, same_side, state_in, AreServed}
 use Rattle.quic_headline.specs.Observer.{Sent, asks_of, watch, path_changes}
 use Rattle.quic_headline.specs.Headline.{IsAt}
@@ -27,7 +28,7 @@ use Rattle.quic_headline.specs.Waited.{is_ping, wants}
 abbrev pub gone_at : Run → Side → ℕ → List Sent
 gone_at r side i = went (watch r side i) (watch r side (suc i))
 
--- ---- what a pacer is asked, and names
+-- ---- what a pacer is asked
 
 -- The pacer of an end is asked in a poll whether one more datagram of the current size may go: by
 -- the size and the window that are seen before the poll, and over a round trip of 1 ns at least.
@@ -38,17 +39,12 @@ ask_at r side i now =
     let w = watch r side i in
     let seen = seen_at r side i in
     record {
-      rtt = max (best_rtt w.flight.rtt) 1;
+      rtt = max (expected_round w.flight.rtt) 1;
       bytes = seen.current_mtu;
       size = seen.current_mtu;
       window = seen.window;
       moment = max w.clock now;
     }
-
--- the moment that a pacer names where it is asked, if it is a later one: what asks for an
--- acknowledgement waits until then
-abbrev pub names_for : Pacing → Ask → Option ℕ
-names_for p ask = if_later ask.moment (answer_of p ask)
 
 -- ---- when it is asked
 
@@ -105,16 +101,20 @@ abbrev pub paces_at : Option RunEvent → Option View → Run → Side → ℕ �
 paces_at (Some event) (Some v) r side i = paces_in (same_side event.side side) event.call r side i v
 paces_at event v r side i = []
 
--- that of another path, as it comes: full, by the round trip, the window, the size and the clock that
--- are seen behind the event
+-- that of another path, as it comes: full, by the round trip, the window, the size and the clock
+-- that are seen behind the event
 abbrev pub pacer_anew : Run → Side → ℕ → Pacing
-pacer_anew r side i = new_pacing (best_rtt (watch r side i).flight.rtt) (seen_at r side i).window (seen_at r side i).current_mtu (watch r side i).clock
+pacer_anew r side i = full_pacer (expected_round (watch r side i).flight.rtt) (seen_at r side i).window (seen_at r side i).current_mtu (watch r side i).clock
+
+-- that with which an end begins
+abbrev pub first_pacer : End → Pacing
+first_pacer e = begun_pacer (first_round e.transport) e.path.pacing
 
 -- what the pacer of an end holds behind the first so many answers: at first what it did as the run
 -- began, and then what each event leaves of that; where the path changes, it is made anew
 abbrev pub pacer_at : Run → Side → ℕ → Pacing
-pacer_at r side zero = (end_at side r.start).path.pacing
-pacer_at r side (suc i) = if path_changes r side i then pacer_anew r side (suc i) else pacing_after (paces_at (slice_get r.events i) (slice_get r.views i) r side i) (pacer_at r side i)
+pacer_at r side zero = first_pacer (end_at side r.start)
+pacer_at r side (suc i) = if path_changes r side i then pacer_anew r side (suc i) else spent_by (paces_at (slice_get r.events i) (slice_get r.views i) r side i) (pacer_at r side i)
 
 -- the moment that it names where it is asked in a poll there, if it names a later one
 abbrev pub named_at : Run → Side → ℕ → ℕ → Option ℕ

@@ -1,5 +1,6 @@
 -- When the address of an end's peer becomes validated: where the peer answers the challenge that
--- the end gave last (RFC 9000, sections 8.2.2 and 8.2.3).
+-- the end gave last (RFC 9000, sections 8.2.2 and 8.2.3); and which data challenges have (section
+-- 8.2.1).
 use Rattle.std.specs.Prelude.{ℕ, suc, ◌<◌, ◌^◌, nat_lt, ◌≡◌, ◌⊎◌, ◌||◌, Bool, true, false, if◌then◌else◌, List, [], ◌∷◌, Option, Some, None}
 use Rattle.quic_wire_core.specs.declared.stream_id.Side.{Side}
 use Rattle.quic_wire.specs.Value.{FrameValue, path_challenge, path_response}
@@ -7,14 +8,14 @@ use Rattle.quic_machine.specs.declared.answers.State.TheVariants as states
 use Rattle.quic_machine.specs.declared.run.Delivery.{Delivery}
 use Rattle.quic_machine.specs.declared.run.Call.TheVariants as calls
 use Rattle.quic_machine.specs.declared.run.Answer.{Answer}
-use Rattle.quic_machine.specs.Validation.{word_of}
+use Rattle.quic_machine.specs.Validation.{token_of, word_of}
 use Rattle.quic_machine.specs.Machine.{policy_at, end_at}
 use Rattle.quic_headline.specs.Runs.{Run, Told, Packet, In, folded, until, state_at, AreServed}
 use Rattle.quic_headline.specs.Observer.{Sent, Lens, watch, lens_of, news, has_changed, peer_address, path_changes}
 use Rattle.quic_headline.specs.Headline.{IsAt}
 use Rattle.quic_headline.specs.Moments.{went}
 use Rattle.quic_headline.specs.Expiring.{Questions, questions_told, questions_at_first}
-use Rattle.quic_headline.specs.Polls.{seen_at}
+use Rattle.quic_headline.specs.Polls.{GaveOne, seen_at}
 use Rattle.quic_headline.specs.Telling.{shows_validated}
 use Rattle.quic_headline.specs.Waited.{stands, is_path_challenge}
 
@@ -73,13 +74,32 @@ abbrev pub IsLatest : Option (List ℕ) → List ℕ → Type 0
 IsLatest None token = ⊥
 IsLatest (Some asked) token = word_of token ≡ word_of asked
 
--- The peer answered, before the end was called at a place, what it was asked last, unless other
--- data may be asked for by now: so it is also where the answer came in the packet by which the path
--- changes, which is asked for others then.
+-- A word that an end may have drawn though it didn't ask it yet: its random source answers it, or
+-- the end asked it as it was made.
+abbrev pub IsOwnWord : Run → Side → ℕ → Type 0
+IsOwnWord r side word = ((n : ℕ) × ((policy_at side r.keys).words n ≡ word)) ⊎ ((end_at side r.start).validation.challenge ≡ Some word)
+
+-- Data are the eight bytes of such a word.
+pub record IsOwnData (r : Run) (side : Side) (token : List ℕ) : Type 0 where
+  pub word : ℕ
+  pub own : IsOwnWord r side word
+  pub told : token ≡ token_of word
+
+-- so are the data of each PATH_CHALLENGE in a datagram that a poll gives (section 8.2.1)
+abbrev pub ChallengesAreOwn : Run → Type 0
+ChallengesAreOwn r = (side : Side) (i now : ℕ) (gave : GaveOne r side i now) (token : List ℕ) → In (path_challenge token) gave.sent.frames → IsOwnData r side token
+
+-- other data may be asked for by now, or are as the path changes by the packet
+abbrev pub MayAskOther : Run → Side → ℕ → Type 0
+MayAskOther r side i = ((asking r side i).renewed ≡ true) ⊎ (path_changes r side i ≡ true)
+
+-- The peer answered, before the end was called at a place, what it was asked last, or, where other
+-- data may be asked for, told a word that the end may have drawn. An honest peer tells none that it
+-- wasn't asked.
 pub record WasAnswered (r : Run) (side : Side) (i : ℕ) : Type 0 where
   pub token : List ℕ
   pub came : AnswerCame r side i token
-  pub right : IsLatest (asking r side i).latest token ⊎ (((asking r side i).renewed ≡ true) ⊎ (path_changes r side i ≡ true))
+  pub right : IsLatest (asking r side i).latest token ⊎ (MayAskOther r side i × IsOwnWord r side (word_of token))
 
 -- the address of an end's peer becomes validated only so, as views of an end that stays open show
 -- it

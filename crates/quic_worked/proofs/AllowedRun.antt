@@ -162,10 +162,10 @@ again_shows h = elim (h Client 2 0 (calls.Stop 0 7) (answers.Stop (Ok tt)) refl 
 pub again_is_honest : IsHonest stopped_again
 again_is_honest = honest stopped_again (record { start = refl; keys = refl; client = (tt, (inl refl, (inl refl, tt))); server = (tt, (tt, (tt, tt))) })
 
-unfoldable once_halted : World
+unfoldable pub once_halted : World
 once_halted = ran worked_policies started (take 2 stopped_again.events) (take 2 stopped_again.answers)
 
-halts : IsStep worked_policies once_opened stops_stream (answers.Stop (Ok tt)) once_halted
+pub halts : IsStep worked_policies once_opened stops_stream (answers.Stop (Ok tt)) once_halted
 unfolding once_halted
 halts =
     let s : StepsSo worked_policies once_opened stops_stream (answers.Stop (Ok tt)) once_halted = steps_so worked_policies once_opened stops_stream (answers.Stop (Ok tt)) refl in

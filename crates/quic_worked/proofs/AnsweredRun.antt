@@ -1,11 +1,12 @@
 -- The run in which the peer answers what a server asked it, event by event, and machines that take
 -- another answer, or none, for the right one, or the right one for none.
-use Rattle.std.proofs.Common.{◌≡◌, ◌<◌, ◌⊎◌, ℕ, zero, suc, List, [], ◌∷◌, replicate, Option, Some, None, Bool, true, false, refl, inl, inr, sym, ◌∙◌, subst, arith}
+use Rattle.std.proofs.Common.{◌≡◌, ◌<◌, ◌⊎◌, ℕ, zero, suc, List, [], ◌∷◌, replicate, Option, Some, None, Ok, Bool, true, false, refl, inl, inr, sym, ap, ◌∙◌, subst, arith}
 use Rattle.std.specs.Prelude.{◌^◌}
 use Rattle.quic_wire_core.specs.declared.stream_id.Side.{Side}
 use Rattle.quic_wire_core.specs.declared.stream_id.Side.TheVariants.{Client, Server}
 use Rattle.quic_wire.specs.Value.{stream, path_response, padding}
 use Rattle.quic_machine.specs.declared.answers.Received.TheVariants as receives
+use Rattle.quic_machine.specs.declared.run.Answer.{Answer}
 use Rattle.quic_machine.specs.declared.run.Answer.TheVariants as answers
 use Rattle.quic_machine.specs.declared.run.EndView.{EndView}
 use Rattle.quic_machine.specs.Machine.{IsStep, policy_at, end_at, view_of}
@@ -13,13 +14,14 @@ use Rattle.quic_headline.specs.Runs.{Run, Packet, In}
 use Rattle.quic_headline.specs.Observer.{watch, news, peer_address, path_changes}
 use Rattle.quic_headline.specs.Polls.{seen_at}
 use Rattle.quic_headline.specs.Headline.{IsHonest, IsRun}
-use Rattle.quic_headline.specs.Validated.{asking, IsLatest, AnswerCame, WasAnswered, ValidatedByAnswer, AreWords, CameFromPeer, AnswersValidate}
+use Rattle.quic_machine.specs.Validation.{word_of}
+use Rattle.quic_headline.specs.Validated.{asking, IsLatest, AnswerCame, IsOwnWord, MayAskOther, WasAnswered, ValidatedByAnswer, AreWords, CameFromPeer, AnswersValidate}
 use Rattle.quic_worked.specs.Worked.{worked_policies, asks_datagram, gives_bytes, gives_unmarked, view_with, waiting_view, id_word, behind_ids}
 use Rattle.quic_worked.specs.Acknowledged.{client_acked}
 use Rattle.quic_worked.specs.Broken.{IsNoRun}
 use Rattle.quic_worked.specs.Paired.{asks_server, client_hears}
 use Rattle.quic_worked.specs.Reordered.{delivers_at}
-use Rattle.quic_worked.specs.Unvalidated.{far_view, once_far, answering_events, answering_answers, once_answered, asks_state, tells_state, state_told, response_packet, answered_with, answered_run, ignored_run, unanswered_run, other_word, old_answer_run, late_answer_run}
+use Rattle.quic_worked.specs.Unvalidated.{far_start, far_view, once_far, answering_events, answering_answers, once_answered, asks_state, tells_state, state_told, response_packet, answered_with, answered_run, ignored_run, unanswered_run, other_word, old_answer_run, late_answer_run, early_packet, early_answer_run}
 use Rattle.quic_worked.proofs.Codes.{no_codes}
 use Rattle.quic_worked.proofs.OwnIds.{AreOwn, own_ids}
 use Rattle.quic_worked.proofs.BrokenRuns.{IsRefused, behind, stops}
@@ -258,10 +260,10 @@ wrong_answer r i came asked none same w = go w.right
     first : w.token ≡ id_word
     first = among w.token w.came.packet (subst (λ (ps : List Packet). In w.came.packet ps) came w.came.came) w.came.answers
 
-    go : IsLatest (asking r Server i).latest w.token ⊎ (((asking r Server i).renewed ≡ true) ⊎ (path_changes r Server i ≡ true)) → ⊥
+    go : IsLatest (asking r Server i).latest w.token ⊎ (MayAskOther r Server i × IsOwnWord r Server (word_of w.token)) → ⊥
     go (inl latest) = not_latest (subst (λ (t : List ℕ). IsLatest (Some other_word) t) first (subst (λ (o : Option (List ℕ)). IsLatest o w.token) asked latest))
-    go (inr (inl renewed)) = let clash : false ≡ true = sym none ∙ renewed in cc
-    go (inr (inr changes)) = let clash : false ≡ true = sym same ∙ changes in cc
+    go (inr (inl renewed, own)) = let clash : false ≡ true = sym none ∙ renewed in cc
+    go (inr (inr changes, own)) = let clash : false ≡ true = sym same ∙ changes in cc
 
 old_stays : path_changes old_answer_run Server 8 ≡ false
 unfolding client_acked
@@ -316,3 +318,59 @@ late_is_honest = record { start = far_started; keys = are_keys; ids = own_ids la
 
 pub late_is_none : IsNoRun late_answer_run
 late_is_none = behind refl opens (behind refl writes (behind refl gives (behind refl takes (behind refl asks_back (stops _ _ _ _ _ none_asked_anew)))))
+
+-- ---- data that nobody was asked for
+
+early_came : news (watch early_answer_run Server 1).intake (watch early_answer_run Server 2).intake ≡ early_packet ∷ []
+unfolding client_acked
+early_came = refl
+
+none_asked : (asking early_answer_run Server 1).latest ≡ None
+unfolding client_acked
+none_asked = refl
+
+-- the only answer in that packet is the other word
+answers_other : (token : List ℕ) → In (path_response token) early_packet.frames → token ≡ other_word
+answers_other token (inl e) = cc
+answers_other token (inr i) = absurd (not_padding token 1165 i)
+
+-- which isn't one that the server may have drawn
+not_own : IsOwnWord early_answer_run Server 0 → ⊥
+not_own (inl drawn) = let clash : ◌≡◌ {A = ℕ} 63 0 = drawn.1 in omega (arith, clash)
+not_own (inr asked) = let clash : ◌≡◌ {A = ℕ} 63 0 = first_word asked in omega (arith, clash)
+  where
+    first_word : ◌≡◌ {A = Option ℕ} (Some 63) (Some 0) → ◌≡◌ {A = ℕ} 63 0
+    first_word e = cc
+
+pub early_wrong : ValidatedByAnswer early_answer_run → ⊥
+early_wrong h = go (h Server 1 refl refl refl refl)
+  where
+    among : (token : List ℕ) (p : Packet) → In p (early_packet ∷ []) → In (path_response token) p.frames → token ≡ other_word
+    among token p (inl is) i = answers_other token (subst (λ (q : Packet). In (path_response token) q.frames) is i)
+    among token p (inr none) i = absurd none
+
+    right : (token : List ℕ) → token ≡ other_word → IsLatest (asking early_answer_run Server 1).latest token ⊎ (MayAskOther early_answer_run Server 1 × IsOwnWord early_answer_run Server (word_of token)) → ⊥
+    right token is (inl latest) = absurd (subst (λ (o : Option (List ℕ)). IsLatest o token) none_asked latest)
+    right token is (inr other) = not_own (subst (λ (t : List ℕ). IsOwnWord early_answer_run Server (word_of t)) is other.1)
+
+    go : WasAnswered early_answer_run Server 1 → ⊥
+    go w = right w.token (among w.token w.came.packet (subst (λ (ps : List Packet). In w.came.packet ps) early_came w.came.came) w.came.answers) w.right
+
+early_own : (side : Side) → AreOwn side [] early_answer_run.events early_answer_run.answers early_answer_run.views
+early_own Client = (tt, (tt, tt))
+early_own Server = (tt, (tt, tt))
+
+pub early_is_honest : IsHonest early_answer_run
+early_is_honest = record { start = far_started; keys = are_keys; ids = own_ids early_answer_run early_own }
+
+-- the size of a datagram that a poll gives
+abbrev size_in : Answer → ℕ
+size_in (answers.Poll (Ok (Some t))) = t.size
+size_in a = 0
+
+early_no : IsRefused far_start asks_datagram (gives_bytes 1200)
+early_no (inl e) = let sizes : ◌≡◌ {A = ℕ} 1200 222 = ap size_in e in absurd (omega arith)
+early_no (inr e) = cc
+
+pub early_is_none : IsNoRun early_answer_run
+early_is_none = stops _ _ _ _ _ early_no

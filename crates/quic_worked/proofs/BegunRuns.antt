@@ -1,6 +1,6 @@
 -- What begins to wait in the run in which a limit is lost and goes again, and ends at which
 -- something waits without a cause.
-use Rattle.std.proofs.Common.{◌≡◌, ℕ, List, [], ◌∷◌, take, length, ◌<◌, true, false, refl, inl, inr, sym, ap, ◌∙◌, subst, arith}
+use Rattle.std.proofs.Common.{◌≡◌, ℕ, List, [], ◌∷◌, take, length, ◌<◌, true, false, None, refl, inl, inr, sym, ap, ◌∙◌, subst, arith}
 use Rattle.std.specs.Prelude.{map, ◌==◌, ◌&&◌, nat_lt, Bool}
 use Rattle.std.specs.List.{list_any}
 use Rattle.std.specs.Option.{is_some}
@@ -13,29 +13,34 @@ use Rattle.quic_machine.specs.End.{End}
 use Rattle.quic_machine.specs.Machine.{World}
 use Rattle.quic_headline.specs.Runs.{In, written}
 use Rattle.quic_headline.specs.InFlight.{is_max_data}
-use Rattle.quic_headline.specs.Duties.{AllData, on_half}
+use Rattle.quic_headline.specs.Duties.{AllData, StreamData, on_half}
 use Rattle.quic_headline.specs.Moments.{went}
-use Rattle.quic_headline.specs.Observer.{Sent, HoldsOffset, has_changed}
+use Rattle.quic_headline.specs.Observer.{Sent, HoldsOffset}
+use Rattle.quic_headline.specs.Expiring.{asks_anew}
 use Rattle.quic_headline.specs.Waited.{stands, is_path_challenge}
 use Rattle.quic_headline.specs.Begins.{Seen, Control, Ack, Ping, Challenge, Response, Byte, Frame, LimitOf, NewId, Retirement, Done, control_waits, byte_waits, brings, asks_for, may_hasten, makes_ping, acknowledged_by, IsPending, HasCause, WasLost, still, begins, BeginsAt}
-use Rattle.quic_worked.specs.Credit.{narrow_bytes, credit_written, credit_sent, credit_read, credit_given, ReadsEight}
+use Rattle.quic_worked.specs.Credit.{narrow_bytes, credit_written, credit_sent, credit_accepted, credit_taken, credit_read, credit_given, ReadsEight}
 use Rattle.quic_worked.specs.Raised.{raised_events, raised_told, after_server_ping, first_ping, second_ping, third_came, third_due, limit_came, NeverComes}
-use Rattle.quic_worked.specs.Begun.{sending_seen, reading_seen, raising_seen, pinging_seen, waiting_seen, losing_seen, challenged_seen, bringing_seen, using_seen, retired_seen, unanswered_server, limit_at_each_poll, ack_at_each_call, ping_at_each_timeout, bytes_at_each_poll, challenge_at_each_call, response_at_each_call, id_at_each_call, retirement_at_each_call, done_at_each_call, retires_the_next, retires_at_once, NeverBrought, NeverRenamed}
+use Rattle.quic_worked.specs.Begun.{sending_seen, reading_seen, word_seen, raising_seen, pinging_seen, waiting_seen, losing_seen, challenged_seen, bringing_seen, using_seen, retired_seen, unanswered_server, unanswered_seen, challenge_at_each_timeout, early_challenge, limit_at_each_read, all_at_each_read, limit_at_each_poll, ack_at_each_call, ping_at_each_timeout, bytes_at_each_poll, challenge_at_each_call, response_at_each_call, id_at_each_call, retirement_at_each_call, done_at_each_call, repeated_seen, issues_two, tells_again, retires_the_next, retires_at_once, NeverRetired, NeverBrought, NeverRead, NeverRenamed}
 use Rattle.quic_worked.specs.Acknowledged.{client_acked}
-use Rattle.quic_worked.specs.Worked.{both_steady}
+use Rattle.quic_worked.specs.Worked.{started, worked_events, worked_answers, once_taken, once_accepted, once_read, ReadsBy, two_chunks, both_steady}
 use Rattle.quic_worked.specs.Renamed.{renaming_events, renaming_answers, once_renamed}
 use Rattle.quic_worked.specs.Unvalidated.{once_far, once_answered}
 use Rattle.quic_worked.proofs.CreditRuns as credit
 use Rattle.quic_worked.proofs.RaisedRun as raised
-use Rattle.quic_worked.proofs.RenamedRuns.{client_tells, server_tells, client_takes, client_uses}
+use Rattle.quic_worked.proofs.WorkedRun as word
+use Rattle.quic_worked.proofs.RenamedRuns.{client_tells, server_tells, client_takes, client_uses, client_gives, server_takes}
 use Rattle.quic_worked.proofs.WrongRuns.{NeverEnds, ends_here, step_on}
 
 -- ---- causes
 
 -- the limit on all data waits since the bytes were read
-pub read_asks : (read : ReadCall) → asks_for (reading_seen read) (LimitOf AllData) ≡ true
+zero_asks : (read : ReadCall) → asks_for (reading_seen (record read { id = 0 })) (LimitOf AllData) ≡ true
 unfolding limit_came
-read_asks read = refl
+zero_asks read = refl
+
+pub read_asks : (read : ReadCall) → ReadsEight read → asks_for (reading_seen read) (LimitOf AllData) ≡ true
+read_asks read by = subst (λ (id : ℕ). asks_for (reading_seen (record read { id = id })) (LimitOf AllData) ≡ true) (sym by.id) (zero_asks read)
 
 -- whether the first of some says how far all data may come, and has the number 0
 abbrev head_says : List Sent → Bool
@@ -252,14 +257,15 @@ still_none = refl
 other_ping : ping_at_each_timeout ≡ third_due → ⊥
 other_ping e = let clash : true ≡ false = ap (λ (w : World). w.client.waiting.signals.ping) e ∙ still_none in cc
 
-ping_to : (read : ReadCall) → ReadsEight read → NeverEnds (λ w. ping_at_each_timeout ≡ w) narrow_bytes (take 15 (raised_events read)) (take 15 raised_told)
-ping_to read by =
+-- behind that timeout an end is that of the machine alone
+timed_to : (bad : World) → (bad ≡ third_due → ⊥) → (read : ReadCall) → ReadsEight read → NeverEnds (λ w. bad ≡ w) narrow_bytes (take 15 (raised_events read)) (take 15 raised_told)
+timed_to bad other read by =
     step_on refl credit.opens (step_on refl credit.writes (step_on refl credit.gives (step_on refl credit.takes (step_on refl credit.accepts (step_on refl (credit.reads read by) (step_on refl credit.raises
     (step_on refl (raised.pings credit_given) (step_on refl raised.gives_first (step_on refl (raised.pings first_ping) (step_on refl raised.gives_second (step_on refl (raised.pings second_ping) (step_on refl raised.gives_third (step_on refl raised.comes_third
-    (step_on refl raised.waits_third (ends_here other_ping)))))))))))))))
+    (step_on refl raised.waits_third (ends_here other)))))))))))))))
 
 pub never_ping : (read : ReadCall) → ReadsEight read → NeverComes (take 15 (raised_events read)) (take 15 raised_told) ping_at_each_timeout
-never_ping read by views f = (ping_to read by).never views ping_at_each_timeout f refl
+never_ping read by views f = (timed_to ping_at_each_timeout other_ping read by).never views ping_at_each_timeout f refl
 
 -- ---- frames that have a cause
 
@@ -291,6 +297,53 @@ pub challenge_waits : IsPending unanswered_server Challenge
 unfolding once_far
 challenge_waits = refl
 
+pub challenge_due : HasCause (unanswered_seen 3072000000) Challenge
+unfolding client_acked
+challenge_due = refl
+
+none_before : (let s = unanswered_seen 3071999999 in asks_anew s.validated s.now s.behind s.questions) ≡ false
+unfolding client_acked
+none_before = refl
+
+pub challenge_early : HasCause (unanswered_seen 3071999999) Challenge → ⊥
+challenge_early cause = (let s = unanswered_seen 3071999999 in both_ways (asks_anew s.validated s.now s.behind s.questions) none_before cause)
+
+-- ---- PATH_CHALLENGE at each timeout
+
+none_asked : third_came.client.waiting.signals.challenge ≡ None
+unfolding third_came
+none_asked = refl
+
+not_anew : (read : ReadCall) → (let s = waiting_seen read in asks_anew s.validated s.now s.behind s.questions) ≡ false
+unfolding limit_came
+not_anew read = refl
+
+pub validated_shows : (read : ReadCall) → BeginsAt (waiting_seen read) third_came.client challenge_at_each_timeout.client → ⊥
+validated_shows read h = elim (h Challenge refl) [
+  | still set stays ↦ both_ways (is_some third_came.client.waiting.signals.challenge) (ap is_some none_asked) set
+  | begins cause ↦ (let s = waiting_seen read in both_ways (asks_anew s.validated s.now s.behind s.questions) (not_anew read) cause)
+]
+
+none_waits : is_some (once_far 5).server.waiting.signals.challenge ≡ false
+unfolding once_far
+none_waits = refl
+
+pub early_shows : BeginsAt (unanswered_seen 3071999999) (once_far 5).server early_challenge → ⊥
+early_shows h = elim (h Challenge refl) [
+  | still set stays ↦ both_ways (is_some (once_far 5).server.waiting.signals.challenge) none_waits set
+  | begins cause ↦ challenge_early cause
+]
+
+still_unasked : is_some third_due.client.waiting.signals.challenge ≡ false
+unfolding third_came
+still_unasked = refl
+
+other_asks : challenge_at_each_timeout ≡ third_due → ⊥
+other_asks e = let clash : true ≡ false = ap (λ (w : World). is_some w.client.waiting.signals.challenge) e ∙ still_unasked in cc
+
+pub never_asks : (read : ReadCall) → ReadsEight read → NeverComes (take 15 (raised_events read)) (take 15 raised_told) challenge_at_each_timeout
+never_asks read by views f = (timed_to challenge_at_each_timeout other_asks read by).never views challenge_at_each_timeout f refl
+
 -- ---- frames at each call
 
 none_challenged : is_some credit_given.server.waiting.signals.challenge ≡ false
@@ -301,14 +354,14 @@ none_answers : is_some credit_given.server.waiting.signals.response ≡ false
 unfolding credit_given
 none_answers = refl
 
-path_stays : (read : ReadCall) → has_changed (pinging_seen read).before (pinging_seen read).behind ≡ false
+path_stays : (read : ReadCall) → (let s = pinging_seen read in asks_anew s.validated s.now s.behind s.questions) ≡ false
 unfolding limit_came
 path_stays read = refl
 
 pub challenge_shows : (read : ReadCall) → BeginsAt (pinging_seen read) credit_given.server challenge_at_each_call.server → ⊥
 challenge_shows read h = elim (h Challenge refl) [
   | still set stays ↦ both_ways (is_some credit_given.server.waiting.signals.challenge) none_challenged set
-  | begins cause ↦ both_ways (has_changed (pinging_seen read).before (pinging_seen read).behind) (path_stays read) cause
+  | begins cause ↦ (let s = pinging_seen read in both_ways (asks_anew s.validated s.now s.behind s.questions) (path_stays read) cause)
 ]
 
 none_asks : (read : ReadCall) → brings is_path_challenge (pinging_seen read) ≡ false
@@ -340,6 +393,70 @@ control_unasked s c before e apart same unasked none waits h = elim (h (Frame c)
     ]
   ]
 ]
+
+-- at the read
+reading_flight : (read : ReadCall) → (reading_seen read).before.flight.flying ≡ (reading_seen read).behind.flight.flying
+unfolding limit_came
+reading_flight read = refl
+
+stream_zero : (read : ReadCall) → asks_for (reading_seen (record read { id = 0 })) (LimitOf (StreamData 0)) ≡ false
+unfolding limit_came
+stream_zero read = refl
+
+stream_unasked : (read : ReadCall) → ReadsEight read → asks_for (reading_seen read) (LimitOf (StreamData 0)) ≡ false
+stream_unasked read by = subst (λ (id : ℕ). asks_for (reading_seen (record read { id = id })) (LimitOf (StreamData 0)) ≡ false) (sym by.id) (stream_zero read)
+
+no_stream_limit : control_waits credit_accepted.server.waiting.frames (LimitOf (StreamData 0)) ≡ false
+unfolding credit_taken
+no_stream_limit = refl
+
+pub stream_limit_shows : (read : ReadCall) → ReadsEight read → BeginsAt (reading_seen read) credit_accepted.server limit_at_each_read.server → ⊥
+stream_limit_shows read by = control_unasked (reading_seen read) (LimitOf (StreamData 0)) credit_accepted.server limit_at_each_read.server refl (reading_flight read) (stream_unasked read by) no_stream_limit refl
+
+none_read : control_waits credit_read.server.waiting.frames (LimitOf (StreamData 0)) ≡ false
+unfolding credit_taken
+none_read = refl
+
+other_limit_read : limit_at_each_read ≡ credit_read → ⊥
+other_limit_read e = let clash : true ≡ false = ap (λ (w : World). control_waits w.server.waiting.frames (LimitOf (StreamData 0))) e ∙ none_read in cc
+
+read_to : (read : ReadCall) → ReadsEight read → NeverEnds (λ w. limit_at_each_read ≡ w) narrow_bytes (take 6 (raised_events read)) (take 6 raised_told)
+read_to read by = step_on refl credit.opens (step_on refl credit.writes (step_on refl credit.gives (step_on refl credit.takes (step_on refl credit.accepts (step_on refl (credit.reads read by) (ends_here other_limit_read))))))
+
+pub never_stream_limit : (read : ReadCall) → ReadsEight read → NeverComes (take 6 (raised_events read)) (take 6 raised_told) limit_at_each_read
+never_stream_limit read by views f = (read_to read by).never views limit_at_each_read f refl
+
+-- at the read of a word
+word_flight : (read : ReadCall) → (word_seen read).before.flight.flying ≡ (word_seen read).behind.flight.flying
+unfolding once_taken
+word_flight read = refl
+
+all_zero : (read : ReadCall) → asks_for (word_seen (record read { id = 0 })) (LimitOf AllData) ≡ false
+unfolding once_taken
+all_zero read = refl
+
+all_unasked : (read : ReadCall) → ReadsBy two_chunks read → asks_for (word_seen read) (LimitOf AllData) ≡ false
+all_unasked read by = subst (λ (id : ℕ). asks_for (word_seen (record read { id = id })) (LimitOf AllData) ≡ false) (sym by.id) (all_zero read)
+
+no_all_limit : control_waits once_accepted.server.waiting.frames (LimitOf AllData) ≡ false
+unfolding once_taken
+no_all_limit = refl
+
+pub all_limit_shows : (read : ReadCall) → ReadsBy two_chunks read → BeginsAt (word_seen read) once_accepted.server all_at_each_read.server → ⊥
+all_limit_shows read by = control_unasked (word_seen read) (LimitOf AllData) once_accepted.server all_at_each_read.server refl (word_flight read) (all_unasked read by) no_all_limit refl
+
+none_of_all : control_waits once_read.server.waiting.frames (LimitOf AllData) ≡ false
+unfolding once_taken
+none_of_all = refl
+
+other_all_read : all_at_each_read ≡ once_read → ⊥
+other_all_read e = let clash : true ≡ false = ap (λ (w : World). control_waits w.server.waiting.frames (LimitOf AllData)) e ∙ none_of_all in cc
+
+word_to : (read : ReadCall) → ReadsBy two_chunks read → NeverEnds (λ w. all_at_each_read ≡ w) started (worked_events read) worked_answers
+word_to read by = step_on refl word.opens (step_on refl word.writes (step_on refl word.finishes (step_on refl word.gives (step_on refl word.takes (step_on refl word.drops_duplicate (step_on refl word.accepts (step_on refl (word.reads read by) (ends_here other_all_read))))))))
+
+pub never_all_limit : (read : ReadCall) → ReadsBy two_chunks read → NeverRead read all_at_each_read
+never_all_limit read by views f = (word_to read by).never views all_at_each_read f refl
 
 -- at the call that asks for PING
 control_shows : (c : Control) (e : End) (read : ReadCall) → asks_for (pinging_seen read) c ≡ false → control_waits credit_given.server.waiting.frames c ≡ false → control_waits e.waiting.frames c ≡ true
@@ -411,6 +528,79 @@ not_at_once = step_on refl client_tells (step_on refl server_tells (step_on refl
 
 pub never_at_once : NeverBrought retires_at_once
 never_at_once views f = not_at_once.never views retires_at_once f refl
+
+-- ---- ids for one that is retired
+
+-- one is issued for it, and no other
+second_unasked : asks_for retired_seen (NewId 9) ≡ false
+unfolding client_acked
+second_unasked = refl
+
+-- and none that was told before
+old_unasked : asks_for retired_seen (NewId 1) ≡ false
+unfolding client_acked
+old_unasked = refl
+
+-- nor any where the retirement is repeated
+repeat_unasked : asks_for repeated_seen (NewId 9) ≡ false
+unfolding client_acked
+repeat_unasked = refl
+
+-- what was in flight is acknowledged with it
+all_named : retired_seen.before.flight.flying ≡ acknowledged_by retired_seen
+unfolding client_acked
+all_named = refl
+
+repeat_flight : repeated_seen.before.flight.flying ≡ repeated_seen.behind.flight.flying
+unfolding client_acked
+repeat_flight = refl
+
+-- so an id that waits behind it and didn't before breaks the clause, unless it is called for
+ids_unasked : (number : ℕ) (e : End) → asks_for retired_seen (NewId number) ≡ false → control_waits (once_renamed 5).server.waiting.frames (NewId number) ≡ false → control_waits e.waiting.frames (NewId number) ≡ true → BeginsAt retired_seen (once_renamed 5).server e → ⊥
+ids_unasked number e unasked none waits h = elim (h (Frame (NewId number)) waits) [
+  | still waited stays ↦ both_ways (control_waits (once_renamed 5).server.waiting.frames (NewId number)) none waited
+  | begins cause ↦ elim cause [
+    | inl asks ↦ both_ways (asks_for retired_seen (NewId number)) unasked asks
+    | inr other ↦ elim other [
+      | inl lost ↦ lost.unnamed (subst (λ (ss : List Sent). In lost.sent ss) all_named lost.flew)
+      | inr probed ↦ both_ways (is_poll retired_seen.now.call) refl probed.polls
+    ]
+  ]
+]
+
+no_ninth : control_waits (once_renamed 5).server.waiting.frames (NewId 9) ≡ false
+unfolding once_renamed
+no_ninth = refl
+
+no_first : control_waits (once_renamed 5).server.waiting.frames (NewId 1) ≡ false
+unfolding once_renamed
+no_first = refl
+
+one_waits : control_waits (once_renamed 6).server.waiting.frames (NewId 9) ≡ false
+unfolding once_renamed
+one_waits = refl
+
+first_gone : control_waits (once_renamed 6).server.waiting.frames (NewId 1) ≡ false
+unfolding once_renamed
+first_gone = refl
+
+pub two_show : BeginsAt retired_seen (once_renamed 5).server issues_two.server → ⊥
+two_show = ids_unasked 9 issues_two.server second_unasked no_ninth refl
+
+pub again_shows : BeginsAt retired_seen (once_renamed 5).server tells_again.server → ⊥
+again_shows = ids_unasked 1 tells_again.server old_unasked no_first refl
+
+pub repeated_shows : BeginsAt repeated_seen (once_renamed 6).server issues_two.server → ⊥
+repeated_shows = control_unasked repeated_seen (NewId 9) (once_renamed 6).server issues_two.server refl repeat_flight repeat_unasked one_waits refl
+
+retired_to : (bad : World) → (bad ≡ once_renamed 6 → ⊥) → NeverEnds (λ w. bad ≡ w) both_steady (take 6 renaming_events) (take 6 renaming_answers)
+retired_to bad other = step_on refl client_tells (step_on refl server_tells (step_on refl client_takes (step_on refl client_uses (step_on refl client_gives (step_on refl server_takes (ends_here other))))))
+
+pub never_two : NeverRetired issues_two
+never_two views f = (retired_to issues_two (λ e. (let clash : true ≡ false = ap (λ (w : World). control_waits w.server.waiting.frames (NewId 9)) e ∙ one_waits in cc))).never views issues_two f refl
+
+pub never_again : NeverRetired tells_again
+never_again views f = (retired_to tells_again (λ e. (let clash : true ≡ false = ap (λ (w : World). control_waits w.server.waiting.frames (NewId 1)) e ∙ first_gone in cc))).never views tells_again f refl
 
 id_unasked : (read : ReadCall) → asks_for (pinging_seen read) (NewId 1) ≡ false
 unfolding limit_came

@@ -220,6 +220,10 @@ count_started = record {
   server_heard = refl;
 }
 
+-- both ends were made so
+pub counts_started : AreStarted narrow_count
+counts_started = count_started
+
 one_at_once : most_at_once Uni (making_at Server narrow_count count_started).settings ≡ 1
 unfolding count_started
 one_at_once = refl

@@ -216,7 +216,7 @@ pub gives_back : IsStep worked_policies count_read asks_server (gives_bytes 229)
 unfolding count_given
 gives_back = record { answer = inl refl; end = refl; control = refl; heard = counts_so worked_policies count_read asks_server (gives_bytes 229); openings = tt; others = refl; lacking = tt }
 
-counts_hear : IsStep worked_policies count_given client_hears (answers.Deliver receives.Taken) count_heard
+pub counts_hear : IsStep worked_policies count_given client_hears (answers.Deliver receives.Taken) count_heard
 unfolding count_heard
 counts_hear = record { answer = inl refl; end = refl; control = refl; heard = counts_so worked_policies count_given client_hears (answers.Deliver receives.Taken); openings = tt; others = refl; lacking = tt }
 
@@ -224,27 +224,27 @@ opens_next : IsStep worked_policies count_heard opens_one_way (answers.Open (Som
 unfolding count_heard
 opens_next = record { answer = refl; end = refl; control = refl; heard = counts_so worked_policies count_heard opens_one_way (answers.Open (Some 6)); openings = tt; others = refl; lacking = tt }
 
-count_sent_seen : one_sent ≡ view_of count_sent
+pub count_sent_seen : one_sent ≡ view_of count_sent
 unfolding count_sent
 count_sent_seen = refl
 
-count_taken_seen : one_taken ≡ view_of count_taken
+pub count_taken_seen : one_taken ≡ view_of count_taken
 unfolding count_taken
 count_taken_seen = refl
 
-count_accepted_seen : one_taken ≡ view_of count_accepted
+pub count_accepted_seen : one_taken ≡ view_of count_accepted
 unfolding count_taken
 count_accepted_seen = refl
 
-count_read_seen : one_taken ≡ view_of count_read
+pub count_read_seen : one_taken ≡ view_of count_read
 unfolding count_taken
 count_read_seen = refl
 
-count_given_seen : both_sent ≡ view_of count_given
+pub count_given_seen : both_sent ≡ view_of count_given
 unfolding count_given
 count_given_seen = refl
 
-count_heard_seen : one_heard ≡ view_of count_heard
+pub count_heard_seen : one_heard ≡ view_of count_heard
 unfolding count_heard
 count_heard_seen = refl
 
@@ -314,7 +314,7 @@ back_no (inl e) = cc
 back_no (inr e) = cc
 
 -- behind the read
-behind_count : {events : List RunEvent} {told : List Answer} → (read : ReadCall) → ReadsOneWay read → NeverAnswers count_read events told
+pub behind_count : {events : List RunEvent} {told : List Answer} → (read : ReadCall) → ReadsOneWay read → NeverAnswers count_read events told
     → NeverAnswers narrow_count (count_front ++ reads_stream read ∷ events) (take 8 count_answers ++ told)
 behind_count read by not_so =
     behind refl counts_open (behind refl refuses_second (behind refl counts_write (behind refl counts_end (behind refl counts_give (behind refl counts_take (behind refl counts_accept (behind refl (counts_read read by) not_so)))))))

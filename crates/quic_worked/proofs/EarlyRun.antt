@@ -176,7 +176,7 @@ answer_came : AnswerCame early_run Server 10 id_word
 answer_came = record { packet = response_packet; came = subst (λ (ps : List Packet). In response_packet ps) (sym came_alone) (inl refl); answers = inl refl }
 
 pub was_answered : WasAnswered early_run Server 10
-was_answered = record { token = id_word; came = answer_came; right = inr (inl may_ask) }
+was_answered = record { token = id_word; came = answer_came; right = inr (inl may_ask, inl (0, refl)) }
 
 pub not_before : (seen_at early_run Server 10).validated ≡ false
 not_before = refl

@@ -51,7 +51,7 @@ use Rattle.quic_worked.proofs.Steps.{counts_so}
 
 -- ---- an application closes
 
-closes : IsStep worked_policies started (closes_by 7) answers.Close (once_closed 1)
+pub closes : IsStep worked_policies started (closes_by 7) answers.Close (once_closed 1)
 unfolding once_closed
 closes = record { answer = refl; end = refl; control = refl; heard = counts_so worked_policies started (closes_by 7) answers.Close; openings = tt; others = refl; lacking = tt }
 
@@ -63,7 +63,7 @@ takes_close : IsStep worked_policies (once_closed 2) delivers (answers.Deliver r
 unfolding once_closed application_close_at
 takes_close = record { answer = inl refl; end = refl; control = refl; heard = counts_so worked_policies (once_closed 2) delivers (answers.Deliver receives.Taken); openings = tt; others = refl; lacking = tt }
 
-closed_seen : record { client = closing_view; server = server_open } ≡ view_of (once_closed 1)
+pub closed_seen : record { client = closing_view; server = server_open } ≡ view_of (once_closed 1)
 unfolding once_closed
 closed_seen = refl
 

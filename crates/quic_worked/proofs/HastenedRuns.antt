@@ -1,6 +1,6 @@
 -- A probe of losses has IMMEDIATE_ACK, where the peer takes it; and a machine that gives one
 -- without it.
-use Rattle.std.proofs.Common.{◌≡◌, ◌<◌, ℕ, zero, suc, true, false, List, [], ◌∷◌, ◌++◌, Some, refl, inl, inr, sym, ap, ◌∙◌, subst, arith}
+use Rattle.std.proofs.Common.{◌≡◌, ◌<◌, ℕ, zero, suc, true, false, List, [], ◌∷◌, ◌++◌, Some, refl, inl, inr, sym, ap, ◌∙◌, subst, arith, drop}
 use Rattle.std.specs.List.{list_any}
 use Rattle.quic_wire_core.specs.declared.stream_id.Side.{Side}
 use Rattle.quic_wire_core.specs.declared.stream_id.Side.TheVariants.{Client, Server}
@@ -18,10 +18,11 @@ use Rattle.quic_worked.specs.Timed.{asks_at}
 use Rattle.quic_worked.specs.Asking.{request, first_sent}
 use Rattle.quic_worked.specs.Obeying.{once_probing, probing_run}
 use Rattle.quic_worked.specs.Hastened.{probe_sent, unhastened_run, unhastened_sent}
+use Rattle.quic_worked.proofs.ObeyingRuns as obeying
+use Rattle.quic_worked.proofs.Rows.{stops_behind}
 use Rattle.quic_worked.proofs.AskingRuns as asked
-use Rattle.quic_worked.proofs.BrokenRuns.{IsRefused, stops, behind}
+use Rattle.quic_worked.proofs.BrokenRuns.{IsRefused, stops}
 use Rattle.quic_worked.proofs.MessageRuns.{given_bytes}
-use Rattle.quic_worked.proofs.ObeyingRuns.{probing_0, probing_1}
 use Rattle.quic_worked.proofs.OwnIds.{AreOwn, own_ids}
 use Rattle.quic_worked.proofs.Unpolled.{unpolled}
 use Rattle.quic_worked.proofs.WorkedKeys.{are_keys}
@@ -91,4 +92,5 @@ unhastened_no (inl e) = let clash : ◌≡◌ {A = ℕ} 229 230 = ap given_bytes
 unhastened_no (inr e) = cc
 
 pub unhastened_is_none : IsNoRun unhastened_run
-unhastened_is_none = behind refl probing_0 (behind refl probing_1 (stops _ _ _ _ _ unhastened_no))
+unfolding once_probing
+unhastened_is_none = stops_behind 2 probing_run.start probing_run.events (drop 2 unhastened_run.events) probing_run.answers (drop 2 unhastened_run.answers) probing_run.views obeying.probing_rows (stops _ _ _ _ _ unhastened_no)

@@ -1,5 +1,6 @@
 pub mod Codes
 mod Steps
+mod Rows
 mod Unmoved
 mod AllValidated
 mod Waited
@@ -28,11 +29,13 @@ mod PairedMachines
 mod PickedRun
 pub mod CreditRuns
 pub mod RaisedRun
+mod RaisingRun
 mod ChunkedRun
 pub mod TimedRun
 mod MeasuredRun
 mod LastTold
 mod HalvedRun
+mod GoingRun
 mod CongestedRun
 mod WidenedRun
 mod SkippedRun
@@ -94,3 +97,13 @@ mod ShortenedRun
 mod SaidRun
 mod SampledRun
 mod ConfirmedRun
+mod ArrivedRun
+mod LimitArrivedRun
+mod ShutRuns
+mod LossRuns
+mod CodedRuns
+mod AvailableRun
+mod OpeningRuns
+mod SmoothedRun
+mod CollapsedRun
+mod QuestionedRun

@@ -22,16 +22,16 @@ use Rattle.quic_headline.specs.Headline.{IsHonest, IsRun}
 use Rattle.quic_headline.specs.Polls.{seen_at, flying, bytes_flying, IsByteToGo, IsFull, IsPaced, IsLimited, PollsSendWhatWaits}
 use Rattle.quic_headline.specs.Spread.{named_at, PacerIsOfHistory}
 use Rattle.quic_headline.specs.Validated.{asking, ValidatedByAnswer}
-use Rattle.quic_worked.specs.Worked.{worked_policies, both_steady, asks_datagram, delivers, gives_bytes, open_view, sent_view, view_within, waiting_view}
+use Rattle.quic_worked.specs.Worked.{worked_policies, asks_datagram, gives_bytes, open_view, sent_view, view_within}
 use Rattle.quic_worked.specs.Acknowledged.{client_acked}
 use Rattle.quic_worked.specs.Broken.{IsNoRun}
 use Rattle.quic_worked.specs.Losses.{asks_ping}
 use Rattle.quic_worked.specs.Paired.{asks_server}
-use Rattle.quic_worked.specs.Reordered.{delivers_at}
 use Rattle.quic_worked.specs.Held.{gives_nothing}
-use Rattle.quic_worked.specs.Unvalidated.{asks_state, tells_state, response_packet, other_word}
-use Rattle.quic_worked.specs.Migrated.{comes_from, injects_from, no_fixed_bit, gives_to, moved_view, asked_view}
-use Rattle.quic_worked.specs.Moved.{twice_events, twice_answers, once_twice, twice_sent, twice_run, kept_events, kept_answers, once_kept, kept_sent, kept_run, narrow_ends, full_events, full_answers, once_full, full_frame, full_sent, full_view, full_run, keeps_old_flight, keeps_old_pacer, old_answer_validates}
+use Rattle.quic_worked.specs.Unvalidated.{response_packet, other_word}
+use Rattle.quic_worked.specs.Migrated.{comes_from, injects_from, no_fixed_bit}
+use Rattle.quic_worked.specs.Moved.{once_twice, twice_sent, twice_run, once_kept, kept_sent, kept_run, narrow_ends, full_events, full_answers, once_full, full_frame, full_sent, full_view, full_run, keeps_old_flight, keeps_old_pacer, old_answer_validates}
+use Rattle.quic_worked.proofs.Rows.{Rows, rows_follow}
 use Rattle.quic_worked.proofs.Codes.{no_codes}
 use Rattle.quic_worked.proofs.OwnIds.{AreOwn, own_ids, honest_steady}
 use Rattle.quic_worked.proofs.BrokenRuns.{IsRefused, behind, stops}
@@ -43,138 +43,13 @@ use Rattle.quic_worked.proofs.Steps.{StepsSo, steps_at}
 
 -- ---- to another address and back
 
-twice_0 : IsStep worked_policies (once_twice 0) asks_ping answers.Ping (once_twice 1)
+twice_rows : Rows twice_run.keys twice_run.start twice_run.events twice_run.answers twice_run.views
 unfolding client_acked
-twice_0 =
-    let s : StepsSo worked_policies (once_twice 0) asks_ping answers.Ping (once_twice 1) = steps_at worked_policies both_steady twice_events twice_answers 0 asks_ping answers.Ping _ _ refl refl refl in
-    record { answer = refl; end = s.end; control = s.control; heard = s.heard; openings = tt; others = s.others; lacking = tt }
-
-twice_seen_0 : record { client = open_view; server = open_view } ≡ view_of (once_twice 1)
-unfolding client_acked
-twice_seen_0 = refl
-
-twice_1 : IsStep worked_policies (once_twice 1) asks_datagram (gives_bytes 223) (once_twice 2)
-unfolding client_acked
-twice_1 =
-    let s : StepsSo worked_policies (once_twice 1) asks_datagram (gives_bytes 223) (once_twice 2) = steps_at worked_policies both_steady twice_events twice_answers 1 asks_datagram (gives_bytes 223) _ _ refl refl refl in
-    record { answer = inl refl; end = s.end; control = s.control; heard = s.heard; openings = tt; others = s.others; lacking = tt }
-
-twice_seen_1 : record { client = sent_view; server = open_view } ≡ view_of (once_twice 2)
-unfolding client_acked
-twice_seen_1 = refl
-
-twice_2 : IsStep worked_policies (once_twice 2) delivers (answers.Deliver receives.Taken) (once_twice 3)
-unfolding client_acked
-twice_2 =
-    let s : StepsSo worked_policies (once_twice 2) delivers (answers.Deliver receives.Taken) (once_twice 3) = steps_at worked_policies both_steady twice_events twice_answers 2 delivers (answers.Deliver receives.Taken) _ _ refl refl refl in
-    record { answer = inl refl; end = s.end; control = s.control; heard = s.heard; openings = tt; others = s.others; lacking = tt }
-
-twice_seen_2 : record { client = sent_view; server = waiting_view } ≡ view_of (once_twice 3)
-unfolding client_acked
-twice_seen_2 = refl
-
-twice_3 : IsStep worked_policies (once_twice 3) asks_ping answers.Ping (once_twice 4)
-unfolding client_acked
-twice_3 =
-    let s : StepsSo worked_policies (once_twice 3) asks_ping answers.Ping (once_twice 4) = steps_at worked_policies both_steady twice_events twice_answers 3 asks_ping answers.Ping _ _ refl refl refl in
-    record { answer = refl; end = s.end; control = s.control; heard = s.heard; openings = tt; others = s.others; lacking = tt }
-
-twice_seen_3 : record { client = sent_view; server = waiting_view } ≡ view_of (once_twice 4)
-unfolding client_acked
-twice_seen_3 = refl
-
-twice_4 : IsStep worked_policies (once_twice 4) asks_datagram (gives_bytes 29) (once_twice 5)
-unfolding client_acked
-twice_4 =
-    let s : StepsSo worked_policies (once_twice 4) asks_datagram (gives_bytes 29) (once_twice 5) = steps_at worked_policies both_steady twice_events twice_answers 4 asks_datagram (gives_bytes 29) _ _ refl refl refl in
-    record { answer = inl refl; end = s.end; control = s.control; heard = s.heard; openings = tt; others = s.others; lacking = tt }
-
-twice_seen_4 : record { client = sent_view; server = waiting_view } ≡ view_of (once_twice 5)
-unfolding client_acked
-twice_seen_4 = refl
-
-twice_5 : IsStep worked_policies (once_twice 5) (comes_from 9 1) (answers.Deliver receives.Taken) (once_twice 6)
-unfolding client_acked
-twice_5 =
-    let s : StepsSo worked_policies (once_twice 5) (comes_from 9 1) (answers.Deliver receives.Taken) (once_twice 6) = steps_at worked_policies both_steady twice_events twice_answers 5 (comes_from 9 1) (answers.Deliver receives.Taken) _ _ refl refl refl in
-    record { answer = inl refl; end = s.end; control = s.control; heard = s.heard; openings = tt; others = s.others; lacking = tt }
-
-twice_seen_5 : moved_view ≡ view_of (once_twice 6)
-unfolding client_acked
-twice_seen_5 = refl
-
-twice_6 : IsStep worked_policies (once_twice 6) asks_ping answers.Ping (once_twice 7)
-unfolding client_acked
-twice_6 =
-    let s : StepsSo worked_policies (once_twice 6) asks_ping answers.Ping (once_twice 7) = steps_at worked_policies both_steady twice_events twice_answers 6 asks_ping answers.Ping _ _ refl refl refl in
-    record { answer = refl; end = s.end; control = s.control; heard = s.heard; openings = tt; others = s.others; lacking = tt }
-
-twice_seen_6 : moved_view ≡ view_of (once_twice 7)
-unfolding client_acked
-twice_seen_6 = refl
-
-twice_7 : IsStep worked_policies (once_twice 7) asks_datagram (gives_bytes 29) (once_twice 8)
-unfolding client_acked
-twice_7 =
-    let s : StepsSo worked_policies (once_twice 7) asks_datagram (gives_bytes 29) (once_twice 8) = steps_at worked_policies both_steady twice_events twice_answers 7 asks_datagram (gives_bytes 29) _ _ refl refl refl in
-    record { answer = inl refl; end = s.end; control = s.control; heard = s.heard; openings = tt; others = s.others; lacking = tt }
-
-twice_seen_7 : moved_view ≡ view_of (once_twice 8)
-unfolding client_acked
-twice_seen_7 = refl
-
-twice_8 : IsStep worked_policies (once_twice 8) (delivers_at 2) (answers.Deliver receives.Taken) (once_twice 9)
-unfolding client_acked
-twice_8 =
-    let s : StepsSo worked_policies (once_twice 8) (delivers_at 2) (answers.Deliver receives.Taken) (once_twice 9) = steps_at worked_policies both_steady twice_events twice_answers 8 (delivers_at 2) (answers.Deliver receives.Taken) _ _ refl refl refl in
-    record { answer = inl refl; end = s.end; control = s.control; heard = s.heard; openings = tt; others = s.others; lacking = tt }
-
-twice_seen_8 : moved_view ≡ view_of (once_twice 9)
-unfolding client_acked
-twice_seen_8 = refl
-
-twice_9 : IsStep worked_policies (once_twice 9) asks_state (tells_state false) (once_twice 10)
-unfolding client_acked
-twice_9 =
-    let s : StepsSo worked_policies (once_twice 9) asks_state (tells_state false) (once_twice 10) = steps_at worked_policies both_steady twice_events twice_answers 9 asks_state (tells_state false) _ _ refl refl refl in
-    record { answer = refl; end = s.end; control = s.control; heard = s.heard; openings = tt; others = s.others; lacking = tt }
-
-twice_seen_9 : moved_view ≡ view_of (once_twice 10)
-unfolding client_acked
-twice_seen_9 = refl
-
-twice_10 : IsStep worked_policies (once_twice 10) asks_server gives_nothing (once_twice 11)
-unfolding client_acked
-twice_10 =
-    let s : StepsSo worked_policies (once_twice 10) asks_server gives_nothing (once_twice 11) = steps_at worked_policies both_steady twice_events twice_answers 10 asks_server gives_nothing _ _ refl refl refl in
-    record { answer = inl refl; end = s.end; control = s.control; heard = s.heard; openings = tt; others = s.others; lacking = tt }
-
-twice_seen_10 : moved_view ≡ view_of (once_twice 11)
-unfolding client_acked
-twice_seen_10 = refl
-
-twice_11 : IsStep worked_policies (once_twice 11) (injects_from Server 0 (replicate 371 0x00)) no_fixed_bit (once_twice 12)
-unfolding client_acked
-twice_11 =
-    let s : StepsSo worked_policies (once_twice 11) (injects_from Server 0 (replicate 371 0x00)) no_fixed_bit (once_twice 12) = steps_at worked_policies both_steady twice_events twice_answers 11 (injects_from Server 0 (replicate 371 0x00)) no_fixed_bit _ _ refl refl refl in
-    record { answer = refl; end = s.end; control = s.control; heard = s.heard; openings = tt; others = s.others; lacking = tt }
-
-twice_seen_11 : moved_view ≡ view_of (once_twice 12)
-unfolding client_acked
-twice_seen_11 = refl
-
-twice_12 : IsStep worked_policies (once_twice 12) asks_server (gives_bytes 1200) (once_twice 13)
-unfolding client_acked
-twice_12 =
-    let s : StepsSo worked_policies (once_twice 12) asks_server (gives_bytes 1200) (once_twice 13) = steps_at worked_policies both_steady twice_events twice_answers 12 asks_server (gives_bytes 1200) _ _ refl refl refl in
-    record { answer = inl refl; end = s.end; control = s.control; heard = s.heard; openings = tt; others = s.others; lacking = tt }
-
-twice_seen_12 : asked_view ≡ view_of (once_twice 13)
-unfolding client_acked
-twice_seen_12 = refl
+twice_rows = ((refl, tt, tt, refl, refl), ((inl refl, tt, tt, refl, refl), ((inl refl, tt, tt, refl, refl), ((refl, tt, tt, refl, refl), ((inl refl, tt, tt, refl, refl), ((inl refl, tt, tt, refl, refl), ((refl, tt, tt, refl, refl), ((inl refl, tt, tt, refl, refl), ((inl refl, tt, tt, refl, refl), ((refl, tt, tt, refl, refl), ((inl refl, tt, tt, refl, refl), ((refl, tt, tt, refl, refl), ((inl refl, tt, tt, refl, refl), tt)))))))))))))
 
 twice_follows : Follows twice_run.keys twice_run.start twice_run.events twice_run.answers twice_run.views (once_twice 13)
-twice_follows = (once_twice 1, twice_0, twice_seen_0, (once_twice 2, twice_1, twice_seen_1, (once_twice 3, twice_2, twice_seen_2, (once_twice 4, twice_3, twice_seen_3, (once_twice 5, twice_4, twice_seen_4, (once_twice 6, twice_5, twice_seen_5, (once_twice 7, twice_6, twice_seen_6, (once_twice 8, twice_7, twice_seen_7, (once_twice 9, twice_8, twice_seen_8, (once_twice 10, twice_9, twice_seen_9, (once_twice 11, twice_10, twice_seen_10, (once_twice 12, twice_11, twice_seen_11, (once_twice 13, twice_12, twice_seen_12, refl)))))))))))))
+unfolding client_acked
+twice_follows = rows_follow twice_run.keys twice_run.start twice_run.events twice_run.answers twice_run.views twice_rows
 
 twice_gave_three : twice_run.from_client ≡ (once_twice 13).from_client
 unfolding client_acked
@@ -219,78 +94,13 @@ twice_went = refl
 
 -- ---- no other id is known
 
-kept_0 : IsStep worked_policies (once_kept 0) asks_ping answers.Ping (once_kept 1)
+kept_rows : Rows kept_run.keys kept_run.start kept_run.events kept_run.answers kept_run.views
 unfolding client_acked
-kept_0 =
-    let s : StepsSo worked_policies (once_kept 0) asks_ping answers.Ping (once_kept 1) = steps_at worked_policies both_steady kept_events kept_answers 0 asks_ping answers.Ping _ _ refl refl refl in
-    record { answer = refl; end = s.end; control = s.control; heard = s.heard; openings = tt; others = s.others; lacking = tt }
-
-kept_seen_0 : record { client = open_view; server = open_view } ≡ view_of (once_kept 1)
-unfolding client_acked
-kept_seen_0 = refl
-
-kept_1 : IsStep worked_policies (once_kept 1) asks_datagram (gives_bytes 223) (once_kept 2)
-unfolding client_acked
-kept_1 =
-    let s : StepsSo worked_policies (once_kept 1) asks_datagram (gives_bytes 223) (once_kept 2) = steps_at worked_policies both_steady kept_events kept_answers 1 asks_datagram (gives_bytes 223) _ _ refl refl refl in
-    record { answer = inl refl; end = s.end; control = s.control; heard = s.heard; openings = tt; others = s.others; lacking = tt }
-
-kept_seen_1 : record { client = sent_view; server = open_view } ≡ view_of (once_kept 2)
-unfolding client_acked
-kept_seen_1 = refl
-
-kept_2 : IsStep worked_policies (once_kept 2) asks_ping answers.Ping (once_kept 3)
-unfolding client_acked
-kept_2 =
-    let s : StepsSo worked_policies (once_kept 2) asks_ping answers.Ping (once_kept 3) = steps_at worked_policies both_steady kept_events kept_answers 2 asks_ping answers.Ping _ _ refl refl refl in
-    record { answer = refl; end = s.end; control = s.control; heard = s.heard; openings = tt; others = s.others; lacking = tt }
-
-kept_seen_2 : record { client = sent_view; server = open_view } ≡ view_of (once_kept 3)
-unfolding client_acked
-kept_seen_2 = refl
-
-kept_3 : IsStep worked_policies (once_kept 3) asks_datagram (gives_bytes 29) (once_kept 4)
-unfolding client_acked
-kept_3 =
-    let s : StepsSo worked_policies (once_kept 3) asks_datagram (gives_bytes 29) (once_kept 4) = steps_at worked_policies both_steady kept_events kept_answers 3 asks_datagram (gives_bytes 29) _ _ refl refl refl in
-    record { answer = inl refl; end = s.end; control = s.control; heard = s.heard; openings = tt; others = s.others; lacking = tt }
-
-kept_seen_3 : record { client = sent_view; server = open_view } ≡ view_of (once_kept 4)
-unfolding client_acked
-kept_seen_3 = refl
-
-kept_4 : IsStep worked_policies (once_kept 4) (comes_from 9 1) (answers.Deliver receives.Taken) (once_kept 5)
-unfolding client_acked
-kept_4 =
-    let s : StepsSo worked_policies (once_kept 4) (comes_from 9 1) (answers.Deliver receives.Taken) (once_kept 5) = steps_at worked_policies both_steady kept_events kept_answers 4 (comes_from 9 1) (answers.Deliver receives.Taken) _ _ refl refl refl in
-    record { answer = inl refl; end = s.end; control = s.control; heard = s.heard; openings = tt; others = s.others; lacking = tt }
-
-kept_seen_4 : moved_view ≡ view_of (once_kept 5)
-unfolding client_acked
-kept_seen_4 = refl
-
-kept_5 : IsStep worked_policies (once_kept 5) (injects_from Server 9 (replicate 371 0x00)) no_fixed_bit (once_kept 6)
-unfolding client_acked
-kept_5 =
-    let s : StepsSo worked_policies (once_kept 5) (injects_from Server 9 (replicate 371 0x00)) no_fixed_bit (once_kept 6) = steps_at worked_policies both_steady kept_events kept_answers 5 (injects_from Server 9 (replicate 371 0x00)) no_fixed_bit _ _ refl refl refl in
-    record { answer = refl; end = s.end; control = s.control; heard = s.heard; openings = tt; others = s.others; lacking = tt }
-
-kept_seen_5 : moved_view ≡ view_of (once_kept 6)
-unfolding client_acked
-kept_seen_5 = refl
-
-kept_6 : IsStep worked_policies (once_kept 6) asks_server (gives_to 9 1200) (once_kept 7)
-unfolding client_acked
-kept_6 =
-    let s : StepsSo worked_policies (once_kept 6) asks_server (gives_to 9 1200) (once_kept 7) = steps_at worked_policies both_steady kept_events kept_answers 6 asks_server (gives_to 9 1200) _ _ refl refl refl in
-    record { answer = inl refl; end = s.end; control = s.control; heard = s.heard; openings = tt; others = s.others; lacking = tt }
-
-kept_seen_6 : asked_view ≡ view_of (once_kept 7)
-unfolding client_acked
-kept_seen_6 = refl
+kept_rows = ((refl, tt, tt, refl, refl), ((inl refl, tt, tt, refl, refl), ((refl, tt, tt, refl, refl), ((inl refl, tt, tt, refl, refl), ((inl refl, tt, tt, refl, refl), ((refl, tt, tt, refl, refl), ((inl refl, tt, tt, refl, refl), tt)))))))
 
 kept_follows : Follows kept_run.keys kept_run.start kept_run.events kept_run.answers kept_run.views (once_kept 7)
-kept_follows = (once_kept 1, kept_0, kept_seen_0, (once_kept 2, kept_1, kept_seen_1, (once_kept 3, kept_2, kept_seen_2, (once_kept 4, kept_3, kept_seen_3, (once_kept 5, kept_4, kept_seen_4, (once_kept 6, kept_5, kept_seen_5, (once_kept 7, kept_6, kept_seen_6, refl)))))))
+unfolding client_acked
+kept_follows = rows_follow kept_run.keys kept_run.start kept_run.events kept_run.answers kept_run.views kept_rows
 
 kept_gave_two : kept_run.from_client ≡ (once_kept 7).from_client
 unfolding client_acked

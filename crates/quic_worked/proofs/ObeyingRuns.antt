@@ -1,15 +1,13 @@
 -- The runs in which an end keeps to what its peer asks of how often to acknowledge, event by event,
 -- and machines with a bug that don't.
-use Rattle.std.proofs.Common.{◌≡◌, ℕ, true, false, List, [], ◌∷◌, Option, Some, None, Ok, refl, inl, inr, sym, ap, ◌∙◌, subst, arith}
+use Rattle.std.proofs.Common.{◌≡◌, ℕ, true, false, List, [], ◌∷◌, Option, Some, None, refl, inl, inr, sym, ap, ◌∙◌, subst, arith, drop}
 use Rattle.std.specs.Prelude.{slice_get}
 use Rattle.std.proofs.lemmas.Bool.{both_ways}
 use Rattle.quic_wire_core.specs.declared.stream_id.Side.{Side}
 use Rattle.quic_wire_core.specs.declared.stream_id.Side.TheVariants.{Client, Server}
 use Rattle.quic_wire.specs.Reading.{ack_frequency_at}
-use Rattle.quic_machine.specs.declared.answers.Received.TheVariants as receives
-use Rattle.quic_machine.specs.declared.run.Answer.TheVariants as answers
 use Rattle.quic_machine.specs.declared.run.View.{View}
-use Rattle.quic_machine.specs.Machine.{IsStep, Follows, view_of}
+use Rattle.quic_machine.specs.Machine.{Follows}
 use Rattle.quic_machine.specs.RunLaws.{one_run}
 use Rattle.quic_headline.specs.Runs.{Run, Packet, In}
 use Rattle.quic_headline.specs.Observer.{Sent, watch, sents_until}
@@ -19,147 +17,31 @@ use Rattle.quic_headline.specs.Rest.{unanswered, IsUnacknowledged}
 use Rattle.quic_headline.specs.AcksDue.{is_due, AcksAreDue}
 use Rattle.quic_headline.specs.Requests.{asking_at, requests_in, request_said, wants_anew}
 use Rattle.quic_headline.specs.Requested.{requested}
-use Rattle.quic_worked.specs.Worked.{worked_policies, gives_bytes, gives_unmarked}
+use Rattle.quic_worked.specs.Worked.{worked_policies}
 use Rattle.quic_worked.specs.Acknowledged.{client_acked}
 use Rattle.quic_worked.specs.Broken.{IsNoRun}
 use Rattle.quic_worked.specs.Held.{gives_nothing}
-use Rattle.quic_worked.specs.Losses.{asks_ping}
-use Rattle.quic_worked.specs.Timed.{serves, asks_at, comes_at, seen_with, NeverShows}
-use Rattle.quic_worked.specs.Asking.{comes_there, asks_within, asking_start, request}
-use Rattle.quic_worked.specs.Obeying.{answers_probing, probing_events, stale_answers, stale_events, once_stale, stale_until, stale_run, obeys_stale, once_probing, probe_packet, probing_run, probe_waits}
+use Rattle.quic_worked.specs.Timed.{asks_at, seen_with, NeverShows}
+use Rattle.quic_worked.specs.Asking.{asks_within, asking_start, request, once_asked}
+use Rattle.quic_worked.specs.Obeying.{once_stale, stale_until, stale_run, obeys_stale, once_probing, probe_packet, probing_run, probe_waits}
+use Rattle.quic_worked.proofs.Rows.{Rows, rows_follow, stops_behind}
 use Rattle.quic_worked.proofs.AskingRuns as asked
-use Rattle.quic_worked.proofs.BrokenRuns.{IsRefused, stops, behind}
+use Rattle.quic_worked.proofs.BrokenRuns.{IsRefused, stops}
 use Rattle.quic_worked.proofs.Codes.{no_codes}
 use Rattle.quic_worked.proofs.OwnIds.{AreOwn, own_ids}
-use Rattle.quic_worked.proofs.Steps.{StepsSo, steps_at}
 use Rattle.quic_worked.proofs.TimedRun.{ack_moment_of, moment_in}
 use Rattle.quic_worked.proofs.Validated.{unless_limited}
 use Rattle.quic_worked.proofs.WorkedKeys.{are_keys}
 
 -- ---- a request that comes behind a newer one
 
-stale_0 : IsStep worked_policies (asking_start 100000000) (asks_at Client 0) (gives_bytes 231) (once_stale 1)
-unfolding once_stale
-stale_0 =
-    let s : StepsSo worked_policies (asking_start 100000000) (asks_at Client 0) (gives_bytes 231) (once_stale 1) = steps_at worked_policies (asking_start 100000000) stale_events stale_answers 0 (asks_at Client 0) (gives_bytes 231) _ _ refl refl refl in
-    record { answer = inl refl; end = s.end; control = s.control; heard = s.heard; openings = tt; others = s.others; lacking = tt }
-
-stale_1 : IsStep worked_policies (once_stale 1) asks_ping answers.Ping (once_stale 2)
-unfolding once_stale
-stale_1 =
-    let s : StepsSo worked_policies (once_stale 1) asks_ping answers.Ping (once_stale 2) = steps_at worked_policies (asking_start 100000000) stale_events stale_answers 1 asks_ping answers.Ping _ _ refl refl refl in
-    record { answer = refl; end = s.end; control = s.control; heard = s.heard; openings = tt; others = s.others; lacking = tt }
-
-stale_2 : IsStep worked_policies (once_stale 2) (asks_at Client 0) (gives_bytes 29) (once_stale 3)
-unfolding once_stale
-stale_2 =
-    let s : StepsSo worked_policies (once_stale 2) (asks_at Client 0) (gives_bytes 29) (once_stale 3) = steps_at worked_policies (asking_start 100000000) stale_events stale_answers 2 (asks_at Client 0) (gives_bytes 29) _ _ refl refl refl in
-    record { answer = inl refl; end = s.end; control = s.control; heard = s.heard; openings = tt; others = s.others; lacking = tt }
-
-stale_3 : IsStep worked_policies (once_stale 3) (comes_there 1 10000000) (answers.Deliver receives.Taken) (once_stale 4)
-unfolding once_stale
-stale_3 =
-    let s : StepsSo worked_policies (once_stale 3) (comes_there 1 10000000) (answers.Deliver receives.Taken) (once_stale 4) = steps_at worked_policies (asking_start 100000000) stale_events stale_answers 3 (comes_there 1 10000000) (answers.Deliver receives.Taken) _ _ refl refl refl in
-    record { answer = inl refl; end = s.end; control = s.control; heard = s.heard; openings = tt; others = s.others; lacking = tt }
-
-stale_4 : IsStep worked_policies (once_stale 4) (serves Server 35000000) (answers.Timeout (Ok tt)) (once_stale 5)
-unfolding once_stale
-stale_4 =
-    let s : StepsSo worked_policies (once_stale 4) (serves Server 35000000) (answers.Timeout (Ok tt)) (once_stale 5) = steps_at worked_policies (asking_start 100000000) stale_events stale_answers 4 (serves Server 35000000) (answers.Timeout (Ok tt)) _ _ refl refl refl in
-    record { answer = inl refl; end = s.end; control = s.control; heard = s.heard; openings = tt; others = s.others; lacking = tt }
-
-stale_5 : IsStep worked_policies (once_stale 5) (asks_at Server 35000000) (gives_bytes 32) (once_stale 6)
-unfolding once_stale
-stale_5 =
-    let s : StepsSo worked_policies (once_stale 5) (asks_at Server 35000000) (gives_bytes 32) (once_stale 6) = steps_at worked_policies (asking_start 100000000) stale_events stale_answers 5 (asks_at Server 35000000) (gives_bytes 32) _ _ refl refl refl in
-    record { answer = inl refl; end = s.end; control = s.control; heard = s.heard; openings = tt; others = s.others; lacking = tt }
-
-stale_6 : IsStep worked_policies (once_stale 6) (comes_at Client 45000000) (answers.Deliver receives.Taken) (once_stale 7)
-unfolding once_stale
-stale_6 =
-    let s : StepsSo worked_policies (once_stale 6) (comes_at Client 45000000) (answers.Deliver receives.Taken) (once_stale 7) = steps_at worked_policies (asking_start 100000000) stale_events stale_answers 6 (comes_at Client 45000000) (answers.Deliver receives.Taken) _ _ refl refl refl in
-    record { answer = inl refl; end = s.end; control = s.control; heard = s.heard; openings = tt; others = s.others; lacking = tt }
-
-stale_7 : IsStep worked_policies (once_stale 7) (asks_at Client 45000000) (gives_unmarked 40) (once_stale 8)
-unfolding once_stale
-stale_7 =
-    let s : StepsSo worked_policies (once_stale 7) (asks_at Client 45000000) (gives_unmarked 40) (once_stale 8) = steps_at worked_policies (asking_start 100000000) stale_events stale_answers 7 (asks_at Client 45000000) (gives_unmarked 40) _ _ refl refl refl in
-    record { answer = inl refl; end = s.end; control = s.control; heard = s.heard; openings = tt; others = s.others; lacking = tt }
-
-stale_8 : IsStep worked_policies (once_stale 8) (comes_there 2 50000000) (answers.Deliver receives.Taken) (once_stale 9)
-unfolding once_stale
-stale_8 =
-    let s : StepsSo worked_policies (once_stale 8) (comes_there 2 50000000) (answers.Deliver receives.Taken) (once_stale 9) = steps_at worked_policies (asking_start 100000000) stale_events stale_answers 8 (comes_there 2 50000000) (answers.Deliver receives.Taken) _ _ refl refl refl in
-    record { answer = inl refl; end = s.end; control = s.control; heard = s.heard; openings = tt; others = s.others; lacking = tt }
-
-stale_9 : IsStep worked_policies (once_stale 9) (serves Server 95000000) (answers.Timeout (Ok tt)) (once_stale 10)
-unfolding once_stale
-stale_9 =
-    let s : StepsSo worked_policies (once_stale 9) (serves Server 95000000) (answers.Timeout (Ok tt)) (once_stale 10) = steps_at worked_policies (asking_start 100000000) stale_events stale_answers 9 (serves Server 95000000) (answers.Timeout (Ok tt)) _ _ refl refl refl in
-    record { answer = inl refl; end = s.end; control = s.control; heard = s.heard; openings = tt; others = s.others; lacking = tt }
-
-stale_10 : IsStep worked_policies (once_stale 10) (asks_at Server 95000000) (gives_unmarked 32) (once_stale 11)
-unfolding once_stale
-stale_10 =
-    let s : StepsSo worked_policies (once_stale 10) (asks_at Server 95000000) (gives_unmarked 32) (once_stale 11) = steps_at worked_policies (asking_start 100000000) stale_events stale_answers 10 (asks_at Server 95000000) (gives_unmarked 32) _ _ refl refl refl in
-    record { answer = inl refl; end = s.end; control = s.control; heard = s.heard; openings = tt; others = s.others; lacking = tt }
-
-stale_11 : IsStep worked_policies (once_stale 11) (comes_there 0 100000000) (answers.Deliver receives.Taken) (once_stale 12)
-unfolding once_stale
-stale_11 =
-    let s : StepsSo worked_policies (once_stale 11) (comes_there 0 100000000) (answers.Deliver receives.Taken) (once_stale 12) = steps_at worked_policies (asking_start 100000000) stale_events stale_answers 11 (comes_there 0 100000000) (answers.Deliver receives.Taken) _ _ refl refl refl in
-    record { answer = inl refl; end = s.end; control = s.control; heard = s.heard; openings = tt; others = s.others; lacking = tt }
-
-stale_seen_0 : seen_with (Some 1099000000) None ≡ view_of (once_stale 1)
-unfolding once_stale
-stale_seen_0 = refl
-
-stale_seen_1 : seen_with (Some 1099000000) None ≡ view_of (once_stale 2)
-unfolding once_stale
-stale_seen_1 = refl
-
-stale_seen_2 : seen_with (Some 1099000000) None ≡ view_of (once_stale 3)
-unfolding once_stale
-stale_seen_2 = refl
-
-stale_seen_3 : seen_with (Some 1099000000) (Some 35000000) ≡ view_of (once_stale 4)
-unfolding once_stale
-stale_seen_3 = refl
-
-stale_seen_4 : seen_with (Some 1099000000) None ≡ view_of (once_stale 5)
-unfolding once_stale
-stale_seen_4 = refl
-
-stale_seen_5 : seen_with (Some 1099000000) None ≡ view_of (once_stale 6)
-unfolding once_stale
-stale_seen_5 = refl
-
-stale_seen_6 : seen_with (Some 50625000) None ≡ view_of (once_stale 7)
-unfolding once_stale
-stale_seen_6 = refl
-
-stale_seen_7 : seen_with (Some 50625000) None ≡ view_of (once_stale 8)
-unfolding once_stale
-stale_seen_7 = refl
-
-stale_seen_8 : seen_with (Some 50625000) (Some 95000000) ≡ view_of (once_stale 9)
-unfolding once_stale
-stale_seen_8 = refl
-
-stale_seen_9 : seen_with (Some 50625000) None ≡ view_of (once_stale 10)
-unfolding once_stale
-stale_seen_9 = refl
-
-stale_seen_10 : seen_with (Some 50625000) None ≡ view_of (once_stale 11)
-unfolding once_stale
-stale_seen_10 = refl
-
-stale_seen_11 : seen_with (Some 50625000) (Some 145000000) ≡ view_of (once_stale 12)
-unfolding once_stale
-stale_seen_11 = refl
+stale_rows : Rows stale_run.keys stale_run.start stale_run.events stale_run.answers stale_run.views
+unfolding once_asked
+stale_rows = ((inl refl, tt, tt, refl, refl), ((refl, tt, tt, refl, refl), ((inl refl, tt, tt, refl, refl), ((inl refl, tt, tt, refl, refl), ((inl refl, tt, tt, refl, refl), ((inl refl, tt, tt, refl, refl), ((inl refl, tt, tt, refl, refl), ((inl refl, tt, tt, refl, refl), ((inl refl, tt, tt, refl, refl), ((inl refl, tt, tt, refl, refl), ((inl refl, tt, tt, refl, refl), ((inl refl, tt, tt, refl, refl), tt))))))))))))
 
 stale_follows : Follows stale_run.keys stale_run.start stale_run.events stale_run.answers stale_run.views (once_stale 12)
-stale_follows = (once_stale 1, stale_0, stale_seen_0, (once_stale 2, stale_1, stale_seen_1, (once_stale 3, stale_2, stale_seen_2, (once_stale 4, stale_3, stale_seen_3, (once_stale 5, stale_4, stale_seen_4, (once_stale 6, stale_5, stale_seen_5, (once_stale 7, stale_6, stale_seen_6, (once_stale 8, stale_7, stale_seen_7, (once_stale 9, stale_8, stale_seen_8, (once_stale 10, stale_9, stale_seen_9, (once_stale 11, stale_10, stale_seen_10, (once_stale 12, stale_11, stale_seen_11, refl))))))))))))
+unfolding once_stale
+stale_follows = rows_follow stale_run.keys stale_run.start stale_run.events stale_run.answers stale_run.views stale_rows
 
 stale_gave_three : stale_run.from_client ≡ (once_stale 12).from_client
 unfolding once_stale
@@ -217,58 +99,13 @@ never_obeys end f =
 
 -- ---- IMMEDIATE_ACK
 
-pub probing_0 : IsStep worked_policies (asking_start 10000000) (asks_at Client 0) (gives_bytes 229) (once_probing 1)
-unfolding once_probing
-probing_0 =
-    let s : StepsSo worked_policies (asking_start 10000000) (asks_at Client 0) (gives_bytes 229) (once_probing 1) = steps_at worked_policies (asking_start 10000000) probing_events (answers_probing (gives_bytes 31)) 0 (asks_at Client 0) (gives_bytes 229) _ _ refl refl refl in
-    record { answer = inl refl; end = s.end; control = s.control; heard = s.heard; openings = tt; others = s.others; lacking = tt }
-
-pub probing_1 : IsStep worked_policies (once_probing 1) (serves Client 1024000000) (answers.Timeout (Ok tt)) (once_probing 2)
-unfolding once_probing
-probing_1 =
-    let s : StepsSo worked_policies (once_probing 1) (serves Client 1024000000) (answers.Timeout (Ok tt)) (once_probing 2) = steps_at worked_policies (asking_start 10000000) probing_events (answers_probing (gives_bytes 31)) 1 (serves Client 1024000000) (answers.Timeout (Ok tt)) _ _ refl refl refl in
-    record { answer = inl refl; end = s.end; control = s.control; heard = s.heard; openings = tt; others = s.others; lacking = tt }
-
-probing_2 : IsStep worked_policies (once_probing 2) (asks_at Client 1024000000) (gives_bytes 230) (once_probing 3)
-unfolding once_probing
-probing_2 =
-    let s : StepsSo worked_policies (once_probing 2) (asks_at Client 1024000000) (gives_bytes 230) (once_probing 3) = steps_at worked_policies (asking_start 10000000) probing_events (answers_probing (gives_bytes 31)) 2 (asks_at Client 1024000000) (gives_bytes 230) _ _ refl refl refl in
-    record { answer = inl refl; end = s.end; control = s.control; heard = s.heard; openings = tt; others = s.others; lacking = tt }
-
-probing_3 : IsStep worked_policies (once_probing 3) (comes_there 1 1030000000) (answers.Deliver receives.Taken) (once_probing 4)
-unfolding once_probing
-probing_3 =
-    let s : StepsSo worked_policies (once_probing 3) (comes_there 1 1030000000) (answers.Deliver receives.Taken) (once_probing 4) = steps_at worked_policies (asking_start 10000000) probing_events (answers_probing (gives_bytes 31)) 3 (comes_there 1 1030000000) (answers.Deliver receives.Taken) _ _ refl refl refl in
-    record { answer = inl refl; end = s.end; control = s.control; heard = s.heard; openings = tt; others = s.others; lacking = tt }
-
-probing_4 : IsStep worked_policies (once_probing 4) (asks_at Server 1030000000) (gives_bytes 31) (once_probing 5)
-unfolding once_probing
-probing_4 =
-    let s : StepsSo worked_policies (once_probing 4) (asks_at Server 1030000000) (gives_bytes 31) (once_probing 5) = steps_at worked_policies (asking_start 10000000) probing_events (answers_probing (gives_bytes 31)) 4 (asks_at Server 1030000000) (gives_bytes 31) _ _ refl refl refl in
-    record { answer = inl refl; end = s.end; control = s.control; heard = s.heard; openings = tt; others = s.others; lacking = tt }
-
-probing_seen_0 : seen_with (Some 1024000000) None ≡ view_of (once_probing 1)
-unfolding once_probing
-probing_seen_0 = refl
-
-probing_seen_1 : seen_with (Some 2048000000) None ≡ view_of (once_probing 2)
-unfolding once_probing
-probing_seen_1 = refl
-
-probing_seen_2 : seen_with (Some 3072000000) None ≡ view_of (once_probing 3)
-unfolding once_probing
-probing_seen_2 = refl
-
-probing_seen_3 : seen_with (Some 3072000000) None ≡ view_of (once_probing 4)
-unfolding once_probing
-probing_seen_3 = refl
-
-probing_seen_4 : seen_with (Some 3072000000) None ≡ view_of (once_probing 5)
-unfolding once_probing
-probing_seen_4 = refl
+pub probing_rows : Rows probing_run.keys probing_run.start probing_run.events probing_run.answers probing_run.views
+unfolding once_asked
+probing_rows = ((inl refl, tt, tt, refl, refl), ((inl refl, tt, tt, refl, refl), ((inl refl, tt, tt, refl, refl), ((inl refl, tt, tt, refl, refl), ((inl refl, tt, tt, refl, refl), tt)))))
 
 probing_follows : Follows probing_run.keys probing_run.start probing_run.events probing_run.answers probing_run.views (once_probing 5)
-probing_follows = (once_probing 1, probing_0, probing_seen_0, (once_probing 2, probing_1, probing_seen_1, (once_probing 3, probing_2, probing_seen_2, (once_probing 4, probing_3, probing_seen_3, (once_probing 5, probing_4, probing_seen_4, refl)))))
+unfolding once_probing
+probing_follows = rows_follow probing_run.keys probing_run.start probing_run.events probing_run.answers probing_run.views probing_rows
 
 probing_gave_two : probing_run.from_client ≡ (once_probing 5).from_client
 unfolding once_probing
@@ -351,4 +188,5 @@ waits_no (inl e) = cc
 waits_no (inr e) = cc
 
 pub waits_is_none : IsNoRun probe_waits
-waits_is_none = behind refl probing_0 (behind refl probing_1 (behind refl probing_2 (behind refl probing_3 (stops _ _ _ _ _ waits_no))))
+unfolding once_probing
+waits_is_none = stops_behind 4 probing_run.start probing_run.events (drop 4 probe_waits.events) probing_run.answers (drop 4 probe_waits.answers) probing_run.views probing_rows (stops _ _ _ _ _ waits_no)

@@ -1,19 +1,22 @@
 -- The run in which the pacer holds a datagram back, event by event.
-use Rattle.std.proofs.Common.{◌≡◌, ◌⊎◌, ℕ, [], ◌∷◌, ◌++◌, replicate, Option, Some, None, Ok, false, refl, inl, inr, sym, ◌∙◌, lit<}
+use Rattle.std.proofs.Common.{◌≡◌, ◌⊎◌, ℕ, List, [], ◌∷◌, ◌++◌, replicate, take, Option, Some, None, Ok, false, refl, inl, inr, sym, ap, ◌∙◌, lit<, arith}
+use Rattle.std.specs.Prelude.{slice_get}
 use Rattle.quic_wire_core.specs.declared.stream_id.Side.TheVariants.{Client}
 use Rattle.quic_wire_core.specs.declared.shared.EcnCodepoint.TheVariants.{Ect0}
 use Rattle.quic_wire.specs.Value.{ping, padding, stream}
 use Rattle.quic_machine.specs.declared.run.Call.TheVariants as calls
 use Rattle.quic_machine.specs.declared.run.Answer.TheVariants as answers
-use Rattle.quic_machine.specs.Machine.{World, IsStep, view_of}
+use Rattle.quic_machine.specs.declared.run.View.{View}
+use Rattle.quic_machine.specs.Machine.{World, IsStep, Follows, view_of}
+use Rattle.quic_machine.specs.RunLaws.{one_run}
 use Rattle.quic_headline.specs.Runs.{Run}
 use Rattle.quic_headline.specs.Observer.{Sent, watch, sents_until}
 use Rattle.quic_headline.specs.Headline.{IsRun}
 use Rattle.quic_headline.specs.Polls.{GaveNothing, GaveAsking, IsByteToGo, IsPaced, PacingBehind, pacer_names, pacing_at, IsSizeProbe}
 use Rattle.quic_worked.specs.Worked.{worked_policies, hello, opens_stream, writes_hello, gives_bytes, open_view, view_with, once_written, once_sent, once_taken, server_id, sent_view, behind_ids, server_open}
-use Rattle.quic_worked.specs.Timed.{asks_at, serves, seen_with}
+use Rattle.quic_worked.specs.Timed.{asks_at, serves, seen_with, NeverShows}
 use Rattle.quic_worked.specs.Held.{gives_nothing, once_held, held_run}
-use Rattle.quic_worked.specs.Paced.{full_again, paced_start, once_paced, paced_view, paced_run, needlessly_paced, unheld_run, first_expiry, scarce_start, once_scarce, uncharged_run, scarce_events, scarce_answers}
+use Rattle.quic_worked.specs.Paced.{full_again, paced_start, once_paced, paced_view, paced_run, needlessly_paced, unheld_run, paced_until, hurried_run, unfilled_run, first_expiry, scarce_start, once_scarce, uncharged_run, scarce_events, scarce_answers}
 use Rattle.quic_headline.specs.Spread.{pacer_at, named_at, PacerIsOfHistory, SearchesApart}
 use Rattle.quic_headline.proofs.Spread.Clause.{pacer_is_of_history}
 use Rattle.quic_worked.specs.Broken.{IsNoRun}
@@ -219,6 +222,59 @@ unheld_refused (inr e) = cc
 
 pub unheld_is_none : IsNoRun unheld_run
 unheld_is_none = behind refl opens (behind refl writes (stops _ _ _ _ _ unheld_refused))
+
+-- ---- tokens that come too fast, or never
+
+-- a timer that is set to no moment that is named
+set_apart : (named : Option ℕ) (moment : ℕ) → (named ≡ Some moment → ⊥) → (◌≡◌ {A = Option (Option ℕ)} (Some (Some moment)) (Some None)) ⊎ (◌≡◌ {A = Option (Option ℕ)} (Some (Some moment)) (Some named)) → ⊥
+set_apart named moment other (inl none) = cc
+set_apart named moment other (inr is) = other (let same : ◌≡◌ {A = Option ℕ} (Some moment) named = cc in sym same)
+
+hurried_names : named_at hurried_run Client 2 0 ≡ Some full_again
+unfolding once_taken
+hurried_names = refl
+
+hurried_apart : SearchesApart hurried_run Client
+hurried_apart = tt
+
+-- the moments differ
+sooner : Some full_again ≡ Some 133200000 → ⊥
+sooner is = (let same : ◌≡◌ {A = ℕ} 266400000 133200000 = cc in absurd (omega (arith, same)))
+
+pub hurried_paces : PacerIsOfHistory hurried_run → ⊥
+hurried_paces h = set_apart (named_at hurried_run Client 2 0) 133200000 (λ is. sooner (sym hurried_names ∙ is)) (h Client 2 (calls.Poll 0) gives_nothing (paced_until 133200000) refl (record { event = refl; answer = refl }) refl refl hurried_apart).sets
+
+three_follow : Follows worked_policies paced_start hurried_run.events hurried_run.answers (take 3 paced_run.views) (once_paced 3)
+three_follow = (once_paced 1, opens, opened_seen, (once_paced 2, writes, written_seen, (once_paced 3, holds, held_seen, refl)))
+
+-- to which moment the timer of the client's pacer is seen set
+abbrev set_to : Option View → Option (Option ℕ)
+set_to None = None
+set_to (Some v) = slice_get v.client.timers 6
+
+pub hurried_never : NeverShows hurried_run
+hurried_never end f =
+    let same = one_run worked_policies hurried_run.answers paced_start hurried_run.events hurried_run.views (take 3 paced_run.views) end (once_paced 3) refl f three_follow in
+    let moments : ◌≡◌ {A = Option (Option ℕ)} (Some (Some 133200000)) (Some (Some full_again)) = ap (λ (vs : List View). set_to (slice_get vs 2)) same.0 in
+    sooner (let is : ◌≡◌ {A = Option ℕ} (Some 133200000) (Some full_again) = cc in sym is)
+
+pub unfilled_names : named_at unfilled_run Client 3 full_again ≡ None
+unfolding once_taken
+unfilled_names = refl
+
+unfilled_apart : SearchesApart unfilled_run Client
+unfilled_apart = tt
+
+pub unfilled_paces : PacerIsOfHistory unfilled_run → ⊥
+unfilled_paces h = set_apart (named_at unfilled_run Client 3 full_again) 532800000 (λ is. (let clash : ◌≡◌ {A = Option ℕ} None (Some 532800000) = sym unfilled_names ∙ is in cc)) (h Client 3 (calls.Poll full_again) gives_nothing (paced_until 532800000) refl (record { event = refl; answer = refl }) refl refl unfilled_apart).sets
+
+unfilled_refused : IsRefused (once_paced 3) (asks_at Client full_again) gives_nothing
+unfolding once_paced
+unfilled_refused (inl e) = cc
+unfilled_refused (inr e) = cc
+
+pub unfilled_is_none : IsNoRun unfilled_run
+unfilled_is_none = behind refl opens (behind refl writes (behind refl holds (stops _ _ _ _ _ unfilled_refused)))
 
 -- ---- probes that take no tokens
 

@@ -65,13 +65,13 @@ client_uses =
     let s : StepsSo worked_policies (once_renamed 3) uses_next (answers.UseNextId (Ok tt)) (once_renamed 4) = steps_at worked_policies both_steady renaming_events renaming_answers 3 uses_next (answers.UseNextId (Ok tt)) _ _ refl refl refl in
     record { answer = inl refl; end = s.end; control = s.control; heard = s.heard; openings = tt; others = s.others; lacking = λ lacks. cc }
 
-client_gives : IsStep worked_policies (once_renamed 4) asks_datagram (gives_bytes 33) (once_renamed 5)
+pub client_gives : IsStep worked_policies (once_renamed 4) asks_datagram (gives_bytes 33) (once_renamed 5)
 unfolding once_renamed
 client_gives =
     let s : StepsSo worked_policies (once_renamed 4) asks_datagram (gives_bytes 33) (once_renamed 5) = steps_at worked_policies both_steady renaming_events renaming_answers 4 asks_datagram (gives_bytes 33) _ _ refl refl refl in
     record { answer = inl refl; end = s.end; control = s.control; heard = s.heard; openings = tt; others = s.others; lacking = tt }
 
-server_takes : IsStep worked_policies (once_renamed 5) (delivers_at 1) (answers.Deliver receives.Taken) (once_renamed 6)
+pub server_takes : IsStep worked_policies (once_renamed 5) (delivers_at 1) (answers.Deliver receives.Taken) (once_renamed 6)
 unfolding once_renamed
 server_takes =
     let s : StepsSo worked_policies (once_renamed 5) (delivers_at 1) (answers.Deliver receives.Taken) (once_renamed 6) = steps_at worked_policies both_steady renaming_events renaming_answers 5 (delivers_at 1) (answers.Deliver receives.Taken) _ _ refl refl refl in

@@ -21,13 +21,13 @@ use Rattle.quic_worked.proofs.OwnIds.{honest}
 use Rattle.quic_worked.proofs.BrokenRuns.{IsRefused, stops, behind}
 use Rattle.quic_worked.proofs.ReorderedRun.{opened, first_written, opens as opens_first, writes_abc, gives_abc, one_waits, both_wait, sees_first}
 
-resets : IsStep worked_policies first_sent (resets_with 7) (answers.Reset (Ok tt)) once_reset
+pub resets : IsStep worked_policies first_sent (resets_with 7) (answers.Reset (Ok tt)) once_reset
 unfolding once_reset
 resets =
     let s : StepsSo worked_policies first_sent (resets_with 7) (answers.Reset (Ok tt)) once_reset = steps_so worked_policies first_sent (resets_with 7) (answers.Reset (Ok tt)) refl in
     record { answer = inl refl; end = s.end; control = s.control; heard = s.heard; openings = tt; others = s.others; lacking = λ lacks. cc }
 
-gives_reset : IsStep worked_policies once_reset asks_datagram (gives_bytes 30) reset_sent
+pub gives_reset : IsStep worked_policies once_reset asks_datagram (gives_bytes 30) reset_sent
 unfolding reset_sent
 gives_reset =
     let s : StepsSo worked_policies once_reset asks_datagram (gives_bytes 30) reset_sent = steps_so worked_policies once_reset asks_datagram (gives_bytes 30) refl in
@@ -74,11 +74,11 @@ tells_no_more =
 
 -- ---- what is seen
 
-once_seen : one_waits ≡ view_of once_reset
+pub once_seen : one_waits ≡ view_of once_reset
 unfolding once_reset
 once_seen = refl
 
-sent_seen : one_waits ≡ view_of reset_sent
+pub sent_seen : one_waits ≡ view_of reset_sent
 unfolding reset_sent
 sent_seen = refl
 

@@ -26,7 +26,7 @@ sampled_range : IsInRange sampled_settings
 sampled_range = record { receive_window = lit< tt; stream_receive_window = lit< tt; bounds = record { bidi = lit≤ tt; uni = lit≤ tt; divides = lit< tt; initial = lit≤ tt; least = lit≤ tt }; search = tt }
 
 -- the client's parameters say nothing of what was measured
-sampled_started : AreStarted sampled_start
+pub sampled_started : AreStarted sampled_start
 sampled_started = record {
   client_making = record (making client_id) { settings = sampled_settings };
   server_making = record (making server_id) { windows = shut };

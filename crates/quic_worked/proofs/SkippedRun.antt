@@ -11,20 +11,23 @@ use Rattle.quic_machine.specs.declared.run.Answer.TheVariants as answers
 use Rattle.quic_machine.specs.declared.run.View.{View}
 use Rattle.quic_machine.specs.Start.{AreStarted}
 use Rattle.quic_machine.specs.End.{IsMade}
-use Rattle.quic_machine.specs.Machine.{IsStep, Follows, view_of}
+use Rattle.quic_machine.specs.declared.run.Answer.{Answer}
+use Rattle.quic_machine.specs.Machine.{IsStep, Follows, view_of, policy_at, end_at}
+use Rattle.quic_headline.specs.Observer.{sents_until}
+use Rattle.quic_headline.specs.LeftOut.{left_out, AreLeftOut, NumbersAreDrawn}
 use Rattle.quic_headline.specs.Causes.{Shows, NoBlame}
 use Rattle.quic_headline.specs.Headline.{IsHonest, IsRun}
-use Rattle.quic_worked.specs.Worked.{steady, shut, worked_policies, client_id, server_id, delivers, asks_datagram, gives_bytes, open_view, sent_view, server_open, server_waiting}
+use Rattle.quic_worked.specs.Worked.{steady, shut, started, worked_policies, client_id, server_id, delivers, asks_datagram, gives_bytes, open_view, sent_view, server_open, server_waiting}
 use Rattle.quic_worked.specs.Broken.{IsNoRun}
 use Rattle.quic_worked.specs.Closed.{closed_view}
-use Rattle.quic_worked.specs.Acknowledged.{client_takes}
+use Rattle.quic_worked.specs.Acknowledged.{client_takes, client_acked}
 use Rattle.quic_worked.specs.Losses.{wide_payload, asks_ping, ping_events, first_ping_answers, server_waits, server_polled, client_delivered}
 use Rattle.quic_worked.specs.Machines.{NeverGives}
-use Rattle.quic_worked.specs.Measured.{zero_first, leaving_out, once_skipped, skipping_run, left_out_sent, left_out_given}
+use Rattle.quic_worked.specs.Measured.{zero_first, leaving_out, once_skipped, skipping_run, left_out_sent, left_out_given, other_left_out}
 use Rattle.quic_worked.proofs.Codes.{no_codes}
 use Rattle.quic_worked.proofs.OwnIds.{AreOwn, own_ids}
 use Rattle.quic_worked.proofs.WorkedKeys.{are_keys}
-use Rattle.quic_worked.proofs.WorkedHonest.{making}
+use Rattle.quic_worked.proofs.WorkedHonest.{are_started, making}
 use Rattle.quic_worked.proofs.WorkedRun.{parameters_say, server_is_made}
 use Rattle.quic_worked.proofs.BrokenRuns.{IsRefused, stops, behind}
 use Rattle.quic_worked.proofs.WrongRuns.{NeverEnds, ends_here, step_on}
@@ -171,3 +174,41 @@ not_sent = step_on refl step_0 (step_on refl step_1 (ends_here sent_other))
 
 pub never_sent : NeverGives left_out_sent
 never_sent views end is = not_sent.never views end is.follows is.from_client
+
+-- ---- which number is drawn
+
+pub one_out : left_out 0 (sents_until skipping_run Client 6) ≡ 0 ∷ []
+unfolding client_acked
+one_out = refl
+
+pub zero_drawn : AreLeftOut (policy_at Client worked_policies).words (end_at Client leaving_out).filter.next (left_out 0 (sents_until skipping_run Client 6))
+zero_drawn = subst (λ (ns : List ℕ). AreLeftOut (policy_at Client worked_policies).words (end_at Client leaving_out).filter.next ns) (sym one_out) (refl, tt)
+
+other_out : left_out 0 (sents_until other_left_out Client 1) ≡ 0 ∷ []
+unfolding client_acked
+other_out = refl
+
+pub other_not : NumbersAreDrawn other_left_out → ⊥
+other_not h =
+    let drawn : AreLeftOut (policy_at Client worked_policies).words (end_at Client started).filter.next (0 ∷ []) = subst (λ (ns : List ℕ). AreLeftOut (policy_at Client worked_policies).words (end_at Client started).filter.next ns) other_out (h Client 1 refl) in
+    let clash : 0 ≡ 63 = drawn.0 in
+    omega (arith, clash)
+
+other_own : (side : Side) → AreOwn side [] other_left_out.events other_left_out.answers other_left_out.views
+other_own Client = (tt, tt)
+other_own Server = (tt, tt)
+
+pub other_is_honest : IsHonest other_left_out
+other_is_honest = record { start = are_started; keys = are_keys; ids = own_ids other_left_out other_own }
+
+-- the size of a datagram that a poll gives
+abbrev size_in : Answer → ℕ
+size_in (answers.Poll (Ok (Some t))) = t.size
+size_in a = 0
+
+other_no : IsRefused started asks_datagram (gives_bytes 223)
+other_no (inl e) = let sizes : ◌≡◌ {A = ℕ} 223 222 = ap size_in e in absurd (omega arith)
+other_no (inr e) = cc
+
+pub other_is_none : IsNoRun other_left_out
+other_is_none = stops _ _ _ _ _ other_no

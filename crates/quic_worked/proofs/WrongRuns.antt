@@ -30,7 +30,7 @@ use Rattle.quic_headline.specs.Duties.{Offset, Waits, IsCarried, DutiesAt}
 use Rattle.quic_headline.specs.InFlight.{in_flight, but_for_record, TracksAt}
 use Rattle.quic_headline.specs.Headline.{OrderedPrefix, Once, EndAfterAll, BlockedOnlyWithoutBytes, AcceptsAll, FinishedMeansArrived, AcknowledgedWereTaken, NamesWereTaken, OpensExactly, NumbersRise, LossTimerFollows, LossTimersFollow, IsNamedIn, frames_given}
 use Rattle.quic_worked.specs.Acknowledged.{client_acked, ack_payload, from_server}
-use Rattle.quic_worked.specs.Worked.{gives_chunk, hello, hello_frame, started, once_opened, once_written, once_sent, once_taken, once_accepted, worked_policies, ReadsBy, two_chunks, delivers, sending_events, sending_answers, opens_stream, asks_datagram, accepts_stream, gives_bytes, carrying, run_with, behind_ids, ids_again}
+use Rattle.quic_worked.specs.Worked.{gives_chunk, hello, hello_frame, started, once_opened, once_written, once_sent, once_taken, once_accepted, worked_policies, ran, ReadsBy, two_chunks, delivers, sending_events, sending_answers, opens_stream, asks_datagram, accepts_stream, gives_bytes, carrying, run_with, behind_ids, ids_again}
 use Rattle.quic_worked.specs.Reordered.{both_events, both_answers, both_sent}
 use Rattle.quic_worked.proofs.ReorderedRun as reordered
 use Rattle.quic_worked.proofs.ReorderedRun.{writes_abc, gives_abc, writes_def, gives_def}
@@ -42,6 +42,7 @@ use Rattle.quic_worked.proofs.WorkedRun.{opens, writes, finishes, gives, takes, 
 use Rattle.quic_worked.proofs.BrokenClauses.{nexts_are, nexts_of, reads_in_order, hello_named, repeats}
 use Rattle.quic_worked.proofs.BrokenRuns.{IsRefused, stops, behind, behind_sent, read_of, not_next, never_reads, twice_no, accept_no, not_opened_no}
 use Rattle.quic_worked.proofs.Named.{ack_of_hello, is_named, early_frames}
+use Rattle.quic_worked.proofs.Rows.{Rows, behind_rows}
 use Rattle.quic_worked.proofs.Steps.{counts_so}
 use Rattle.quic_retransmits.specs.Retransmits.{nothing_waits}
 use Rattle.quic_worked.proofs.Unmoved.{client_tells_stays}
@@ -250,6 +251,11 @@ pub step_on : {Q : World → Type 0} {w y : World} {event : RunEvent} {a : Answe
     → fails a ≡ false → IsStep worked_policies w event a y → NeverEnds Q y events told → NeverEnds Q w (event ∷ events) (a ∷ told)
 step_on {Q} {w} {y} {event} {a} {events} {told} served step not_so =
     record { never = λ views end f q. goes_on Q w y event a events told served step not_so views end f q }
+
+-- so it is behind the first so many events of a run
+pub ends_behind : {Q : World → Type 0} (n : ℕ) (w : World) (events more : List RunEvent) (told answers : List Answer) (views : List View) → Rows worked_policies w events told views
+    → NeverEnds Q (ran worked_policies w (take n events) (take n told)) more answers → NeverEnds Q w (take n events ++ more) (take n told ++ answers)
+ends_behind {Q} n w events more told answers views rows never = behind_rows (λ x later given. NeverEnds Q x later given) (λ x y event a later given served step so. step_on served step so) n w events more told answers views rows never
 
 -- so they don't lead to this one
 abbrev pub NotToFrom : World → World → List RunEvent → List Answer → Type 0

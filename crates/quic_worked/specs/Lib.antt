@@ -16,6 +16,7 @@ pub mod Timed
 pub mod Limited
 pub mod Measured
 pub mod Halved
+pub mod Going
 pub mod Congested
 pub mod Probed
 pub mod Searched
@@ -57,4 +58,12 @@ pub mod Hastened
 pub mod Shortened
 pub mod Marked
 pub mod Confirmed
+pub mod Arrived
+pub mod LimitArrived
+pub mod Questioned
 pub mod Bleached
+pub mod Shut
+pub mod Coded
+pub mod Available
+pub mod Smoothed
+pub mod Collapsed

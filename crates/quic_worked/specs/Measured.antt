@@ -18,7 +18,7 @@ use Rattle.quic_time.specs.Timers.{no_timers}
 use Rattle.quic_machine.specs.End.{new_end}
 use Rattle.quic_machine.specs.Machine.{World}
 use Rattle.quic_headline.specs.Runs.{Run}
-use Rattle.quic_worked.specs.Worked.{ran_so_far, steady, ran, worked_policies, client_id, server_id, started, with_client, delivers, gives_bytes, open_view, sent_view, server_open, server_waiting}
+use Rattle.quic_worked.specs.Worked.{ran_so_far, steady, ran, worked_policies, client_id, server_id, started, with_client, delivers, asks_datagram, ids_payload, gives_bytes, open_view, sent_view, server_open, server_waiting}
 use Rattle.quic_worked.specs.Acknowledged.{ack_of_third, ack_payload, client_datagram, client_acked, from_server}
 use Rattle.quic_worked.specs.Reordered.{delivers_at}
 use Rattle.quic_worked.specs.Losses.{ping_events, ping_answers, ping_payload, server_waits, server_polled, client_delivered, first_ping_answers, first_ping}
@@ -175,4 +175,17 @@ left_out_given = record skipping_run {
   views = skipping_views ++ record { client = closed_view (reasons.Transport (plain_error 10)); server = server_open } ∷ [];
   from_client = client_datagram 0 0 first_ping ∷ [];
   from_server = from_server 0 ack_payload ∷ [];
+}
+
+-- a client whose random source answered 63 first, and that leaves out 0 all the same, and has
+-- PADDING
+abbrev pub other_left_out : Run
+other_left_out = record {
+  keys = worked_policies;
+  start = started;
+  events = asks_datagram ∷ [];
+  answers = gives_bytes 223 ∷ [];
+  views = seen_with (Some 1024000000) None ∷ [];
+  from_client = client_datagram 1 0 (0x00 ∷ ids_payload) ∷ [];
+  from_server = [];
 }

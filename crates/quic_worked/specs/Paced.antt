@@ -89,6 +89,30 @@ unheld_run = record paced_run {
   views = replicate 2 (record { client = open_view; server = server_open }) ++ record { client = sent_view; server = server_open } ∷ [];
 }
 
+-- ---- tokens that come too fast, or never
+
+-- what is seen of a client whose timer of the pacer is set to this moment
+abbrev pub paced_until : ℕ → View
+paced_until moment = record paced_view { client = record pacing_view { timers = replicate 6 None ++ Some moment ∷ None ∷ None ∷ [] } }
+
+-- to a client with no token twice as many come: it waits for half as long
+abbrev pub hurried_run : Run
+hurried_run = record paced_run {
+  events = take 3 paced_events;
+  answers = take 3 paced_answers;
+  views = replicate 2 (record { client = open_view; server = server_open }) ++ paced_until 133200000 ∷ [];
+  from_client = [];
+}
+
+-- to one none come: it is asked for a datagram when its pacer should be full, and waits for as long
+-- again
+abbrev pub unfilled_run : Run
+unfilled_run = record paced_run {
+  answers = take 3 paced_answers ++ gives_nothing ∷ [];
+  views = replicate 2 (record { client = open_view; server = server_open }) ++ paced_view ∷ paced_until 532800000 ∷ [];
+  from_client = [];
+}
+
 -- ---- probes
 
 -- when the loss timer expires

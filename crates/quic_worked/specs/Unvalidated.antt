@@ -258,3 +258,17 @@ late_answer_run = record old_answer_run {
       ++ record { client = view_with (Some 26000000) None; server = view_with (Some 26000000) (Some 25000000) }
       ∷ [];
 }
+
+-- PATH_RESPONSE of another word than the server draws, which it asked for nothing yet
+abbrev pub early_packet : Packet
+early_packet = record { number = 0; frames = path_response other_word ∷ replicate 1165 padding }
+
+-- a server to which such data validate the address of its peer
+abbrev pub early_answer_run : Run
+early_answer_run = record far_run {
+  events = asks_datagram ∷ delivers ∷ [];
+  answers = gives_bytes 1200 ∷ answers.Deliver receives.Taken ∷ [];
+  views = record { client = sent_view; server = far_view None None } ∷ record { client = sent_view; server = waiting_view } ∷ [];
+  from_client = client_datagram 0 0 ((0x1b ∷ other_word) ++ replicate 1165 0x00) ∷ [];
+  from_server = [];
+}

@@ -2,7 +2,8 @@
 //! wrongly. Each function does nothing: its contract is the law.
 ghost use Rattle.std.specs.Prelude.{◌≡◌, false};
 ghost use Rattle.quic_machine.specs.declared.run.ReadCall.{ReadCall};
-ghost use Rattle.quic_headline.specs.Headline.{IsRun};
+ghost use Rattle.quic_headline.specs.Headline.{IsHonest, IsRun};
+ghost use Rattle.quic_headline.specs.PeerLimits.{OpeningIsExact};
 ghost use Rattle.quic_worked.specs.Broken.{IsNoRun};
 ghost use Rattle.quic_worked.specs.Machines.{NeverGives};
 ghost use Rattle.quic_worked.specs.Credit.{ReadsEight, ReadsOneWay, credit_run, credit_used, count_run, count_used, never_raised, one_below, never_given_back, never_opened};
@@ -39,4 +40,16 @@ pub fn limit_is_one_below()
 pub fn count_is_never_given_back()
     ensures told { (read : ReadCall) → ReadsOneWay read → IsNoRun (never_given_back read) }
     ensures taken { (read : ReadCall) → ReadsOneWay read → IsNoRun (never_opened read) }
+{}
+
+/// In that run the first stream is opened, a second isn't, and it is once the count came.
+pub fn streams_open_while_counts_last()
+    ensures { (read : ReadCall) → ReadsOneWay read → OpeningIsExact (count_run read) }
+{}
+
+/// Limits: a client opens no second stream though the count came that lets it.
+pub fn untaken_count_shows()
+    ensures opening { (read : ReadCall) → OpeningIsExact (never_opened read) → ⊥ }
+    ensures premises { (read : ReadCall) → ReadsOneWay read → IsHonest (never_opened read) }
+    ensures machine { (read : ReadCall) → ReadsOneWay read → IsNoRun (never_opened read) }
 {}

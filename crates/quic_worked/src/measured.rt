@@ -11,17 +11,20 @@ ghost use Rattle.quic_machine.specs.declared.run.Answer.{Answer};
 ghost use Rattle.quic_machine.specs.declared.answers.Received.TheVariants as receives;
 ghost use Rattle.quic_machine.specs.End.{number_of};
 ghost use Rattle.quic_machine.specs.Start.{AreStarted};
+ghost use Rattle.quic_machine.specs.Machine.{policy_at, end_at};
+ghost use Rattle.quic_headline.specs.Observer.{sents_until};
+ghost use Rattle.quic_headline.specs.LeftOut.{left_out, AreLeftOut, NumbersAreDrawn};
 ghost use Rattle.quic_headline.specs.InFlight.{in_flight, TracksAt};
 ghost use Rattle.quic_headline.specs.Causes.{NoBlame};
 ghost use Rattle.quic_headline.specs.Moments.{LossMoments};
 ghost use Rattle.quic_headline.specs.Headline.{IsHonest, IsRun, LossTimersFollow};
 ghost use Rattle.quic_worked.specs.Broken.{IsNoRun, NeverLeads};
-ghost use Rattle.quic_worked.specs.Worked.{client_made, numbered_from};
+ghost use Rattle.quic_worked.specs.Worked.{client_made, numbered_from, worked_policies};
 ghost use Rattle.quic_worked.specs.Acknowledged.{client_takes};
 ghost use Rattle.quic_worked.specs.Losses.{wide_payload};
 ghost use Rattle.quic_worked.specs.Machines.{NeverGives};
 ghost use Rattle.quic_worked.specs.Timed.{due_at, NeverShows};
-ghost use Rattle.quic_worked.specs.Measured.{measured_events, measured_answers, once_measured, measured_run, never_late, late_kept, timer_cleared, cleared, leaving_out, once_skipped, skipping_run, left_out_sent, left_out_given};
+ghost use Rattle.quic_worked.specs.Measured.{measured_events, measured_answers, once_measured, measured_run, never_late, late_kept, timer_cleared, cleared, leaving_out, once_skipped, skipping_run, left_out_sent, left_out_given, other_left_out};
 
 /// Of four datagrams that the client gave at once the last comes alone, and is acknowledged at
 /// once. That acknowledgement comes after 100 ms: that is the round trip, and half of it its
@@ -91,4 +94,17 @@ pub fn left_out_number_shows()
     ensures blame { NoBlame left_out_given → ⊥ }
     ensures machine { IsNoRun left_out_given }
     ensures gives { NeverGives left_out_sent }
+{}
+
+/// In that run 0 is left out, the number with which the client was made (RFC 9000, section 21.4).
+pub fn number_is_drawn()
+    ensures out { left_out 0 (sents_until skipping_run Client 6) ≡ 0 ∷ [] }
+    ensures drawn { AreLeftOut (policy_at Client worked_policies).words (end_at Client leaving_out).filter.next (left_out 0 (sents_until skipping_run Client 6)) }
+{}
+
+/// Sending: a client leaves out 0, though its random source says 63.
+pub fn other_number_shows()
+    ensures drawn { NumbersAreDrawn other_left_out → ⊥ }
+    ensures premises { IsHonest other_left_out }
+    ensures machine { IsNoRun other_left_out }
 {}

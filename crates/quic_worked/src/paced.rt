@@ -10,9 +10,9 @@ ghost use Rattle.quic_headline.specs.Polls.{GaveNothing, GaveAsking, IsByteToGo,
 ghost use Rattle.quic_headline.specs.Spread.{pacer_at, named_at, PacerIsOfHistory};
 ghost use Rattle.quic_worked.specs.Broken.{IsNoRun};
 ghost use Rattle.quic_worked.specs.Worked.{worked_policies, once_written, gives_bytes};
-ghost use Rattle.quic_worked.specs.Timed.{asks_at};
+ghost use Rattle.quic_worked.specs.Timed.{asks_at, NeverShows};
 ghost use Rattle.quic_worked.specs.Held.{gives_nothing, held_run};
-ghost use Rattle.quic_worked.specs.Paced.{full_again, once_paced, paced_view, paced_run, needlessly_paced, unheld_run, uncharged_run};
+ghost use Rattle.quic_worked.specs.Paced.{full_again, once_paced, paced_view, paced_run, needlessly_paced, unheld_run, hurried_run, unfilled_run, uncharged_run};
 
 /// A client whose pacer has no token gives nothing, though a byte waits, and sets the timer of its
 /// pacer to the moment that this names: then it is full, and the datagram goes (RFC 9002, section
@@ -62,6 +62,20 @@ pub fn unheld_datagram_shows()
     ensures names { named_at unheld_run Client 2 0 ≡ Some full_again }
     ensures clause { PacerIsOfHistory unheld_run → ⊥ }
     ensures machine { IsNoRun unheld_run }
+{}
+
+/// A client to whose pacer tokens come twice as fast: it is to be full after 133.2 ms, and not
+/// after 266.4 ms.
+pub fn hurried_tokens_show()
+    ensures clause { PacerIsOfHistory hurried_run → ⊥ }
+    ensures machine { NeverShows hurried_run }
+{}
+
+/// A client to whose pacer no tokens come: it gives nothing when that is full by the lists.
+pub fn missing_tokens_show()
+    ensures names_none { named_at unfilled_run Client 3 full_again ≡ None }
+    ensures clause { PacerIsOfHistory unfilled_run → ⊥ }
+    ensures machine { IsNoRun unfilled_run }
 {}
 
 /// A client whose probes take no tokens, and that gives a datagram right behind them, for which it

@@ -9,7 +9,7 @@ ghost use Rattle.quic_headline.specs.Threefold.{Threefold};
 ghost use Rattle.quic_headline.specs.Headline.{IsHonest, IsRun};
 ghost use Rattle.quic_headline.specs.Validated.{asking, IsLatest, AnswerCame, WasAnswered, ValidatedByAnswer, AreWords, AnswersValidate};
 ghost use Rattle.quic_worked.specs.Broken.{IsNoRun};
-ghost use Rattle.quic_worked.specs.Unvalidated.{once_far, far_run, unasked_run, once_near, near_run, payload_counted, close_skipped, state_told, answered_run, ignored_run, unanswered_run, old_answer_run, late_answer_run};
+ghost use Rattle.quic_worked.specs.Unvalidated.{once_far, far_run, unasked_run, once_near, near_run, payload_counted, close_skipped, state_told, answered_run, ignored_run, unanswered_run, old_answer_run, late_answer_run, early_answer_run};
 ghost use Rattle.quic_worked.specs.Worked.{id_word};
 
 /// A server whose peer's address isn't validated gives a datagram of 1200 bytes once as many came:
@@ -79,6 +79,14 @@ pub fn old_answer_validates()
     ensures machine_none { IsNoRun unanswered_run }
     ensures machine_old { IsNoRun old_answer_run }
     ensures machine_late { IsNoRun late_answer_run }
+{}
+
+/// Receiving: to a server that asked nothing yet the address of its peer becomes validated by data
+/// that it never drew.
+pub fn early_answer_validates()
+    ensures early { ValidatedByAnswer early_answer_run → ⊥ }
+    ensures premises { IsHonest early_answer_run }
+    ensures machine { IsNoRun early_answer_run }
 {}
 
 /// Receiving: to a server the address of its peer stays as it was, though the right answer came.

@@ -43,7 +43,7 @@ use Rattle.quic_headline.proofs.Causes.Reasons.{IsExplained, call_keeps}
 use Rattle.quic_headline.proofs.Alone.Places.{made_holds}
 
 -- it was told that the end is lost, and it isn't open
-abbrev IsOver : Closing → Type 0
+abbrev pub IsOver : Closing → Type 0
 IsOver c = (c.told ≡ true) × (c.state ≡ states.Open → ⊥)
 
 -- ---- what an end keeps for which that is over
@@ -150,7 +150,7 @@ module _ (e : End) (i : IsOver e.closing) where
       go false false = others (streams_told e).answer
 
 -- any call
-call_over : (p : Policy) (e : End) (theirs : List (List ℕ)) (call : Call) (a : Answer) → IsOver e.closing → IsOver (after_call p e theirs call a).closing
+pub call_over : (p : Policy) (e : End) (theirs : List (List ℕ)) (call : Call) (a : Answer) → IsOver e.closing → IsOver (after_call p e theirs call a).closing
 call_over p e theirs (calls.Close close) a i = closed_over e i e.closing.state refl close.now close.error_code close.reason
 call_over p e theirs calls.UseNextId a i = by_next_id (λ (x : End). IsOver x.closing) e a i (λ c. i) (λ c most. i)
 call_over p e theirs calls.HandshakeDone a i = by_done (λ (x : End). IsOver x.closing) e a i i
@@ -165,26 +165,26 @@ call_over p e theirs (calls.Inject injection) a i = go (would_open p e injection
 call_over p e theirs calls.Event a i = event_over e i
 call_over p e theirs call a i = i
 
-call_none : (p : Policy) (e : End) (theirs : List (List ℕ)) (call : Call) (a : Answer) → IsAnswer p e theirs call a → IsOver e.closing → lost_in call a ≡ 0
+pub call_none : (p : Policy) (e : End) (theirs : List (List ℕ)) (call : Call) (a : Answer) → IsAnswer p e theirs call a → IsOver e.closing → lost_in call a ≡ 0
 call_none p e theirs calls.Event a is i = ap (λ (x : Answer). lost_in calls.Event x) is ∙ event_none e i
 call_none p e theirs call a is i = refl
 
 -- ---- what an end tells for which it isn't
 
 -- an end that has a reason isn't open
-reason_shuts : (s : State) (reason : LostReason) → Explains s (Some reason) → s ≡ states.Open → ⊥
+pub reason_shuts : (s : State) (reason : LostReason) → Explains s (Some reason) → s ≡ states.Open → ⊥
 reason_shuts states.Open reason explained opened = absurd explained
 reason_shuts states.Closing reason explained opened = cc
 reason_shuts states.Drained reason explained opened = cc
 reason_shuts states.Failed reason explained opened = cc
 
 -- a loss that is to be told is the end's reason
-reason_told : (b : Bool) (o : Option LostReason) (reason : LostReason) → (if b then None else o) ≡ Some reason → o ≡ Some reason
+pub reason_told : (b : Bool) (o : Option LostReason) (reason : LostReason) → (if b then None else o) ≡ Some reason → o ≡ Some reason
 reason_told true o reason is = cc
 reason_told false o reason is = is
 
 -- an event doesn't tell that the end is lost, or that is over
-event_lost : (e : End) → IsExplained e → (lost_in calls.Event (answers.Event (end_tells e)) ≡ 0) ⊎ IsOver (end_after_event e).closing
+pub event_lost : (e : End) → IsExplained e → (lost_in calls.Event (answers.Event (end_tells e)) ≡ 0) ⊎ IsOver (end_after_event e).closing
 event_lost e explained = go (tells_message e) (tells_done e)
   where
     Told : Option LostReason → Type 0

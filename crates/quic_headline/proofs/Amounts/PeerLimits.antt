@@ -131,13 +131,13 @@ count_same Uni f = refl
 -- ---- the group
 
 -- as many may be opened as the end that was made so may, and as frames told
-abbrev CountsAre : StreamsState → List Packet → End → Type 0
+abbrev pub CountsAre : StreamsState → List Packet → End → Type 0
 CountsAre made packets e = (dir : Dir) → of dir e.streams.opening.own_limit ≡ max (of dir made.opening.own_limit) (greatest (count_in dir) packets)
 
 -- x keeps to the parameters with which it was made, and an open one to how many streams it was told
-record CountsKnown (x y : Party) : Type 0 where
-  peer : x.end.peer_params ≡ x.made.peer_params
-  counts : x.end.closing.state ≡ states.Open → CountsAre x.made.streams (came_to x y).took x.end
+pub record CountsKnown (x y : Party) : Type 0 where
+  pub peer : x.end.peer_params ≡ x.made.peer_params
+  pub counts : x.end.closing.state ≡ states.Open → CountsAre x.made.streams (came_to x y).took x.end
 
 module _ (B : Way) (packets : (x y : Party) → B x y → PacketsHold x y) (x y : Party) (call : Call) (a : Answer) (c : Calls B x y call a) (k : CountsKnown x y) where
   abbrev After : End → Intake → Type 0
@@ -177,7 +177,7 @@ module _ (B : Way) (packets : (x y : Party) → B x y → PacketsHold x y) (x y 
     });
   }
 
-counts_group : (B : Way) → ((x y : Party) → B x y → PacketsHold x y) → Group B CountsKnown
+pub counts_group : (B : Way) → ((x y : Party) → B x y → PacketsHold x y) → Group B CountsKnown
 counts_group B packets = record {
   first = λ x y m there back. record { peer = refl; counts = λ opened dir. omega arith };
   writer = λ x y call a c k back. counts_step B packets x y call a c k;
@@ -203,7 +203,7 @@ told_is : (side : Side) (w : World) (s : AreStarted w) (p : ParameterValues) →
 told_is side w s p says = (let is = sym (making_is (other_side side) w s).says ∙ says in cc)
 
 -- how many streams it may open as it is made
-count_is : (side : Side) (w : World) (s : AreStarted w) (dir : Dir) → of dir (end_at side w).streams.opening.own_limit ≡ first_count (peer_parameters side w s) dir
+pub count_is : (side : Side) (w : World) (s : AreStarted w) (dir : Dir) → of dir (end_at side w).streams.opening.own_limit ≡ first_count (peer_parameters side w s) dir
 count_is side w s dir = ap (λ (e : End). of dir e.streams.opening.own_limit) (start_is w s side) ∙ go dir
   where
     go : (d : Dir) → of d (record { bi = (peer_parameters side w s).initial_max_streams_bidi; uni = (peer_parameters side w s).initial_max_streams_uni }) ≡ first_count (peer_parameters side w s) d

@@ -5,7 +5,7 @@ use Rattle.std.specs.Prelude.{◌==◌, nat_le, nat_lt, if◌then◌else◌, con
 use Rattle.std.specs.List.{list_any, range_with_len}
 use Rattle.std.specs.Option.{is_some}
 use Rattle.std.specs.declared.ops.Range.{Range}
-use Rattle.std.proofs.lemmas.Bool.{or_left, or_right, or_cases, and_from, and_parts, eqb-true, ltb-true, lt-ltb, le-leb}
+use Rattle.std.proofs.lemmas.Bool.{or_left, or_right, or_cases, and_from, and_parts, eqb-true, eq-eqb, ltb-true, lt-ltb, le-leb}
 use Rattle.std.proofs.Math.Bool.{or-false}
 use Rattle.quic_wire_core.specs.TransportError.{ErrorValue}
 use Rattle.quic_wire.specs.declared.frame.NewConnectionId.{NewConnectionId}
@@ -26,7 +26,8 @@ use Rattle.quic_machine.specs.declared.run.Answer.TheVariants as answers
 use Rattle.quic_machine.specs.Policy.{Policy}
 use Rattle.quic_machine.specs.Parts.{Signals, Waiting}
 use Rattle.quic_machine.specs.Sizes.{shortened}
-use Rattle.quic_machine.specs.Ids.{frame_of, retires_for, retired, next_used}
+use Rattle.quic_wire_core.specs.declared.shared.IssuedCid.{IssuedCid}
+use Rattle.quic_machine.specs.Ids.{frame_of, retires_for, retired, next_used, undrawn_id}
 use Rattle.quic_machine.specs.IdFrames.{retiring, with_taken_up, issued_if, issues_for, next_id_taken, end_on_next_id}
 use Rattle.quic_machine.specs.Validation.{path_asked, path_validated, word_of, validated_if}
 use Rattle.quic_machine.specs.End.{End, with_ids, with_frames}
@@ -41,9 +42,10 @@ use Rattle.quic_machine.specs.CallCases as cases
 use Rattle.quic_machine.specs.Machine.{after_call}
 use Rattle.quic_headline.specs.Duties.{has_retirement, has_new_id}
 use Rattle.quic_headline.specs.Waited.{is_path_challenge}
-use Rattle.quic_headline.specs.Begins.{NewId, Retirement, Thing, Frame, is_retirement, retires, uses_next, is_passed}
+use Rattle.quic_headline.specs.Begins.{NewId, Retirement, Thing, Frame, retires, uses_next, is_passed}
 use Rattle.quic_headline.proofs.Packets.Named.{by_frame}
 use Rattle.quic_headline.proofs.Destined.Own.{shortened_waiting}
+use Rattle.quic_headline.proofs.Channel.IdLists.{retired_issued}
 use Rattle.quic_headline.proofs.Steps.Probes.{begun}
 use Rattle.quic_headline.proofs.Waited.Flags.{challenge, response}
 use Rattle.quic_headline.proofs.Waited.Pings.{ready_waiting}
@@ -63,28 +65,28 @@ SignalsBy asked s t = (is_some t.challenge ≡ true → is_some s.challenge ≡ 
 pub signals_same : (asked : Bool) (s : Signals) → SignalsBy asked s s
 signals_same asked s = ((λ is. is), λ is. inl is)
 
--- Of what waits only that changes, and ids and numbers: an own id waits to be told where it did, or
--- where this is so, and a number to be retired where it did, or where this is so of it.
-pub record LeavesBy (asked issues : Bool) (begins : ℕ → Bool) (w v : Waiting) : Type 0 where
+-- Of what waits only that changes, and ids and numbers: an own id waits to be told, and a number to
+-- be retired, where it did, or where this is so of its number.
+pub record LeavesBy (asked : Bool) (issues begins : ℕ → Bool) (w v : Waiting) : Type 0 where
   pub signals : SignalsBy asked w.signals v.signals
   pub frames : v.frames ≡ record w.frames { new_cids = v.frames.new_cids; retire_cids = v.frames.retire_cids }
-  pub new_ids : (n : ℕ) → has_new_id n v.frames.new_cids ≡ true → (has_new_id n w.frames.new_cids ≡ true) ⊎ (issues ≡ true)
+  pub new_ids : (n : ℕ) → has_new_id n v.frames.new_cids ≡ true → (has_new_id n w.frames.new_cids ≡ true) ⊎ (issues n ≡ true)
   pub retirements : (n : ℕ) → has_retirement n v.frames.retire_cids ≡ true → (has_retirement n w.frames.retire_cids ≡ true) ⊎ (begins n ≡ true)
 
 -- nothing changes
-unmoved : (asked issues : Bool) (begins : ℕ → Bool) (w : Waiting) → LeavesBy asked issues begins w w
+unmoved : (asked : Bool) (issues begins : ℕ → Bool) (w : Waiting) → LeavesBy asked issues begins w w
 unmoved asked issues begins w = record { signals = signals_same asked w.signals; frames = refl; new_ids = λ n is. inl is; retirements = λ n is. inl is }
 
 -- no number begins to wait
-abbrev none : ℕ → Bool
+abbrev pub none : ℕ → Bool
 none n = false
 
 -- other signals wait
-signals_move : (asked : Bool) (w : Waiting) (s : Signals) → SignalsBy asked w.signals s → LeavesBy asked false none w (record w { signals = s })
+signals_move : (asked : Bool) (w : Waiting) (s : Signals) → SignalsBy asked w.signals s → LeavesBy asked none none w (record w { signals = s })
 signals_move asked w s by = record { signals = by; frames = refl; new_ids = λ n is. inl is; retirements = λ n is. inl is }
 
 -- these numbers wait besides to be retired
-numbers_move : (begins : ℕ → Bool) (w : Waiting) (ns : List ℕ) → ((n : ℕ) → has_retirement n ns ≡ true → begins n ≡ true) → LeavesBy false false begins w (record w { frames = record w.frames { retire_cids = w.frames.retire_cids ++ ns } })
+numbers_move : (begins : ℕ → Bool) (w : Waiting) (ns : List ℕ) → ((n : ℕ) → has_retirement n ns ≡ true → begins n ≡ true) → LeavesBy false none begins w (record w { frames = record w.frames { retire_cids = w.frames.retire_cids ++ ns } })
 numbers_move begins w ns each = record {
   signals = signals_same false w.signals;
   frames = refl;
@@ -128,8 +130,13 @@ retires_more (new_connection_id f) used more n above may = elim (or_cases ((f.se
 ]
 retires_more f used more n above may = may
 
+-- whether an own id of a number is issued for a frame
+abbrev pub issues_by : FrameValue → End → ℕ → Bool
+issues_by (retire_connection_id k) e n = issues_for k e && (n == e.ids.own.issued)
+issues_by f e n = false
+
 -- a frame apart from streams
-pub apart_waits : (f : FrameValue) (e : End) → IsApart f → LeavesBy (is_path_challenge f) (is_retirement f) (λ n. retires e.ids.peer.active n f) e.waiting (take_frame f e).end.waiting
+pub apart_waits : (f : FrameValue) (e : End) → IsApart f → LeavesBy (is_path_challenge f) (λ n. issues_by f e n) (λ n. retires e.ids.peer.active n f) e.waiting (take_frame f e).end.waiting
 apart_waits (ack a) e apart = absurd apart
 apart_waits (stream f) e apart = absurd apart
 apart_waits (reset_stream f) e apart = absurd apart
@@ -147,45 +154,62 @@ apart_waits (new_connection_id f) e apart = judged (retires_for (insert_answer e
     its n = retires used n (new_connection_id f)
 
     Left : End → Type 0
-    Left x = LeavesBy false false its e.waiting x.waiting
+    Left x = LeavesBy false none its e.waiting x.waiting
 
     fits : (b : Bool) (x : End) → Left x → Left (shortened b x)
-    fits b x i = subst (λ (v : Waiting). LeavesBy false false its e.waiting v) (sym (shortened_waiting b x)) i
+    fits b x i = subst (λ (v : Waiting). LeavesBy false none its e.waiting v) (sym (shortened_waiting b x)) i
 
     ranges : (b : Bool) (r : Range ℕ) → nat_lt 0 f.retire_prior_to ≡ true → Left (retired_for b r f e).end
     ranges true r asks = fits _ (retiring r (with_taken_up f e)) (numbers_move its e.waiting (range_with_len r.start (r.end - r.start)) (λ n among. or_right ((f.sequence == n) && nat_lt n used) (nat_lt 0 f.retire_prior_to) asks))
-    ranges false r asks = unmoved false false its e.waiting
+    ranges false r asks = unmoved false none its e.waiting
 
     below : (n : ℕ) → nat_lt f.sequence used ≡ true → (f.sequence == n) ≡ true → ((f.sequence == n) && nat_lt n used) ≡ true
     below n low is = and_from (f.sequence == n) (nat_lt n used) is (subst (λ (m : ℕ). nat_lt m used ≡ true) (eqb-true f.sequence n is) low)
 
     late : (b : Bool) → nat_lt f.sequence used ≡ true → Left (with_frames e (if b then e.waiting.frames else record e.waiting.frames { retire_cids = e.waiting.frames.retire_cids ++ f.sequence ∷ [] }))
-    late true low = unmoved false false its e.waiting
+    late true low = unmoved false none its e.waiting
     late false low = numbers_move its e.waiting (f.sequence ∷ []) (λ n among. or_left ((f.sequence == n) && nat_lt n used) (nat_lt 0 f.retire_prior_to) (below n low (sym (or-false (f.sequence == n)) ∙ among)))
 
     judged : (r : Result (Option (Range ℕ)) InsertError) → retires_for (insert_answer e.ids.peer (frame_of f)) ≡ r → Left (id_judged r f e).end
-    judged (Ok None) is = fits _ (with_taken_up f e) (unmoved false false its e.waiting)
+    judged (Ok None) is = fits _ (with_taken_up f e) (unmoved false none its e.waiting)
     judged (Ok (Some r)) is = ranges (can_retire e.waiting.frames r.start r.end) r (asks_some e.ids.peer (frame_of f) r is)
     judged (Err inserts.Retired) is = late (nat_le most_retirements (length e.waiting.frames.retire_cids) || list_any (λ m. m == f.sequence) e.waiting.frames.retire_cids) (late_below e.ids.peer (frame_of f) is)
-    judged (Err inserts.ExceedsLimit) is = unmoved false false its e.waiting
-apart_waits (retire_connection_id n) e apart = judged (retirement_answer e.ids.own n e.ids.limit)
+    judged (Err inserts.ExceedsLimit) is = unmoved false none its e.waiting
+apart_waits (retire_connection_id k) e apart = judged (retirement_answer e.ids.own k e.ids.limit)
   where
-    issues : (b : Bool) → LeavesBy false true none e.waiting (issued_if b (with_ids e (retired n e.ids))).waiting
-    issues true = record { signals = signals_same false e.waiting.signals; frames = refl; new_ids = λ m is. inr refl; retirements = λ m is. inl is }
-    issues false = unmoved false true none e.waiting
+    left : End
+    left = with_ids e (retired k e.ids)
 
-    judged : (r : Result Bool ErrorValue) → LeavesBy false true none e.waiting (retirement_judged r n e).end.waiting
-    judged (Ok more) = issues (issues_for n e)
-    judged (Err error) = unmoved false true none e.waiting
+    its : ℕ → Bool
+    its n = issues_by (retire_connection_id k) e n
+
+    issued_here : (n : ℕ) → issues_for k e ≡ true → (left.ids.own.issued == n) ≡ true → its n ≡ true
+    issued_here n may is = and_from (issues_for k e) (n == e.ids.own.issued) may (eq-eqb n e.ids.own.issued (sym (eqb-true left.ids.own.issued n is) ∙ retired_issued e.ids.own k))
+
+    issues : (b : Bool) → issues_for k e ≡ b → LeavesBy false its none e.waiting (issued_if b left).waiting
+    issues true may = record {
+      signals = signals_same false e.waiting.signals;
+      frames = refl;
+      new_ids = λ n is. elim (any_more (λ (c : IssuedCid). c.sequence == n) e.waiting.frames.new_cids (undrawn_id left.ids.own.issued ∷ []) is) [
+        | inl was ↦ inl was
+        | inr new ↦ inr (issued_here n may (sym (or-false (left.ids.own.issued == n)) ∙ new))
+      ];
+      retirements = λ n is. inl is;
+    }
+    issues false may = unmoved false its none e.waiting
+
+    judged : (r : Result Bool ErrorValue) → LeavesBy false its none e.waiting (retirement_judged r k e).end.waiting
+    judged (Ok more) = issues (issues_for k e) refl
+    judged (Err error) = unmoved false its none e.waiting
 apart_waits (path_challenge token) e apart = signals_move true e.waiting (path_asked token e).waiting.signals ((λ is. is), λ is. inr refl)
 apart_waits (path_response token) e apart = go (is_asked e.validation.challenge (word_of token))
   where
-    go : (b : Bool) → LeavesBy false false none e.waiting (validated_if b e).waiting
+    go : (b : Bool) → LeavesBy false none none e.waiting (validated_if b e).waiting
     go true = signals_move false e.waiting (path_validated e).waiting.signals ((λ is. cc), λ is. inl is)
-    go false = unmoved false false none e.waiting
-apart_waits handshake_done e apart = by_heard_done (λ (x : End). LeavesBy false false none e.waiting x.waiting) e (unmoved false false none e.waiting) (λ c. unmoved false false none e.waiting)
-apart_waits (ack_frequency r) e apart = by_frequency (λ (x : End). LeavesBy false false none e.waiting x.waiting) r e (λ threshold reordering frequency. unmoved false false none e.waiting)
-apart_waits f e apart = unmoved false false none e.waiting
+    go false = unmoved false none none e.waiting
+apart_waits handshake_done e apart = by_heard_done (λ (x : End). LeavesBy false none none e.waiting x.waiting) e (unmoved false none none e.waiting) (λ c. unmoved false none none e.waiting)
+apart_waits (ack_frequency r) e apart = by_frequency (λ (x : End). LeavesBy false none none e.waiting x.waiting) r e (λ threshold reordering frequency. unmoved false none none e.waiting)
+apart_waits f e apart = unmoved false none none e.waiting
 
 -- what an ACK frame leaves
 acked_signals : (rises : Bool) (a : AckValue) (e : End) → (after_acked rises a (named a e)).waiting.signals ≡ e.waiting.signals
@@ -234,7 +258,7 @@ abbrev pub is_skipped : Call → Answer → PeerIds → ℕ → Bool
 is_skipped call a p n = uses_next call a && is_passed n p.active (next_after p)
 
 -- such numbers begin to wait
-pub next_waits : (e : End) (a : Answer) → LeavesBy false false (λ n. is_skipped calls.UseNextId a e.ids.peer n) e.waiting (end_on_next_id e a).waiting
+pub next_waits : (e : End) (a : Answer) → LeavesBy false none (λ n. is_skipped calls.UseNextId a e.ids.peer n) e.waiting (end_on_next_id e a).waiting
 next_waits e (answers.UseNextId (Ok done)) = taken (next_after e.ids.peer)
   where
     used : ℕ
@@ -248,12 +272,12 @@ next_waits e (answers.UseNextId (Ok done)) = taken (next_after e.ids.peer)
         let same : k ≡ n = eqb-true k n is in
         and_from (nat_le used n) (nat_lt n next) (le-leb used n (omega arith)) (lt-ltb n next (omega arith))
 
-    taken : (o : Option ℕ) → LeavesBy false false (λ n. is_passed n used o) e.waiting (next_id_taken (ranged o) e).waiting
-    taken None = unmoved false false (λ n. is_passed n used None) e.waiting
-    taken (Some next) = subst (λ (v : Waiting). LeavesBy false false (λ n. is_passed n used (Some next)) e.waiting v)
+    taken : (o : Option ℕ) → LeavesBy false none (λ n. is_passed n used o) e.waiting (next_id_taken (ranged o) e).waiting
+    taken None = unmoved false none (λ n. is_passed n used None) e.waiting
+    taken (Some next) = subst (λ (v : Waiting). LeavesBy false none (λ n. is_passed n used (Some next)) e.waiting v)
         (sym (shortened_waiting _ (retiring (record { start = used; end = next }) (with_ids e (next_used e.ids)))))
         (numbers_move (λ n. is_passed n used (Some next)) e.waiting (range_with_len used (next - used)) (λ n among. passed_over next n (any_in_range (λ (m : ℕ). m == n) used (next - used) among)))
-next_waits e a = unmoved false false none e.waiting
+next_waits e a = unmoved false none none e.waiting
 
 -- a poll
 pub polled_signals : (p : Policy) (e : End) (now : ℕ) → (polled p e now).end.closing.state ≡ states.Open → SignalsBy false e.waiting.signals (polled p e now).end.waiting.signals
@@ -285,8 +309,8 @@ quiet_signals p e theirs call a apart silent calm = by_plain_call p e theirs Of 
 -- ---- what waits is F
 
 -- so it is behind such a change, where the ids and the numbers that begin to wait are
-pub leaves_pend : (F : Thing → Type 0) (e x : End) (asked issues : Bool) (begins : ℕ → Bool) → LeavesBy asked issues begins e.waiting x.waiting → x.streams ≡ e.streams → (issues ≡ true → (n : ℕ) → F (Frame (NewId n))) → ((n : ℕ) → begins n ≡ true → F (Frame (Retirement n))) → Pends F e → Pends F x
+pub leaves_pend : (F : Thing → Type 0) (e x : End) (asked : Bool) (issues begins : ℕ → Bool) → LeavesBy asked issues begins e.waiting x.waiting → x.streams ≡ e.streams → ((n : ℕ) → issues n ≡ true → F (Frame (NewId n))) → ((n : ℕ) → begins n ≡ true → F (Frame (Retirement n))) → Pends F e → Pends F x
 leaves_pend F e x asked issues begins l streams issued late i = subst (λ (s : StreamsState). PendsAt F s x.waiting.frames) (sym streams) (subst (λ (p : Retransmits). PendsAt F e.streams p) (sym l.frames)
     (ids_pend F e.streams e.waiting.frames x.waiting.frames.new_cids x.waiting.frames.retire_cids
-    (λ n is. elim (l.new_ids n is) [ inl was ↦ i.controls (NewId n) was | inr new ↦ issued new n ])
+    (λ n is. elim (l.new_ids n is) [ inl was ↦ i.controls (NewId n) was | inr new ↦ issued n new ])
     (λ n is. elim (l.retirements n is) [ inl was ↦ i.controls (Retirement n) was | inr new ↦ late n new ]) i))

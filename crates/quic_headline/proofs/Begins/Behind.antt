@@ -1,5 +1,5 @@
 -- What waits behind a call waited before it, or has a cause.
-use Rattle.std.proofs.Common.{◌≡◌, ℕ, ◌<◌, max, Bool, true, false, ◌||◌, ◌&&◌, List, [], ◌++◌, length, map, drop, append-nil, Option, Some, None, Ok, refl, sym, ap, ◌∙◌, subst, ◌⊎◌, inl, inr, arith, ◌+◌, Result}
+use Rattle.std.proofs.Common.{◌≡◌, ℕ, ◌<◌, max, Bool, true, false, ◌||◌, ◌&&◌, List, [], ◌∷◌, ◌++◌, length, map, drop, append-nil, Option, Some, None, Ok, refl, sym, ap, ◌∙◌, subst, ◌⊎◌, inl, inr, arith, ◌+◌, Result}
 use Rattle.std.specs.Prelude.{◌↔◌, nat_lt, not, ltb, leb, ◌==◌}
 use Rattle.std.specs.Option.{is_some, is_none, option_map}
 use Rattle.std.specs.List.{list_any}
@@ -8,7 +8,7 @@ use Rattle.quic_wire_core.specs.declared.shared.IssuedCid.{IssuedCid}
 use Rattle.quic_wire_core.specs.declared.shared.EcnCodepoint.{EcnCodepoint}
 use Rattle.quic_ids.specs.CidQueue.{next_after}
 use Rattle.quic_machine.specs.Poll.{polled}
-use Rattle.quic_wire.specs.Value.{FrameValue, padding}
+use Rattle.quic_wire.specs.Value.{FrameValue, padding, new_connection_id}
 use Rattle.quic_wire.specs.Items.{items}
 use Rattle.quic_wire.specs.declared.frame.InvalidFrame.{InvalidFrame}
 use Rattle.quic_send_buffer.specs.Buffered.{IsBuffered, written as buffered, is_lost, is_unsent}
@@ -19,6 +19,7 @@ use Rattle.quic_streams_parts.specs.Table.{at}
 use Rattle.quic_streams_halves.specs.Halves.{status_from, has_place}
 use Rattle.quic_streams_state.specs.declared.state.StreamsState.{StreamsState}
 use Rattle.quic_streams_state.specs.State.{sends_on, is_opened}
+use Rattle.quic_streams_state.specs.Limits.{data_grew}
 use Rattle.quic_streams_laws.specs.Each.{StatusIs}
 use Rattle.quic_streams_laws.specs.Written.{Wrote, IsOver, nothing_done, IsSendHalf, HoldsWritten}
 use Rattle.quic_streams_laws.specs.WrittenHalves.{bytes_written}
@@ -35,21 +36,24 @@ use Rattle.quic_machine.specs.End.{End, words_drawn}
 use Rattle.quic_machine.specs.Timeouts.{timed_out_in, timed_out}
 use Rattle.quic_machine.specs.Ids.{words_behind}
 use Rattle.quic_machine.specs.IdFrames.{drawn, drawing}
-use Rattle.quic_machine.specs.Receive.{Outcome, asks_in, after_taken, is_urged, migrated_if}
+use Rattle.quic_machine.specs.Receive.{Outcome, take_frame, asks_in, after_taken, is_urged, migrated_if}
 use Rattle.quic_machine.specs.FrameCases.{begun}
-use Rattle.quic_machine.specs.CallCases.{is_poll, is_timeout}
+use Rattle.quic_machine.specs.CallCases.{is_poll}
 use Rattle.quic_machine.specs.Migration.{has_moved, is_there, migrated}
 use Rattle.quic_machine.specs.Machine.{IsAnswer, fails, gave}
 use Rattle.quic_machine.specs.Policy.{Policy}
 use Rattle.quic_machine.specs.Calls.{is_open}
 use Rattle.quic_headline.specs.Runs.{Told, Packet, Intake, In, and_told}
+use Rattle.quic_headline.specs.Amounts.{data_limit_in}
+use Rattle.quic_headline.specs.Credit.{all_consumed}
 use Rattle.quic_headline.specs.Observer.{Sent, Flight, after_frames, Watch, first_watch, news, clock_behind, moment_of, is_past, is_timely, watch_moment, watch_given, watch_told, has_changed}
 use Rattle.quic_headline.specs.Duties.{AllData, StreamCount, on_half, has_new_id}
 use Rattle.quic_headline.specs.Moments.{went}
 use Rattle.quic_headline.specs.Requests.{Asking, asking_of, wants_anew}
+use Rattle.quic_headline.specs.Expiring.{Questions}
 use Rattle.quic_headline.specs.InUse.{brought, next_of, brought_by}
 use Rattle.quic_headline.specs.Waited.{asks_ping, is_path_challenge, wakes}
-use Rattle.quic_headline.specs.Begins.{Control, LimitOf, NewId, Retirement, Thing, Ack, Ping, Immediate, Challenge, Response, Probe, Byte, Fin, Frame, byte_waits, IsPending, Bears, Seen, came, brings, WasLost, may_end, brings_data, is_retirement, retires, uses_next, is_passed, uses_past, moves_past, passes_over, fails_to_probe, HasCause}
+use Rattle.quic_headline.specs.Begins.{Control, LimitOf, NewId, Retirement, Thing, Ack, Ping, Immediate, Challenge, Response, Probe, Byte, Fin, Frame, byte_waits, IsPending, Bears, Seen, came, brings, WasLost, may_end, brings_data, is_retirement, retired_in, retired_numbers, was_told, issued_below, retires, uses_next, is_passed, uses_past, moves_past, passes_over, fails_to_probe, uses_up, most_said, is_far, is_far_in_all, HasCause}
 use Rattle.quic_headline.proofs.Packets.Intakes.{folded_more}
 use Rattle.quic_headline.proofs.Packets.Group.{PacketsHold, meets}
 use Rattle.quic_headline.proofs.Packets.Sight.{Sight}
@@ -63,7 +67,12 @@ use Rattle.quic_headline.proofs.Places.Steps.{only_polls_give, poll_answer}
 use Rattle.quic_headline.proofs.Places.Everything as everything
 use Rattle.quic_headline.proofs.Places.Theorems.{ready}
 use Rattle.quic_headline.proofs.Halves.Ready.{Ready}
-use Rattle.quic_headline.proofs.Halves.Ghosts.{wrote}
+use Rattle.quic_headline.proofs.Halves.Ghosts.{wrote, SaysOf, IsWriting}
+use Rattle.quic_headline.proofs.Halves.Writer.{grows_behind}
+use Rattle.quic_headline.proofs.Channel.Within.{Within, within_group}
+use Rattle.quic_headline.proofs.Credit.Clause.{Credits, credits_group}
+use Rattle.quic_headline.proofs.Credit.Lists.{usage, SaysFrame, frame_said, padding_said, packet_uses, told_consumes}
+use Rattle.quic_headline.proofs.Credit.Counted.{grown as more_used}
 use Rattle.quic_headline.proofs.Halves.ReadGroup.{ReadsHold}
 use Rattle.quic_headline.proofs.Duties.Listed.{places_same}
 use Rattle.quic_headline.proofs.Grown.Clause.{GrownWait}
@@ -73,7 +82,9 @@ use Rattle.quic_headline.proofs.Requests.Asks.{by_of, is_anew, anew_known}
 use Rattle.quic_headline.proofs.Requests.Group.{Counted, counted_group}
 use Rattle.quic_headline.proofs.NextIds.Peer.{next_is, Knows}
 use Rattle.quic_headline.proofs.NextIds.Group.{NextKnown, next_group, brought_at}
-use Rattle.quic_headline.proofs.Waited.Alive.{timed, wakes_at, past_is}
+use Rattle.quic_headline.proofs.Destined.Own.{KnowsOwn, own_group}
+use Rattle.quic_headline.proofs.Destined.Numbered.{AreNumbered, numbers_more, Retires, each_retires, may_live, Numbered, numbered_group}
+use Rattle.quic_headline.proofs.Waited.Alive.{Timed, timed, wakes_at, past_is}
 use Rattle.quic_headline.proofs.Waited.Pings.{of_ping, of_immediate, call_pinged, call_hastened, polled_pinged}
 use Rattle.quic_headline.proofs.AcksDue.Group.{haste_of}
 use Rattle.quic_headline.proofs.Waited.Group.{wants_of}
@@ -81,9 +92,11 @@ use Rattle.quic_headline.proofs.Waited.Urged.{Urging, Wished, wished_group, urge
 use Rattle.quic_headline.proofs.Begins.Probed.{told_probes}
 use Rattle.quic_headline.proofs.Begins.Halves.{Any, Waits as HalfWaits, all_pend, pends_more, none_reset, byte_is, fin_is}
 use Rattle.quic_headline.proofs.Begins.Walk.{Pends, pend_more}
-use Rattle.quic_headline.proofs.Begins.Apart.{is_skipped, SignalsBy, LeavesBy, signals_same, frames_signals, polled_signals, quiet_signals, leaves_pend}
+use Rattle.quic_headline.proofs.Begins.Apart.{is_skipped, SignalsBy, LeavesBy, none, signals_same, frames_signals, polled_signals, quiet_signals, leaves_pend}
 use Rattle.quic_headline.proofs.Begins.Moved.{moves_over, challenging, moved_waits, item_challenges, challenges_read}
-use Rattle.quic_headline.proofs.Begins.Flights.{By, BegunAt, Begun, ids_begun, begun_loses, begun_flies}
+use Rattle.quic_headline.proofs.Begins.Untold.{untold}
+use Rattle.quic_headline.proofs.Begins.Far.{far_more, far_in, Spends, spends_settled, spends_frame}
+use Rattle.quic_headline.proofs.Begins.Flights.{IdsBefore, By, BegunAt, Begun, ids_begun, begun_loses, begun_flies}
 use Rattle.quic_headline.proofs.Begins.Steps.{Left, left_of, polled_left}
 use Rattle.quic_headline.proofs.Packets.Strays.{any_at}
 use Rattle.quic_headline.proofs.Packets.Routed.{moved_path, flight_at}
@@ -96,19 +109,40 @@ use Rattle.quic_packet.specs.Datagram.{Opening}
 -- ---- what is known
 
 -- all that is known of packets and streams, limits that grew, how often the peer was asked how to
--- acknowledge, which of its ids are used, and what is due and wanted
+-- acknowledge, which ids it was told and how many were issued, which of its ids are used, and what
+-- is due and wanted
 abbrev pub Grown : Way
 Grown = And (And (everything.All Ready ready) ReadsHold) GrownWait
 
+abbrev pub OwnKnown : Way
+OwnKnown = And Counted (And KnowsOwn Numbered)
+
+abbrev pub PeerKnown : Way
+PeerKnown = And NextKnown (And Within Credits)
+
 abbrev pub Requesting : Way
-Requesting = And Grown (And Counted NextKnown)
+Requesting = And Grown (And OwnKnown PeerKnown)
+
+writing : (B : Way) → ((x y : Party) → B x y → Grown x y) → IsWriting B
+writing B grown = record {
+  packets = λ x y h. (grown x y h).0.0.0.0;
+  written = λ x y h. (grown x y h).0.0.0.1.0.writes.keeps.holds;
+  says = λ x y h. (grown x y h).0.0.0.1.0.says;
+  grows = λ x y call a c. grows_behind B (λ x y h. (grown x y h).0.0.0.0) x y call a c (grown x y c.gives).0.0.0.1.0;
+}
+
+-- how far each lets the other come, and what it consumed
+lets_come : Group (And Nothing Grown) (And Within Credits)
+lets_come = both (And Nothing Grown) Within Credits (within_group (And Nothing Grown) (writing (And Nothing Grown) (λ x y h. h.1)))
+    (credits_group (And (And Nothing Grown) Within) (writing (And (And Nothing Grown) Within) (λ x y h. h.0.1)) (λ x y h. h.1) (λ x y h. h.0.1.0.1))
 
 abbrev pub Known : Way
 Known = And Requesting Wished
 
 requesting : Group Nothing Requesting
-requesting = both Nothing Grown (And Counted NextKnown) (everything.all_grown Ready ready)
-    (beside (And Nothing Grown) Counted NextKnown (over PacketsHold (And Nothing Grown) Counted (λ x y h. h.1.0.0.0.0) counted_group) (next_group (And Nothing Grown) (λ x y h. h.1.0.0.0.0)))
+requesting = both Nothing Grown (And OwnKnown PeerKnown) (everything.all_grown Ready ready)
+    (beside (And Nothing Grown) OwnKnown PeerKnown (over PacketsHold (And Nothing Grown) OwnKnown (λ x y h. h.1.0.0.0.0) (beside PacketsHold Counted (And KnowsOwn Numbered) counted_group (beside PacketsHold KnowsOwn Numbered own_group numbered_group)))
+    (beside (And Nothing Grown) NextKnown (And Within Credits) (next_group (And Nothing Grown) (λ x y h. h.1.0.0.0.0)) lets_come))
 
 pub known : Group Nothing Known
 known = both Nothing Requesting Wished requesting (over Observed (And Nothing Requesting) Wished (λ x y h. (h.1.0.0.0.0.0, h.1.0.0.0.1)) wished_group)
@@ -141,6 +175,13 @@ pub record Stepped (x y : Party) (call : Call) (a : Answer) : Type 0 where
   pub used : x.end.ids.peer.active ≡ using
   pub stays : Bool
   pub tells : has_changed (watch_of x y) (watch_next x y call a) ≡ true → (stays ≡ true) ↔ ((called x y.given call a).end.ids.peer.active ≡ x.end.ids.peer.active)
+  -- how the end asks whether its peer receives, as its observer reckons it, and whether the peer's
+  -- address is seen to be validated: where the timer for that expires, it isn't, and the moment
+  -- came
+  pub questions : Questions
+  pub watched : questions.watch ≡ watch_of x y
+  pub validated : Bool
+  pub expires : (n : ℕ) → has_come x.end.timers.path_validation n ≡ true → (is_past questions.due n && not validated) ≡ true
 
 -- what is seen of the call
 abbrev pub seen_of : (x y : Party) (call : Call) (a : Answer) → Stepped x y call a → Seen
@@ -156,8 +197,12 @@ seen_of x y call a s = record {
   asking = asking_of x.made;
   using = s.using;
   stays = s.stays;
+  questions = s.questions;
+  validated = s.validated;
   side = x.side;
   params = x.made.peer_params;
+  window = x.made.streams.receiving.window;
+  stream_window = x.made.streams.receiving.stream_window;
   gave = (watch_of x y).own;
 }
 
@@ -190,6 +235,10 @@ module _ (x y : Party) (call : Call) (a : Answer) (s : Stepped x y call a) where
   came_is =
       ap (λ (i : Intake). news i seen.behind.intake) (watched_intake (lens x y) x.told (first_watch x.final x.began x.made.path.remote x.first_rtt x.initial_delay))
       ∙ ap (λ (i : Intake). news (came_to x y) i) (ap (λ (w : Watch). w.intake) (sym behind_is) ∙ watched_intake (lens x y) next.told (first_watch x.final x.began x.made.path.remote x.first_rtt x.initial_delay))
+
+  -- the observer finds which packets came by then
+  pub took_behind : (came_to next y).took ≡ seen.behind.intake.took
+  took_behind = ap (λ (i : Intake). i.took) (sym (ap (λ (v : Watch). v.intake) (sym behind_is) ∙ watched_intake (lens x y) next.told (first_watch x.final x.began x.made.path.remote x.first_rtt x.initial_delay)))
 
 -- what goes at a call is what its end sends
 pub went_here : (x y : Party) (call : Call) (a : Answer) (s : Stepped x y call a) → went (seen_of x y call a s).before (seen_of x y call a s).behind ≡ sents_by x.policy x.end call a
@@ -277,6 +326,15 @@ probe_begins x y call a s some = elim (told_probes (lens x y) (told_of call a x.
 abbrev pub SignalsBegin : (x y : Party) (call : Call) (a : Answer) → Stepped x y call a → Type 0
 SignalsBegin x y call a s = (IsPending (called x y.given call a).end Challenge → Caused x y call a s Challenge) × (IsPending (called x y.given call a).end Response → Caused x y call a s Response)
 
+-- where the timer of path validation expires, the moment has come at which the end asks anew
+due_anew : (x y : Party) (now : ℕ) (a : Answer) (s : Stepped x y (calls.Timeout now) a) → has_come x.end.timers.path_validation (ticked x.end.closing now).clock ≡ true → HasCause (seen_of x y (calls.Timeout now) a s) Challenge
+due_anew x y now a s come = or_right (has_changed s.questions.watch v.behind) _ (
+    ap (λ (z : State). is_timely z (calls.Timeout now) && (is_past s.questions.due v.behind.clock && not s.validated)) (was x y (calls.Timeout now) a s)
+    ∙ s.expires v.behind.clock (ap (λ (n : ℕ). has_come x.end.timers.path_validation n) (timeout_clock x y now a s) ∙ come))
+  where
+    v : Seen
+    v = seen_of x y (calls.Timeout now) a s
+
 -- where nothing asks for them
 quiet_begin : (x y : Party) (call : Call) (a : Answer) (s : Stepped x y call a) → SignalsBy false x.end.waiting.signals (called x y.given call a).end.waiting.signals → SignalsBegin x y call a s
 quiet_begin x y call a s by = ((λ set. inl (by.0 set)), λ set. elim (by.1 set) [ inl waited ↦ inl waited | inr none ↦ absurd (let clash : false ≡ true = none in cc) ])
@@ -343,7 +401,15 @@ record MovesOn (x y : Party) (left e : End) (j : Intake) : Type 0 where
   next : next_after left.ids.peer ≡ next_of x.end.ids.peer.active (brought j.took)
   streams : e.streams ≡ left.streams
   asks : is_some e.waiting.signals.response ≡ true → Asked (came_to x y) j ≡ true
-  waits : LeavesBy true false (λ n. moves_over left e n) (challenging left.waiting) e.waiting
+  waits : LeavesBy true none (λ n. moves_over left e n) (challenging left.waiting) e.waiting
+
+-- the limit on all data lies far above what was said before a call, where these packets came by it
+abbrev pub far_by : Party → List Packet → Type 0
+far_by x took = is_far x.made.streams.receiving.window (all_consumed took x.told) (most_said data_limit_in x.sents) ≡ true
+
+-- what is known of ids before a call, where numbers of these packets were retired behind it
+abbrev ids_before : Party → List Packet → IdsBefore
+ids_before x took = record { used = x.end.ids.peer.active; issued = x.end.ids.own.issued; limit = may_live x; retired = retired_numbers took }
 
 -- What waits behind what came, which has these frames at most: what they leave, and what the change
 -- of the path by them does, if it changes.
@@ -351,21 +417,24 @@ record Arrived (x y : Party) (delivery : Delivery) (e : End) (j : Intake) : Type
   frames : List FrameValue
   brought : (test : FrameValue → Bool) → test padding ≡ false → list_any test frames ≡ true → Brings test (came_to x y) j
   left : End
-  begins : let v = with_delivery x.terms (watch_of x y) x.end.closing.state delivery j in BegunAt (λ q. IsPending x.end q) x.end.ids.peer.active (watch_of x y).flight.flying (watch_of x y).flight.acked frames v.flight.flying v.flight.acked left.streams left.waiting.frames
+  begins : let v = with_delivery x.terms (watch_of x y) x.end.closing.state delivery j in BegunAt (λ q. IsPending x.end q) (ids_before x j.took) (watch_of x y).flight.flying (watch_of x y).flight.acked frames (far_by x j.took) v.flight.flying v.flight.acked left.streams left.waiting.frames
   signals : SignalsBy (Asked (came_to x y) j) x.end.waiting.signals left.waiting.signals
   moves : (e ≡ left) ⊎ MovesOn x y left e j
 
--- before anything came
-nothing_begun : (x y : Party) → Known x y → (frames : List FrameValue) → Begun (λ q. IsPending x.end q) x.end.ids.peer.active (watch_of x y).flight.flying (watch_of x y).flight.acked frames (watch_of x y).flight.flying (watch_of x y).flight.acked x.end
-nothing_begun x y h frames = (
+-- before anything came of a packet with these frames, behind others
+nothing_begun : (x y : Party) → Known x y → x.end.closing.state ≡ states.Open → (packets : List Packet) (came : List FrameValue) → retired_numbers packets ≡ retired_in came (retired_numbers (came_to x y).took) → (frames : List FrameValue) (Spends : StreamsState → Type 0) → Spends x.end.streams
+    → Begun (λ q. IsPending x.end q) (ids_before x packets) (watch_of x y).flight.flying (watch_of x y).flight.acked frames (far_by x packets) Spends (watch_of x y).flight.flying (watch_of x y).flight.acked x.end
+nothing_begun x y h opened packets came is frames Spends spends = (
   record {
     new = [];
     more = sym (append-nil (watch_of x y).flight.acked);
     inside = λ u i. i;
     apart = λ u i j. absurd j;
-    pends = pend_more (λ q. IsPending x.end q) (By (λ q. IsPending x.end q) x.end.ids.peer.active (watch_of x y).flight.flying (watch_of x y).flight.acked frames (watch_of x y).flight.flying []) x.end.streams x.end.waiting.frames (λ q is. inl is) (pends_start x y h);
+    pends = pend_more (λ q. IsPending x.end q) (By (λ q. IsPending x.end q) (ids_before x packets) (watch_of x y).flight.flying (watch_of x y).flight.acked frames (far_by x packets) (watch_of x y).flight.flying []) x.end.streams x.end.waiting.frames (λ q is. inl is) (pends_start x y h);
   },
   inl (omega arith),
+  subst (λ (ns : List ℕ). AreNumbered ns x.end.ids.own.issued (may_live x) x.end.ids.own x.end.ids.limit) (sym is) (numbers_more came (retired_numbers (came_to x y).took) 0 (may_live x) x.end.ids.own x.end.ids.limit (h.0.1.0.1.1.own opened)),
+  spends,
 )
 
 -- ids that are drawn keep their numbers
@@ -383,13 +452,13 @@ module _ (x y : Party) (delivery : Delivery) (a : Answer) (s : Stepped x y (call
   intake = watched_intake (lens x y) x.told (first_watch x.final x.began x.made.path.remote x.first_rtt x.initial_delay)
 
   -- nothing came
-  same_arrived : Arrived x y delivery x.end i
-  same_arrived = record {
+  same_arrived : x.end.closing.state ≡ states.Open → Arrived x y delivery x.end i
+  same_arrived opened = record {
     frames = [];
     brought = λ test none is. cc;
     left = x.end;
-    begins = subst (λ (v : Watch). BegunAt (λ q. IsPending x.end q) x.end.ids.peer.active w.flight.flying w.flight.acked [] v.flight.flying v.flight.acked x.end.streams x.end.waiting.frames)
-        (sym (ap (λ (j : Intake). with_delivery x.terms w x.end.closing.state delivery j) (sym intake) ∙ nothing_delivered x.terms w x.end.closing.state delivery)) (nothing_begun x y s.gives []).0;
+    begins = subst (λ (v : Watch). BegunAt (λ q. IsPending x.end q) (ids_before x i.took) w.flight.flying w.flight.acked [] (far_by x i.took) v.flight.flying v.flight.acked x.end.streams x.end.waiting.frames)
+        (sym (ap (λ (j : Intake). with_delivery x.terms w x.end.closing.state delivery j) (sym intake) ∙ nothing_delivered x.terms w x.end.closing.state delivery)) (nothing_begun x y s.gives opened i.took [] refl [] (λ t. Unit {0}) tt).0;
     signals = signals_same (Asked i i) x.end.waiting.signals;
     moves = inl refl;
   }
@@ -397,7 +466,9 @@ module _ (x y : Party) (delivery : Delivery) (a : Answer) (s : Stepped x y (call
   -- a packet is taken, of which these frames are
   module _ (d : Sent) (seen : List FrameValue) (opened : x.end.closing.state ≡ states.Open) (none : (arrived x.end delivery.now d.number seen).fault ≡ None)
       (fewer : (test : FrameValue → Bool) → test padding ≡ false → list_any test seen ≡ true → list_any test d.frames ≡ true)
-      (flight : after_frames x.terms (max w.clock delivery.now) seen w.flight ≡ after_frames x.terms (max w.clock delivery.now) d.frames w.flight) where
+      (flight : after_frames x.terms (max w.clock delivery.now) seen w.flight ≡ after_frames x.terms (max w.clock delivery.now) d.frames w.flight)
+      (retires_these : (f : FrameValue) → In f seen → Retires (retired_in d.frames (retired_numbers i.took)) f)
+      (says_these : (f : FrameValue) → In f seen → SaysFrame (usage (with_taken i d.number d.frames).took x.told) f × SaysOf (wrote y.told) f) where
     abbrev left : End
     left = (arrived x.end delivery.now d.number seen).end
 
@@ -409,6 +480,9 @@ module _ (x y : Party) (delivery : Delivery) (a : Answer) (s : Stepped x y (call
 
     abbrev used : ℕ
     used = x.end.ids.peer.active
+
+    abbrev ids : IdsBefore
+    ids = ids_before x j.took
 
     abbrev flew : List Sent
     flew = w.flight.flying
@@ -437,12 +511,38 @@ module _ (x y : Party) (delivery : Delivery) (a : Answer) (s : Stepped x y (call
     begins : Waits x.terms now w.flight (held (begun x.end delivery.now d.number))
     begins = ticked_waits x.terms w.clock delivery.now w.flight (record (held x.end) { numbers = numbers }) (numbers_wait x.terms w.clock w.flight (held x.end) numbers refl waits)
 
+    -- what is known of streams, and what was consumed of all
+    abbrev window : ℕ
+    window = x.made.streams.receiving.window
+
+    abbrev stream_window : ℕ
+    stream_window = x.made.streams.receiving.stream_window
+
+    abbrev Known_of : StreamsState → Type 0
+    Known_of = Spends window stream_window j.took x.told x.end.streams (wrote y.told)
+
+    within : Within y x
+    within = s.takes.0.1.1.1.0
+
+    spent : Known_of x.end.streams
+    spent = record {
+      stays = within.stays;
+      reads_are = s.takes.0.0.0.1.reads;
+      uses = more_used window stream_window (usage i.took x.told) (usage j.took x.told) (packet_uses (record { number = d.number; frames = d.frames }) i.took x.told) x.end.streams (s.takes.0.1.1.1.1.still opened);
+    }
+
+    spends_these : (f : FrameValue) (e : End) → In f seen → Known_of e.streams → Known_of (take_frame f e).end.streams
+    spends_these f e among k = spends_frame window stream_window j.took x.told x.end.streams (wrote y.told) f e (says_these f among).0 (says_these f among).1 k
+
+    far_these : (t : StreamsState) → Known_of t → data_grew t.receiving ≡ true → far_by x j.took
+    far_these t k grew = far_in window stream_window j.took x.told x.end.streams (wrote y.told) x.sents within.told within.first_all t k grew
+
     -- what they leave, where other ids may be drawn of those that wait
-    taken_begun : (ids : List IssuedCid) → ((n : ℕ) → has_new_id n ids ≡ true → has_new_id n left.waiting.frames.new_cids ≡ true)
-        → (let v = with_delivery x.terms w x.end.closing.state delivery j in BegunAt Start used flew before seen v.flight.flying v.flight.acked left.streams (record left.waiting.frames { new_cids = ids }))
-    taken_begun ids same =
-        let all = frames_fly x.terms now seen (Begun Start used flew before seen) (begun_flies Start used flew before seen) w.flight (begun x.end delivery.now d.number) none (record { waits = begins; holds = nothing_begun x y s.gives seen }) in
-        subst (λ (f : Flight). BegunAt Start used flew before seen f.flying f.acked left.streams (record left.waiting.frames { new_cids = ids })) (sym there) (ids_begun Start used flew before seen after.flying after.acked left ids same all.holds.0)
+    taken_begun : (cids : List IssuedCid) → ((n : ℕ) → has_new_id n cids ≡ true → has_new_id n left.waiting.frames.new_cids ≡ true)
+        → (let v = with_delivery x.terms w x.end.closing.state delivery j in BegunAt Start ids flew before seen (far_by x j.took) v.flight.flying v.flight.acked left.streams (record left.waiting.frames { new_cids = cids }))
+    taken_begun cids same =
+        let all = frames_fly x.terms now seen (Begun Start ids flew before seen (far_by x j.took) Known_of) (begun_flies Start ids flew before seen (far_by x j.took) Known_of (spends_settled window stream_window j.took x.told x.end.streams (wrote y.told)) spends_these far_these retires_these) w.flight (begun x.end delivery.now d.number) none (record { waits = begins; holds = nothing_begun x y s.gives opened j.took d.frames refl seen Known_of spent }) in
+        subst (λ (f : Flight). BegunAt Start ids flew before seen (far_by x j.took) f.flying f.acked left.streams (record left.waiting.frames { new_cids = cids })) (sym there) (ids_begun Start ids flew before seen (far_by x j.took) after.flying after.acked left cids same all.holds.0)
 
     taken_signals : SignalsBy (Asked i j) x.end.waiting.signals left.waiting.signals
     taken_signals =
@@ -467,7 +567,7 @@ module _ (x y : Party) (delivery : Delivery) (a : Answer) (s : Stepped x y (call
         let f : End = after_taken d.number (asks_in (map Ok d.frames)) urged mark left in
         let there : End = drawn p.words f in
         let waits = moved_waits p o delivery.remote there in
-        let passes = packet_passes (brought i.took) used seen (begun x.end delivery.now d.number) none ask (s.gives.0.1.1.knows opened) refl in
+        let passes = packet_passes (brought i.took) used seen (begun x.end delivery.now d.number) none ask (s.gives.0.1.1.0.knows opened) refl in
         let knows : Knows (brought j.took) [] left.ids.peer = subst (λ (ns : List ℕ). Knows (ns ++ brought i.took) [] left.ids.peer) same passes.knows in
         record {
           frames = seen;
@@ -492,7 +592,7 @@ module _ (x y : Party) (delivery : Delivery) (a : Answer) (s : Stepped x y (call
   delivered : (called x y.given (calls.Deliver delivery) a).end.closing.state ≡ states.Open → Arrived x y delivery (called x y.given (calls.Deliver delivery) a).end (came_to (called x y.given (calls.Deliver delivery) a) y)
   delivered = by_coming_from x y a s.joined s.served (meets y x (packets y x s.takes)) (λ (b : Answer) (e : End) (j : Intake). e.closing.state ≡ states.Open → Arrived x y delivery e j) (calls.Deliver delivery) s.answer (record {
     apart = λ apart. cc;
-    none = λ other same opened. same_arrived;
+    none = λ other same opened. same_arrived opened;
     comes = λ other same d among. (
         let is : delivery ≡ other = cc in
         subst (λ (z : Delivery). ArrivalsFrom z.remote z.ecn x.end z.now d.number d.frames i (λ (o : Outcome) (j : Intake). o.end.closing.state ≡ states.Open → Arrived x y delivery o.end j)) is (arrivals d among));
@@ -500,7 +600,7 @@ module _ (x y : Party) (delivery : Delivery) (a : Answer) (s : Stepped x y (call
     where
       arrivals : (d : Sent) → In d y.sents → ArrivalsFrom delivery.remote delivery.ecn x.end delivery.now d.number d.frames i (λ (o : Outcome) (j : Intake). o.end.closing.state ≡ states.Open → Arrived x y delivery o.end j)
       arrivals d among = record {
-        ignored = λ reason opened. same_arrived;
+        ignored = λ reason opened. same_arrived opened;
         noted = λ state reason opened. (let clash : states.Closing ≡ states.Open = sym state ∙ opened in cc);
         takes = λ p o reads state new none opened. moves none p o reads state (moves_by delivery.remote d.number d.frames x.end && is_open (after p none).closing.state);
         drains = λ words state new close fault opened. cc;
@@ -526,12 +626,21 @@ module _ (x y : Party) (delivery : Delivery) (a : Answer) (s : Stepped x y (call
           flight : after_frames x.terms (max w.clock delivery.now) seen w.flight ≡ after_frames x.terms (max w.clock delivery.now) d.frames w.flight
           flight = flight_at x.terms (max w.clock delivery.now) here d.frames w.flight
 
+          retires_these : (f : FrameValue) → In f seen → Retires (retired_in d.frames (retired_numbers i.took)) f
+          retires_these = among_at (Retires (retired_in d.frames (retired_numbers i.took))) tt here d.frames (each_retires d.frames (retired_numbers i.took))
+
+          says_these : (f : FrameValue) → In f seen → SaysFrame (usage (with_taken i d.number d.frames).took x.told) f × SaysOf (wrote y.told) f
+          says_these f k = (
+            among_at (SaysFrame (usage (with_taken i d.number d.frames).took x.told)) (padding_said (usage (with_taken i d.number d.frames).took x.told)) here d.frames (frame_said (record { number = d.number; frames = d.frames }) i.took x.told) f k,
+            among_at (SaysOf (wrote y.told)) tt here d.frames (s.takes.0.0.0.0.0.1.0.says d among) f k,
+          )
+
           ask : AllAskNone seen
-          ask = among_at AsksNone tt here d.frames (s.takes.0.1.1.asks d among)
+          ask = among_at AsksNone tt here d.frames (s.takes.0.1.1.0.asks d among)
 
           moves : (none : (arrived x.end delivery.now d.number seen).fault ≡ None) (p : Policy) (o : Opening) → items o.payload ≡ map Ok d.frames → x.end.closing.state ≡ states.Open → (b : Bool) → Arrived x y delivery (migrated_if b p o delivery.remote (after p none)) (with_taken i d.number d.frames)
-          moves none p o reads state true = moved_arrived d seen state none fewer flight p o reads ask (brought_at here d.frames) urged delivery.ecn
-          moves none p o reads state false = taken_arrived d seen state none fewer flight p.words urged delivery.ecn
+          moves none p o reads state true = moved_arrived d seen state none fewer flight retires_these says_these p o reads ask (brought_at here d.frames) urged delivery.ecn
+          moves none p o reads state false = taken_arrived d seen state none fewer flight retires_these says_these p.words urged delivery.ecn
 
 -- ---- what has begun has a cause
 
@@ -542,15 +651,15 @@ behind_acked before later new is = ap (λ (xs : List Sent). drop (length before)
 -- an observer finds which id of the peer is next at an open end
 known_next : (x y : Party) (call : Call) (a : Answer) (s : Stepped x y call a) → next_after x.end.ids.peer ≡ next_of s.using (brought (watch_of x y).intake.took)
 known_next x y call a s =
-    next_is (brought (came_to x y).took) x.end.ids.peer (s.gives.0.1.1.knows (was x y call a s))
+    next_is (brought (came_to x y).took) x.end.ids.peer (s.gives.0.1.1.0.knows (was x y call a s))
     ∙ ap (λ (n : ℕ). next_of n (brought (came_to x y).took)) s.used
     ∙ ap (λ (i : Intake). next_of s.using (brought i.took)) (sym (watched_intake (lens x y) x.told (first_watch x.final x.began x.made.path.remote x.first_rtt x.initial_delay)))
 
 -- where these are in flight behind the call, and these were acknowledged, and frames that it
 -- brought are among these
 module _ (x y : Party) (call : Call) (a : Answer) (s : Stepped x y call a) (frames : List FrameValue) (brought : (test : FrameValue → Bool) → test padding ≡ false → list_any test frames ≡ true → brings test (seen_of x y call a s) ≡ true) (new : List Sent)
-    (more : (seen_of x y call a s).behind.flight.acked ≡ (watch_of x y).flight.acked ++ new) where
-  caused : (q : Thing) → By (λ z. IsPending x.end z) x.end.ids.peer.active (watch_of x y).flight.flying (watch_of x y).flight.acked frames (seen_of x y call a s).behind.flight.flying new q → Caused x y call a s q
+    (more : (seen_of x y call a s).behind.flight.acked ≡ (watch_of x y).flight.acked ++ new) (packets : List Packet) (same : packets ≡ (seen_of x y call a s).behind.intake.took) where
+  caused : (q : Thing) → By (λ z. IsPending x.end z) (ids_before x packets) (watch_of x y).flight.flying (watch_of x y).flight.acked frames (far_by x packets) (seen_of x y call a s).behind.flight.flying new q → Caused x y call a s q
   caused q (inl start) = inl start
   caused q (inr (inl lost)) = inr (by_kind q lost.bore (record {
     sent = lost.sent;
@@ -565,9 +674,21 @@ module _ (x y : Party) (call : Call) (a : Answer) (s : Stepped x y call a) (fram
       by_kind (Fin id) bore l = inr l
       by_kind (Frame c) bore l = inr (inl l)
       by_kind z bore l = absurd bore
-  caused (Frame (LimitOf AllData)) (inr (inr raised)) = inr (inl (or_right _ (brings brings_data (seen_of x y call a s)) (brought brings_data refl raised)))
+  caused (Frame (LimitOf AllData)) (inr (inr raised)) = (
+      let seen = seen_of x y call a s in
+      let told : List Told = x.told ++ seen.now ∷ [] in
+      let here : is_far seen.window (all_consumed packets told) (most_said data_limit_in x.sents) ≡ true = far_more seen.window (all_consumed packets x.told) (all_consumed packets told) (most_said data_limit_in x.sents) (told_consumes packets x.told seen.now) raised.1 in
+      let far : is_far_in_all seen ≡ true = subst (λ (ss : List Sent). is_far seen.window (all_consumed seen.behind.intake.took told) (most_said data_limit_in ss) ≡ true) (sym (sight x y s.gives).own) (subst (λ (ps : List Packet). is_far seen.window (all_consumed ps told) (most_said data_limit_in x.sents) ≡ true) same here) in
+      inr (inl (and_from (uses_up call a || brings brings_data seen) (is_far_in_all seen) (or_right (uses_up call a) (brings brings_data seen) (brought brings_data refl raised.0)) far)))
   caused (Frame (LimitOf (StreamCount dir))) (inr (inr raised)) = inr (inl (or_right _ (brings may_end (seen_of x y call a s)) (brought may_end refl raised)))
-  caused (Frame (NewId number)) (inr (inr raised)) = inr (inl (brought is_retirement refl raised))
+  caused (Frame (NewId number)) (inr (inr raised)) = (
+      let seen = seen_of x y call a s in
+      let low = raised.1 in
+      let own = s.gives.0.1.0.1.0.own (was x y call a s) in
+      let fresh : was_told number seen ≡ false = untold number x.end.ids.own.issued seen.gave (λ u f i j. (own.sent u (new_connection_id f) (subst (λ (ss : List Sent). In u ss) (sight x y s.gives).own i) j).1) low in
+      let near : number < issued_below seen = subst (λ (ps : List Packet). number < may_live x + length (retired_numbers ps)) same raised.2 in
+      inr (inl (and_from (brings is_retirement seen) (not (was_told number seen) && nat_lt number (issued_below seen)) (brought is_retirement refl raised.0)
+      (and_from (not (was_told number seen)) (nat_lt number (issued_below seen)) (ap not fresh) (lt-ltb number (issued_below seen) near)))))
   caused (Frame (Retirement number)) (inr (inr raised)) = (
       let may : list_any (retires s.using number) frames ≡ true = subst (λ (n : ℕ). list_any (retires n number) frames ≡ true) s.used raised in
       inr (inl (or_right (passes_over (seen_of x y call a s) number) (brings (retires s.using number) (seen_of x y call a s)) (brought (retires s.using number) refl may))))
@@ -599,15 +720,15 @@ module _ (x y : Party) (delivery : Delivery) (a : Answer) (s : Stepped x y (call
       ∙ ap (λ (j : Intake). (with_delivery x.terms (watch_of x y) x.end.closing.state delivery j).flight)
       (ap (λ (i : Intake). and_told x.policy y.final (told_of told a x.end.closing.state) i) (watched_intake (lens x y) x.told (first_watch x.final x.began x.made.path.remote x.first_rtt x.initial_delay)) ∙ sym (came_more x y told a))
 
-  begun_at : BegunAt (λ q. IsPending x.end q) x.end.ids.peer.active (watch_of x y).flight.flying (watch_of x y).flight.acked r.frames of_call.behind.flight.flying of_call.behind.flight.acked r.left.streams r.left.waiting.frames
-  begun_at = subst (λ (f : Flight). BegunAt (λ q. IsPending x.end q) x.end.ids.peer.active (watch_of x y).flight.flying (watch_of x y).flight.acked r.frames f.flying f.acked r.left.streams r.left.waiting.frames) (sym flight_behind) r.begins
+  begun_at : BegunAt (λ q. IsPending x.end q) (ids_before x (came_to behind y).took) (watch_of x y).flight.flying (watch_of x y).flight.acked r.frames (far_by x (came_to behind y).took) of_call.behind.flight.flying of_call.behind.flight.acked r.left.streams r.left.waiting.frames
+  begun_at = subst (λ (f : Flight). BegunAt (λ q. IsPending x.end q) (ids_before x (came_to behind y).took) (watch_of x y).flight.flying (watch_of x y).flight.acked r.frames (far_by x (came_to behind y).took) f.flying f.acked r.left.streams r.left.waiting.frames) (sym flight_behind) r.begins
 
   here : (test : FrameValue → Bool) → Brings test (came_to x y) (came_to behind y) → brings test of_call ≡ true
   here test is = ap (λ (ps : List Packet). list_any (λ p. list_any test p.frames) ps) (came_is x y told a s) ∙ is
 
   -- what the frames leave has a cause
   left_pends : Pends (Caused x y told a s) r.left
-  left_pends = pend_more _ (Caused x y told a s) _ _ (caused x y told a s r.frames (λ test none is. here test (r.brought test none is)) begun_at.new begun_at.more) begun_at.pends
+  left_pends = pend_more _ (Caused x y told a s) _ _ (caused x y told a s r.frames (λ test none is. here test (r.brought test none is)) begun_at.new begun_at.more (came_to behind y).took (took_behind x y told a s)) begun_at.pends
 
   -- where the path changes, so has a number that the next id passes over
   module _ (m : MovesOn x y r.left behind.end (came_to behind y)) where
@@ -634,11 +755,11 @@ module _ (x y : Party) (delivery : Delivery) (a : Answer) (s : Stepped x y (call
         goes false is stays = refl
 
     moved_pends : Pends (Caused x y told a s) behind.end
-    moved_pends = leaves_pend (Caused x y told a s) (record r.left { waiting = challenging r.left.waiting }) behind.end true false (λ n. moves_over r.left behind.end n) m.waits m.streams (λ none n. cc) retired left_pends
+    moved_pends = leaves_pend (Caused x y told a s) (record r.left { waiting = challenging r.left.waiting }) behind.end true none (λ n. moves_over r.left behind.end n) m.waits m.streams (λ n is. cc) retired left_pends
 
     moved_signals : SignalsBegin x y told a s
     moved_signals = (
-      (λ set. inr (or_right (is_timeout told) (has_changed of_call.before of_call.behind) changed)),
+      (λ set. inr (or_left (has_changed s.questions.watch of_call.behind) _ (ap (λ (v : Watch). has_changed v of_call.behind) s.watched ∙ changed))),
       (λ set. inr (here is_path_challenge (m.asks set))),
     )
 
@@ -662,13 +783,16 @@ module _ (x y : Party) (delivery : Delivery) (a : Answer) (s : Stepped x y (call
 
 pub signals_begin : (x y : Party) (call : Call) (a : Answer) (s : Stepped x y call a) → SignalsBegin x y call a s
 signals_begin x y (calls.Poll now) a s = quiet_begin x y (calls.Poll now) a s (polled_signals x.policy x.end now s.opened)
-signals_begin x y (calls.Timeout now) a s = ((λ set. inr refl), λ set. inl (sym (ap is_some (timed x.policy x.end now (was x y (calls.Timeout now) a s) s.opened).response) ∙ set))
+signals_begin x y (calls.Timeout now) a s = ((λ set. elim (left.challenged set) [ inl waited ↦ inl waited | inr expires ↦ inr (due_anew x y now a s expires) ]), λ set. inl (sym (ap is_some left.response) ∙ set))
+  where
+    left : Timed x.end (timed_out x.policy x.end now).end now
+    left = timed x.policy x.end now (was x y (calls.Timeout now) a s) s.opened
 signals_begin x y (calls.Deliver delivery) a s = delivery_signals x y delivery a s
 signals_begin x y call a s = quiet_begin x y call a s (quiet_signals x.policy x.end y.given call a refl refl refl)
 
 -- a timeout
 pub timeout_begins : (x y : Party) (now : ℕ) (a : Answer) (s : Stepped x y (calls.Timeout now) a) → StreamsBegin x y (calls.Timeout now) a s
-timeout_begins x y now a s = left_of (Caused x y call a s) (called x y.given call a).end (pend_more _ (Caused x y call a s) _ _ (caused x y call a s [] (λ test none is. cc) at.new at.more) at.pends)
+timeout_begins x y now a s = left_of (Caused x y call a s) (called x y.given call a).end (pend_more _ (Caused x y call a s) _ _ (caused x y call a s [] (λ test none is. cc) at.new at.more (came_to x y).took same) at.pends)
   where
     call : Call
     call = calls.Timeout now
@@ -676,8 +800,8 @@ timeout_begins x y now a s = left_of (Caused x y call a s) (called x y.given cal
     w : Watch
     w = watch_of x y
 
-    used : ℕ
-    used = x.end.ids.peer.active
+    ids : IdsBefore
+    ids = ids_before x (came_to x y).took
 
     opened : x.end.closing.state ≡ states.Open
     opened = was x y call a s
@@ -690,14 +814,24 @@ timeout_begins x y now a s = left_of (Caused x y call a s) (called x y.given cal
         told_timed (lens x y) t w (only_polls_give x.policy x.end y.given call a refl s.answer) (none_comes (lens x y) t w.intake refl)
         ∙ ap (λ (z : State). watch_moment (is_timely z call) x.terms (record w { clock = clock_behind w.clock (moment_of z false call) })) opened
 
-    flies : Begun (λ q. IsPending x.end q) used w.flight.flying w.flight.acked [] (at_time x.terms w now).flight.flying (at_time x.terms w now).flight.acked (timed_out_in states.Open x.policy x.end now).end
-    flies = timeout_flies (Begun (λ q. IsPending x.end q) used w.flight.flying w.flight.acked []) (begun_loses (λ q. IsPending x.end q) used w.flight.flying w.flight.acked []) (λ flying acked c pending timers signals validation e i. i)
-        x.policy x.terms w x.end now ((sight x y s.gives).stands opened) ((sight x y s.gives).watched.flight opened) (nothing_begun x y s.gives [])
+    same : (came_to x y).took ≡ (seen_of x y call a s).behind.intake.took
+    same = ap (λ (i : Intake). i.took) (sym (watched_intake (lens x y) x.told (first_watch x.final x.began x.made.path.remote x.first_rtt x.initial_delay))) ∙ ap (λ (v : Watch). v.intake.took) (sym behind)
 
-    at : BegunAt (λ q. IsPending x.end q) used w.flight.flying w.flight.acked [] (seen_of x y call a s).behind.flight.flying (seen_of x y call a s).behind.flight.acked (timed_out x.policy x.end now).end.streams (timed_out x.policy x.end now).end.waiting.frames
+    -- no frame comes by it, and so nothing is to be known of streams
+    Of : StreamsState → Type 0
+    Of t = Unit {0}
+
+    far : Type 0
+    far = far_by x (came_to x y).took
+
+    flies : Begun (λ q. IsPending x.end q) ids w.flight.flying w.flight.acked [] far Of (at_time x.terms w now).flight.flying (at_time x.terms w now).flight.acked (timed_out_in states.Open x.policy x.end now).end
+    flies = timeout_flies (Begun (λ q. IsPending x.end q) ids w.flight.flying w.flight.acked [] far Of) (begun_loses (λ q. IsPending x.end q) ids w.flight.flying w.flight.acked [] far Of (λ step e i. i)) (λ flying acked c pending timers signals validation e i. i)
+        x.policy x.terms w x.end now ((sight x y s.gives).stands opened) ((sight x y s.gives).watched.flight opened) (nothing_begun x y s.gives opened (came_to x y).took [] refl [] Of tt)
+
+    at : BegunAt (λ q. IsPending x.end q) ids w.flight.flying w.flight.acked [] far (seen_of x y call a s).behind.flight.flying (seen_of x y call a s).behind.flight.acked (timed_out x.policy x.end now).end.streams (timed_out x.policy x.end now).end.waiting.frames
     at =
-        subst (λ (v : Watch). BegunAt (λ q. IsPending x.end q) used w.flight.flying w.flight.acked [] v.flight.flying v.flight.acked (timed_out x.policy x.end now).end.streams (timed_out x.policy x.end now).end.waiting.frames) (sym behind)
-        (subst (λ (z : State). BegunAt (λ q. IsPending x.end q) used w.flight.flying w.flight.acked [] (at_time x.terms w now).flight.flying (at_time x.terms w now).flight.acked (timed_out_in z x.policy x.end now).end.streams (timed_out_in z x.policy x.end now).end.waiting.frames) (sym opened) flies.0)
+        subst (λ (v : Watch). BegunAt (λ q. IsPending x.end q) ids w.flight.flying w.flight.acked [] far v.flight.flying v.flight.acked (timed_out x.policy x.end now).end.streams (timed_out x.policy x.end now).end.waiting.frames) (sym behind)
+        (subst (λ (z : State). BegunAt (λ q. IsPending x.end q) ids w.flight.flying w.flight.acked [] far (at_time x.terms w now).flight.flying (at_time x.terms w now).flight.acked (timed_out_in z x.policy x.end now).end.streams (timed_out_in z x.policy x.end now).end.waiting.frames) (sym opened) flies.0)
 
 -- a poll
 pub poll_begins : (x y : Party) (now : ℕ) (a : Answer) (s : Stepped x y (calls.Poll now) a) → StreamsBegin x y (calls.Poll now) a s
@@ -714,8 +848,8 @@ poll_begins x y now a s = polled_left (Caused x y call a s) x.policy x.end now (
     -- the observer finds when the peer is to be asked
     known_anew : is_anew (by_of x.end) ≡ wants_anew (asking_of x.made) (watch_of x y).own (watch_of x y).flight
     known_anew =
-        anew_known x.terms (watch_of x y).clock x.sents (watch_of x y).flight x.end seen_waits.tells s.gives.0.1.0.next
-        ∙ ap (λ (b : Asking). wants_anew b x.sents (watch_of x y).flight) s.gives.0.1.0.same
+        anew_known x.terms (watch_of x y).clock x.sents (watch_of x y).flight x.end seen_waits.tells s.gives.0.1.0.0.next
+        ∙ ap (λ (b : Asking). wants_anew b x.sents (watch_of x y).flight) s.gives.0.1.0.0.same
         ∙ ap (λ (ss : List Sent). wants_anew (asking_of x.made) ss (watch_of x y).flight) (sym (sight x y s.gives).own)
 
 -- an observer finds which ids of the peer are passed over where the next one is used

@@ -87,20 +87,23 @@ pub record AsksOn (id : ℕ) (s t : StreamsState) : Type 0 where
   pub unsaid : was_said half.said half.limit ≡ false
   pub used : at t.sending.halves.live id ≡ Some half
 
--- a limit that is found used up by a call that leaves these streams isn't the one that was said last
+-- a limit that is found used up by a call that leaves these streams isn't the one that was said
+-- last; and one on all data, or on a stream that was read, grew in these
 abbrev pub IsUnsaid : StreamsState → StreamsState → Control → Type 0
 IsUnsaid s t Blocked = was_said s.sending.said s.sending.limit ≡ false
 IsUnsaid s t (BlockedOn id) = AsksOn id s t
+IsUnsaid s t (LimitOf (StreamData id)) = stream_grew t id ≡ true
+IsUnsaid s t (LimitOf AllData) = data_grew t.receiving ≡ true
 IsUnsaid s t c = Unit {0}
 
 -- where another control frame is asked for, nothing is to be shown
 unsaid_as : (s t : StreamsState) (c d : Control) → c ≡ d → IsUnsaid s t d → IsUnsaid s t c
 unsaid_as s t c d same i = subst (IsUnsaid s t) (sym same) i
 
-grew_unsaid : (c : Control) (s t v : StreamsState) → Grew v c → IsUnsaid s t c
-grew_unsaid (LimitOf AllData) s t v grew = tt
-grew_unsaid (LimitOf (StreamCount dir)) s t v grew = tt
-grew_unsaid c s t v grew = absurd grew
+grew_unsaid : (c : Control) (s t : StreamsState) → Grew t c → IsUnsaid s t c
+grew_unsaid (LimitOf AllData) s t grew = grew
+grew_unsaid (LimitOf (StreamCount dir)) s t grew = tt
+grew_unsaid c s t grew = absurd grew
 
 -- it waited, or is asked for
 abbrev pub By : Streams → StreamsState → Call → Answer → Control → Type 0
@@ -201,28 +204,37 @@ stop_more (StopOf q) None id code p is = elim (or_cases (has_stop q p.stop_sendi
 ]
 stop_more c None id code p is = inl is
 
--- the state in which its limits are decided
-stop_one : (c : Control) (o : Option RecvHalf) (s : StreamsState) (p : Retransmits) (id code : ℕ) → control_waits (stopped_at o s p id code).pending c ≡ true → (control_waits p c ≡ true) ⊎ ((c ≡ StopOf id) ⊎ ((v : StreamsState) × Grew v c))
+-- limits are decided in the state that it leaves
+stop_one : (c : Control) (o : Option RecvHalf) (s : StreamsState) (p : Retransmits) (id code : ℕ) → control_waits (stopped_at o s p id code).pending c ≡ true → (control_waits p c ≡ true) ⊎ ((c ≡ StopOf id) ⊎ Grew (stopped_at o s p id code).state c)
 stop_one c None s p id code is = inl is
-stop_one c (Some h) s p id code is = either h.stopped (streams_of s p) (settled (stopped_if (is_some h.final) s id h) (with_stop h.reset id code p)) c ((control_waits p c ≡ true) ⊎ ((c ≡ StopOf id) ⊎ ((v : StreamsState) × Grew v c))) (λ was. inl was)
-    (λ new. elim (decided_one c (stopped_if (is_some h.final) s id h) (with_stop h.reset id code p) new) [
+stop_one c (Some h) s p id code is = go h.stopped is
+  where
+    left : StreamsState
+    left = stopped_if (is_some h.final) s id h
+
+    after : Streams
+    after = settled left (with_stop h.reset id code p)
+
+    go : (b : Bool) → control_waits (if b then streams_of s p else after).pending c ≡ true → (control_waits p c ≡ true) ⊎ ((c ≡ StopOf id) ⊎ Grew (if b then streams_of s p else after).state c)
+    go true was = inl was
+    go false new = elim (decided_one c left (with_stop h.reset id code p) new) [
       | inl waits ↦ elim (stop_more c h.reset id code p waits) [ inl was ↦ inl was | inr same ↦ inr (inl same) ]
-      | inr grew ↦ inr (inr (stopped_if (is_some h.final) s id h, grew))
-    ]) is
+      | inr grew ↦ inr (inr grew)
+    ]
 
 -- a reset that is told
 told_one : (c : Control) (r : Result (Option ℕ) ClosedStream) (s : StreamsState) (p : Retransmits) (id : ℕ) → control_waits (reset_told r s p id).pending c ≡ true → By (streams_of s p) (reset_told r s p id).state (calls.ReceivedReset id) (answers.ReceivedReset r) c
-told_one c (Ok (Some code)) s p id is = elim (decided_one c (recv_done s id) p is) [ inl was ↦ inl was | inr grew ↦ inr (grew_asked c (recv_done s id) (calls.ReceivedReset id) (answers.ReceivedReset (Ok (Some code))) refl grew, grew_unsaid c s (recv_done s id) (recv_done s id) grew) ]
+told_one c (Ok (Some code)) s p id is = elim (decided_one c (recv_done s id) p is) [ inl was ↦ inl was | inr grew ↦ inr (grew_asked c (recv_done s id) (calls.ReceivedReset id) (answers.ReceivedReset (Ok (Some code))) refl grew, grew_unsaid c s (recv_done s id) grew) ]
 told_one c (Ok None) s p id is = inl is
 told_one c (Err e) s p id is = inl is
 
 -- a read
-stream_more : (c : Control) (b : Bool) (id : ℕ) (p : Retransmits) → control_waits (with_stream_if b id p) c ≡ true → (control_waits p c ≡ true) ⊎ (c ≡ LimitOf (StreamData id))
+stream_more : (c : Control) (b : Bool) (id : ℕ) (p : Retransmits) → control_waits (with_stream_if b id p) c ≡ true → (control_waits p c ≡ true) ⊎ ((c ≡ LimitOf (StreamData id)) × (b ≡ true))
 stream_more c false id p is = inl is
-stream_more (LimitOf (StreamData q)) true id p is = elim (has_either id q p.max_stream_data is) [ inl was ↦ inl was | inr same ↦ inr (ap (λ (n : ℕ). LimitOf (StreamData n)) same) ]
+stream_more (LimitOf (StreamData q)) true id p is = elim (has_either id q p.max_stream_data is) [ inl was ↦ inl was | inr same ↦ inr (ap (λ (n : ℕ). LimitOf (StreamData n)) same, refl) ]
 stream_more c true id p is = inl is
 
-read_one : (c : Control) (s : StreamsState) (p : Retransmits) (id : ℕ) → control_waits (read_decided s p id) c ≡ true → (control_waits p c ≡ true) ⊎ ((c ≡ LimitOf (StreamData id)) ⊎ Grew s c)
+read_one : (c : Control) (s : StreamsState) (p : Retransmits) (id : ℕ) → control_waits (read_decided s p id) c ≡ true → (control_waits p c ≡ true) ⊎ (((c ≡ LimitOf (StreamData id)) × (stream_grew s id ≡ true)) ⊎ Grew s c)
 read_one c s p id is = elim (stream_more c (stream_grew s id) id (decided s p) is) [
   | inl waits ↦ elim (decided_one c s p waits) [ inl was ↦ inl was | inr grew ↦ inr (inr grew) ]
   | inr same ↦ inr (inl same)
@@ -257,8 +269,8 @@ call_one b c t (calls.Read read) (answers.Read (Ok said)) told is =
     elim (read_one c s t.pending read.id is) [
       | inl was ↦ inl was
       | inr new ↦ elim new [
-        | inl same ↦ inr (ap (call_asks (calls.Read read) (answers.Read (Ok said))) same ∙ itself read.id, unsaid_as t.state s c (LimitOf (StreamData read.id)) same tt)
-        | inr grew ↦ inr (grew_asked c s (calls.Read read) (answers.Read (Ok said)) refl grew, grew_unsaid c t.state s s grew)
+        | inl same ↦ inr (ap (call_asks (calls.Read read) (answers.Read (Ok said))) same.0 ∙ itself read.id, unsaid_as t.state s c (LimitOf (StreamData read.id)) same.0 same.1)
+        | inr grew ↦ inr (grew_asked c s (calls.Read read) (answers.Read (Ok said)) refl grew, grew_unsaid c t.state s grew)
       ]
     ]
 call_one b c t (calls.Read read) (answers.Read (Err e)) told is = inl is
@@ -266,7 +278,7 @@ call_one b c t (calls.Stop id code) (answers.Stop (Ok done)) told is = elim (sto
   | inl was ↦ inl was
   | inr new ↦ elim new [
     | inl same ↦ inr (ap (call_asks (calls.Stop id code) (answers.Stop (Ok done))) same ∙ itself id, unsaid_as t.state (after_on_streams b t (calls.Stop id code) (answers.Stop (Ok done))).state c (StopOf id) same tt)
-    | inr grew ↦ inr (grew_asked c grew.0 (calls.Stop id code) (answers.Stop (Ok done)) refl grew.1, grew_unsaid c t.state (after_on_streams b t (calls.Stop id code) (answers.Stop (Ok done))).state grew.0 grew.1)
+    | inr grew ↦ (let v : StreamsState = (after_on_streams b t (calls.Stop id code) (answers.Stop (Ok done))).state in inr (grew_asked c v (calls.Stop id code) (answers.Stop (Ok done)) refl grew, grew_unsaid c t.state v grew))
   ]
 ]
 call_one b c t (calls.Stop id code) (answers.Stop (Err e)) told is = inl is
@@ -275,44 +287,48 @@ call_one b c t call a told is = inl is
 
 -- ---- frames that come
 
--- limits that STREAM and RESET_STREAM may raise
-abbrev pub IsRaised : Control → Type 0
-IsRaised (LimitOf AllData) = Unit {0}
-IsRaised (LimitOf (StreamCount dir)) = Unit {0}
-IsRaised c = ⊥
+-- limits that STREAM and RESET_STREAM may raise, where they leave these streams
+abbrev pub IsRaised : StreamsState → Control → Type 0
+IsRaised t (LimitOf AllData) = data_grew t.receiving ≡ true
+IsRaised t (LimitOf (StreamCount dir)) = Unit {0}
+IsRaised t c = ⊥
 
-grew_raised : (c : Control) (s : StreamsState) → Grew s c → IsRaised c
-grew_raised (LimitOf AllData) s grew = tt
+grew_raised : (c : Control) (s : StreamsState) → Grew s c → IsRaised s c
+grew_raised (LimitOf AllData) s grew = grew
 grew_raised (LimitOf (StreamCount dir)) s grew = tt
 grew_raised c s grew = absurd grew
 
-raised_one : (c : Control) (s : StreamsState) (p : Retransmits) → control_waits (decided s p) c ≡ true → (control_waits p c ≡ true) ⊎ IsRaised c
+-- it waited, or is raised
+abbrev RaisedIn : Control → Retransmits → Streams → Type 0
+RaisedIn c p t = (control_waits p c ≡ true) ⊎ IsRaised t.state c
+
+raised_one : (c : Control) (s : StreamsState) (p : Retransmits) → control_waits (decided s p) c ≡ true → RaisedIn c p (settled s p)
 raised_one c s p is = elim (decided_one c s p is) [ inl was ↦ inl was | inr grew ↦ inr (grew_raised c s grew) ]
 
-stream_one : (c : Control) (s : StreamsState) (p : Retransmits) (f : StreamValue) → control_waits (after_stream s p f).pending c ≡ true → (control_waits p c ≡ true) ⊎ IsRaised c
+stream_one : (c : Control) (s : StreamsState) (p : Retransmits) (f : StreamValue) → control_waits (after_stream s p f).pending c ≡ true → RaisedIn c p (after_stream s p f)
 stream_one c s p f is = go (refusal s f.id _ f.fin) is
   where
-    at_part : (o : Option RecvHalf) → control_waits (stream_at o s p f).pending c ≡ true → (control_waits p c ≡ true) ⊎ IsRaised c
+    at_part : (o : Option RecvHalf) → control_waits (stream_at o s p f).pending c ≡ true → RaisedIn c p (stream_at o s p f)
     at_part None is = inl is
     at_part (Some h) is = raised_one c (renewed s f.id h (after_frame h f) true) p is
 
-    go : (o : Option Breach) → control_waits (stream_unless o s p f).pending c ≡ true → (control_waits p c ≡ true) ⊎ IsRaised c
+    go : (o : Option Breach) → control_waits (stream_unless o s p f).pending c ≡ true → RaisedIn c p (stream_unless o s p f)
     go (Some x) is = inl is
     go None is = at_part (part_for s f.id) is
 
-reset_frame_one : (c : Control) (s : StreamsState) (p : Retransmits) (f : ResetStreamValue) → control_waits (after_reset_frame s p f).pending c ≡ true → (control_waits p c ≡ true) ⊎ IsRaised c
+reset_frame_one : (c : Control) (s : StreamsState) (p : Retransmits) (f : ResetStreamValue) → control_waits (after_reset_frame s p f).pending c ≡ true → RaisedIn c p (after_reset_frame s p f)
 reset_frame_one c s p f is = go (reset_breach s f) is
   where
-    at_part : (o : Option RecvHalf) → control_waits (taking.reset_at o s p f).pending c ≡ true → (control_waits p c ≡ true) ⊎ IsRaised c
+    at_part : (o : Option RecvHalf) → control_waits (taking.reset_at o s p f).pending c ≡ true → RaisedIn c p (taking.reset_at o s p f)
     at_part None is = inl is
     at_part (Some h) is = raised_one c (renewed s f.id h (after_reset_stream h f.code f.final_size) _) p is
 
-    go : (o : Option Breach) → control_waits (reset_unless o s p f).pending c ≡ true → (control_waits p c ≡ true) ⊎ IsRaised c
+    go : (o : Option Breach) → control_waits (reset_unless o s p f).pending c ≡ true → RaisedIn c p (reset_unless o s p f)
     go (Some x) is = inl is
     go None is = at_part (part_for s f.id) is
 
 -- what waits behind a frame on streams waited, or the frame brings data, and it is a limit
-pub frame_one : (c : Control) (f : FrameValue) (e : End) → OnStreams f → control_waits (take_frame f e).end.waiting.frames c ≡ true → (control_waits e.waiting.frames c ≡ true) ⊎ ((brings_data f ≡ true) × IsRaised c)
+pub frame_one : (c : Control) (f : FrameValue) (e : End) → OnStreams f → control_waits (take_frame f e).end.waiting.frames c ≡ true → (control_waits e.waiting.frames c ≡ true) ⊎ ((brings_data f ≡ true) × IsRaised (take_frame f e).end.streams c)
 frame_one c (stream f) e on is = elim (stream_one c e.streams e.waiting.frames f is) [ inl was ↦ inl was | inr raised ↦ inr (refl, raised) ]
 frame_one c (reset_stream f) e on is = elim (reset_frame_one c e.streams e.waiting.frames f is) [ inl was ↦ inl was | inr raised ↦ inr (refl, raised) ]
 frame_one c (stop_sending f) e on is = inl is

@@ -1,6 +1,6 @@
 -- So what waits behind a call waited before it, or has a cause, at each place of an honest run.
 use Rattle.std.proofs.Common.{◌≡◌, ℕ, suc, ◌≤◌, max, Bool, true, false, List, [], ◌∷◌, ◌++◌, length, Option, Some, None, refl, sym, ap, ◌∙◌, subst, ◌⊎◌, inl, inr, arith}
-use Rattle.std.specs.Prelude.{◌↔◌, ◌==◌, not}
+use Rattle.std.specs.Prelude.{◌↔◌, ◌==◌, ◌&&◌, ◌||◌, not, if◌then◌else◌}
 use Rattle.std.specs.List.{list_any}
 use Rattle.std.proofs.lemmas.Bool.{or_left, or_cases, and_from, and_parts, eqb-true, eq-eqb, both_ways}
 use Rattle.quic_wire_core.specs.declared.stream_id.Side.{Side}
@@ -14,14 +14,18 @@ use Rattle.quic_streams_parts.specs.Dirs.{of}
 use Rattle.quic_machine.specs.Tracking.{dir_named}
 use Rattle.quic_machine.specs.Poll.{polled}
 use Rattle.quic_recovery_core.specs.PendingAcks.{Pending}
+use Rattle.quic_time.specs.Timers.{has_come}
 use Rattle.quic_streams_parts.specs.SendHalf.{SendHalf, was_said}
 use Rattle.quic_streams_state.specs.State.{sending_half}
+use Rattle.quic_streams_state.specs.Limits.{data_grew, stream_grew}
+use Rattle.quic_streams_state.specs.declared.state.StreamsState.{StreamsState}
 use Rattle.quic_streams_laws.specs.WrittenLaws.{half_holds}
 use Rattle.quic_machine.specs.declared.answers.State.{State}
 use Rattle.quic_machine.specs.declared.answers.State.TheVariants as states
 use Rattle.quic_machine.specs.declared.run.Call.{Call}
 use Rattle.quic_machine.specs.declared.run.Call.TheVariants as calls
 use Rattle.quic_machine.specs.declared.run.Answer.{Answer}
+use Rattle.quic_machine.specs.declared.run.EndView.{EndView}
 use Rattle.quic_machine.specs.End.{End, streams_at}
 use Rattle.quic_machine.specs.Calls.{is_open}
 use Rattle.quic_machine.specs.Control as window
@@ -33,27 +37,34 @@ use Rattle.quic_machine.specs.CallCases.{is_delivery, is_poll, is_timeout}
 use Rattle.quic_machine.specs.Machine.{World, gave, reads_window, changed, end_at, control_at, heard_at}
 use Rattle.quic_machine.specs.Heard.{Heard}
 use Rattle.quic_machine.specs.RunLaws.{as_many_views}
-use Rattle.quic_headline.specs.Runs.{Run, Told, Intake, In, folded, until, state_at, given_of, AreServed, written}
-use Rattle.quic_headline.specs.Observer.{Sent, HoldsOffset, HoldsEnd, Watch, first_watch, watch, watch_told, watch_from, lens_of, has_changed, generation_at, path_changes}
+use Rattle.quic_headline.specs.Runs.{Run, Told, Packet, Intake, In, folded, until, state_at, given_of, AreServed, written}
+use Rattle.quic_headline.specs.Observer.{Sent, HoldsOffset, HoldsEnd, Watch, first_watch, watch, watch_told, watch_from, lens_of, is_past, has_changed, generation_at, path_changes}
 use Rattle.quic_headline.specs.Headline.{IsHonest, IsRun, IsAt}
 use Rattle.quic_headline.specs.InUse.{in_use, TellsStays}
 use Rattle.quic_headline.specs.Amounts.{greatest, data_limit_in, stream_limit_in, data_limit, stream_limit}
-use Rattle.quic_headline.specs.Duties.{AllData, StreamCount, WasGiven}
+use Rattle.quic_headline.specs.Credit.{all_consumed}
+use Rattle.quic_headline.specs.Duties.{AllData, StreamData, StreamCount, WasGiven}
 use Rattle.quic_headline.specs.Moments.{went}
 use Rattle.quic_headline.specs.Requests.{asking_at}
+use Rattle.quic_headline.specs.Polls as polls
+use Rattle.quic_headline.specs.Expiring.{questions}
 use Rattle.quic_headline.specs.AcksDue.{is_immediate_ack, haste_told, no_haste, is_due}
 use Rattle.quic_headline.specs.Waited.{stands, is_ping, wants, wants_told, no_wants}
-use Rattle.quic_headline.specs.Begins.{Control, LimitOf, Blocked, BlockedOn, NewId, Retirement, Thing, Ack, Ping, Immediate, Challenge, Response, Probe, Message, Byte, Fin, Frame, IsPending, Seen, brings, finds_blocked, may_end, brings_data, says_blocked, says_blocked_on, has_said, has_said_on, retires, uses_past, moves_past, passes_over, asks_for, HasCause, HasGone, seen_at, still, BeginsAt, WaitingBegins, Request, Done}
+use Rattle.quic_headline.specs.Begins.{Control, LimitOf, Blocked, BlockedOn, NewId, Retirement, Thing, Ack, Ping, Immediate, Challenge, Response, Probe, Message, Byte, Fin, Frame, IsPending, Seen, brings, finds_blocked, may_end, brings_data, says_blocked, says_blocked_on, has_said, has_said_on, retires, uses_past, moves_past, passes_over, reads_on, most_said, is_far, is_far_on, is_far_in_all, asks_for, HasCause, HasGone, seen_at, still, BeginsAt, WaitingBegins, Request, Done}
 use Rattle.quic_headline.specs.Begins as new
 use Rattle.quic_headline.proofs.Packets.Intakes.{folded_more}
 use Rattle.quic_headline.proofs.Packets.Watching.{watched_intake}
 use Rattle.quic_headline.proofs.Places.Parties.{sent_by, sent_if, sents_by, told_of, Party, called, came_to, lens, watch_of}
 use Rattle.quic_headline.proofs.Places.Groups.{Way, Nothing, And, Group, both, beside, over, less_calls}
+use Rattle.quic_headline.proofs.Places.Moments.{last_seen}
+use Rattle.quic_headline.proofs.Places.Told.{in_left}
 use Rattle.quic_headline.proofs.Places.Steps.{poll_answer}
 use Rattle.quic_headline.proofs.Places.Placed.{Placed, placed, party_at, stands_in}
 use Rattle.quic_headline.proofs.Halves.Ghosts.{wrote}
 use Rattle.quic_headline.proofs.Halves.QuietSteps.{sent_within}
 use Rattle.quic_headline.proofs.Timers.Still.{was_open}
+use Rattle.quic_headline.proofs.Timers.PathMoments.{own_watch, Asked, asked_at}
+use Rattle.quic_headline.proofs.Validated.Standing.{Standing, standing}
 use Rattle.quic_headline.proofs.Timers.Watched.{Observed}
 use Rattle.quic_headline.proofs.NextIds.Used.{in_use_is}
 use Rattle.quic_headline.proofs.Timers.AckMoments.{call_answered}
@@ -61,17 +72,21 @@ use Rattle.quic_headline.proofs.Timers.Quiet.{Unnamed, quiet_group}
 use Rattle.quic_headline.proofs.Amounts.Tally.{Tallies, half_tallied}
 use Rattle.quic_headline.proofs.Amounts.Group.{tally_of, Tallied, tallied_group}
 use Rattle.quic_headline.proofs.Requests.Drafts.{polled_requests, none_waits}
+use Rattle.quic_headline.proofs.Steps.Along.{stands_within}
 use Rattle.quic_headline.proofs.Steps.Made.{MadeAt, made_at, made_served, left_at, made_end, served_before, told_next, told_here, one_behind, calling, reads_either, CallHolds, call_holds, whole}
+use Rattle.quic_headline.proofs.Waited.Alive.{past_is}
 use Rattle.quic_headline.proofs.Waited.Pings.{of_ping, of_immediate, polled_pinged}
 use Rattle.quic_headline.proofs.Waited.Flags.{Flag, confirmed, all, counts, blocked, challenge, response, flag, says as flag_says}
 use Rattle.quic_headline.proofs.Waited.Group.{polled_flags, wants_of}
 use Rattle.quic_headline.proofs.Begins.Queued.{call_queues}
+use Rattle.quic_headline.proofs.Halves.WordsCalls.{call_on_is}
+use Rattle.quic_headline.proofs.Begins.Far.{far_on, far_in}
 use Rattle.quic_headline.proofs.Begins.Called.{call_asks, AsksOn, IsUnsaid}
 use Rattle.quic_headline.proofs.Begins.Walk.{Pends, pend_more}
 use Rattle.quic_headline.proofs.Begins.Gone.{polled_goes}
 use Rattle.quic_headline.proofs.Begins.Steps.{Left, streams_left, quiet_left}
 use Rattle.quic_headline.specs.InFlight.{is_ack_frequency}
-use Rattle.quic_headline.proofs.Begins.Behind.{Known, known, packets, holds, sight, watch_next, seen_of, Caused, went_here, was, ack_begins, ping_begins, immediate_begins, probe_begins, signals_begin, pends_start, written_is, waits_within, left_is, delivery_begins, timeout_begins, poll_begins, skipped_is, Stepped}
+use Rattle.quic_headline.proofs.Begins.Behind.{Known, known, took_behind, packets, holds, sight, watch_next, seen_of, Caused, went_here, was, ack_begins, ping_begins, immediate_begins, probe_begins, signals_begin, pends_start, written_is, waits_within, left_is, delivery_begins, timeout_begins, poll_begins, skipped_is, Stepped}
 use Rattle.quic_headline.proofs.Begins.SaidWalk.{AtMost, IsWithin, blocked_frame, half_says}
 use Rattle.quic_headline.proofs.Begins.Said.{SaidHolds, said_group}
 
@@ -178,17 +193,40 @@ module _ (x y : Party) (call : Call) (a : Answer) (s : Stepped x y call a) (h : 
           let half = half_says (WasGiven x.sents) x.end.streams id asks.half asks.there (h.still open_now).says in
           absurd (never_said asks.half.said limit asks.half.limit (half.0 limit (given (blocked_frame id limit) (stands_given (says_blocked_on id limit) (blocked_frame id limit) before.gave (on_only id limit) is))) half.1 (half_limit id asks.half asks.there) asks.unsaid)
 
+  -- and what was read of a stream whose limit grew is so far
+  far_read : is_on_streams call ≡ true → (id : ℕ) → stream_grew (after_on_streams (is_open x.end.closing.state) (streams_at x.end) call a).state id ≡ true → is_far_on id before ≡ true
+  far_read on id grew =
+      let next : Party = called x y.given call a in
+      let within = s.calls.takes_behind.0.1.1.1.0 in
+      let same : next.end.streams ≡ (after_on_streams (is_open x.end.closing.state) (streams_at x.end) call a).state = ap (λ (e : End). e.streams) (call_on_is x.policy x.end y.given call a on).same in
+      far_on (wrote y.told) next.told next.end.streams id before.stream_window before.gave s.calls.takes_behind.0.0.0.1.reads within.wide
+      (λ u i f j. within.told u (in_left u x.sents (sents_by x.policy x.end call a) (subst (λ (ss : List Sent). In u ss) (sight x y s.gives).own i)) f j) (within.first id)
+      (subst (λ (z : StreamsState). stream_grew z id ≡ true) (sym same) grew)
+
+  -- and the limit on all data, where it grew
+  far_of_all : is_on_streams call ≡ true → data_grew (after_on_streams (is_open x.end.closing.state) (streams_at x.end) call a).state.receiving ≡ true → is_far_in_all before ≡ true
+  far_of_all on grew =
+      let next : Party = called x y.given call a in
+      let within = s.calls.takes_behind.0.1.1.1.0 in
+      let same : next.end.streams ≡ (after_on_streams (is_open x.end.closing.state) (streams_at x.end) call a).state = ap (λ (e : End). e.streams) (call_on_is x.policy x.end y.given call a on).same in
+      subst (λ (ps : List Packet). is_far before.window (all_consumed ps next.told) (most_said data_limit_in before.gave) ≡ true) (took_behind x y call a s)
+      (far_in before.window before.stream_window (came_to next y).took next.told next.end.streams (wrote y.told) before.gave
+      (λ u i f j. within.told u (in_left u x.sents (sents_by x.policy x.end call a) (subst (λ (ss : List Sent). In u ss) (sight x y s.gives).own i)) f j) within.first_all
+      next.end.streams (record { stays = within.stays; reads_are = s.calls.takes_behind.0.0.0.1.reads; uses = s.calls.takes_behind.0.1.1.1.1.still s.opened })
+      (subst (λ (z : StreamsState). data_grew z.receiving ≡ true) (sym same) grew))
+
   -- what an application asks for of streams is asked for
-  asked_is : (c : Control) → call_asks call a c ≡ true → IsUnsaid x.end.streams (after_on_streams (is_open x.end.closing.state) (streams_at x.end) call a).state c → asks_for before c ≡ true
-  asked_is (LimitOf AllData) is unsaid = or_left (call_asks call a (LimitOf AllData)) (brings brings_data before) is
-  asked_is (LimitOf (StreamCount dir)) is unsaid = or_left (call_asks call a (LimitOf (StreamCount dir))) (brings may_end before) is
-  asked_is Blocked is unsaid = and_from (finds_blocked (λ id. true) call a) (not (has_said before)) is (ap not (all_unsaid unsaid))
-  asked_is (BlockedOn id) is unsaid = and_from (finds_blocked (λ j. j == id) call a) (not (has_said_on id before)) is (ap not (on_unsaid id unsaid))
-  asked_is (NewId number) is unsaid = cc
-  asked_is Request is unsaid = cc
-  asked_is Done is unsaid = cc
-  asked_is (Retirement number) is unsaid = cc
-  asked_is c is unsaid = is
+  asked_is : is_on_streams call ≡ true → (c : Control) → call_asks call a c ≡ true → IsUnsaid x.end.streams (after_on_streams (is_open x.end.closing.state) (streams_at x.end) call a).state c → asks_for before c ≡ true
+  asked_is on (LimitOf AllData) is unsaid = and_from (call_asks call a (LimitOf AllData) || brings brings_data before) (is_far_in_all before) (or_left (call_asks call a (LimitOf AllData)) (brings brings_data before) is) (far_of_all on unsaid)
+  asked_is on (LimitOf (StreamCount dir)) is unsaid = or_left (call_asks call a (LimitOf (StreamCount dir))) (brings may_end before) is
+  asked_is on (LimitOf (StreamData id)) is unsaid = and_from (reads_on id call a) (is_far_on id before) is (far_read on id unsaid)
+  asked_is on Blocked is unsaid = and_from (finds_blocked (λ id. true) call a) (not (has_said before)) is (ap not (all_unsaid unsaid))
+  asked_is on (BlockedOn id) is unsaid = and_from (finds_blocked (λ j. j == id) call a) (not (has_said_on id before)) is (ap not (on_unsaid id unsaid))
+  asked_is on (NewId number) is unsaid = cc
+  asked_is on Request is unsaid = cc
+  asked_is on Done is unsaid = cc
+  asked_is on (Retirement number) is unsaid = cc
+  asked_is on c is unsaid = is
 
 -- ---- what waits
 
@@ -216,7 +254,7 @@ other_begins x y call a apart silent other s h t = go (is_on_streams call) refl
     start = pend_more (λ q. IsPending x.end q) (Almost x y call a s) x.end.streams x.end.waiting.frames almost (pends_start x y s.gives)
 
     go : (b : Bool) → is_on_streams call ≡ b → Left (Almost x y call a s) (called x y.given call a).end
-    go true on = streams_left (Almost x y call a s) x.policy x.end y.given start call a (λ c is unsaid. inr (inl (asked_is x y call a s h t c is unsaid))) (λ id is. inr (inl is)) (λ id h is. sent_within (wrote x.told) x.end.streams (holds x y s.gives) id h is)
+    go true on = streams_left (Almost x y call a s) x.policy x.end y.given start call a (λ c is unsaid. inr (inl (asked_is x y call a s h t on c is unsaid))) (λ id is. inr (inl is)) (λ id h is. sent_within (wrote x.told) x.end.streams (holds x y s.gives) id h is)
         (λ id h is none o above. inr (subst (λ (n : ℕ). n ≤ o) (written_is (wrote x.told id) h (half_holds (wrote x.told) x.end.streams (holds x y s.gives) id h is) none) above)) s.answer on
     go false off = quiet_left (Almost x y call a s) x.policy x.end y.given start call a (λ n skips. inr (inl (or_left (passes_over (seen_of x y call a s) n) (brings (retires s.using n) (seen_of x y call a s))
         (or_left (uses_past (seen_of x y call a s) n) (moves_past (seen_of x y call a s) n) (sym (skipped_is x y call a s n) ∙ skips))))) (λ said. inr (inl said)) off apart silent other
@@ -323,6 +361,12 @@ reads_closing : (control : window.Control) (heard : Heard) (call : Call) (e : En
 reads_closing control heard (calls.Poll now) e = refl
 reads_closing control heard call e = refl
 
+-- a timer that is set only where the address isn't validated, to the moment at which the end asks
+-- anew
+past_due : (validated : Bool) (due : Option ℕ) (n : ℕ) → has_come (if validated then None else due) n ≡ true → (is_past due n && not validated) ≡ true
+past_due true due n come = cc
+past_due false due n come = and_from (is_past due n) true (past_is due n ∙ come) refl
+
 -- what the observer knows behind a call
 watched_behind : (x y : Party) (call : Call) (a : Answer) → watch_of (called x y.given call a) y ≡ watch_next x y call a
 watched_behind x y call a = folded_more (watch_told (lens x y)) x.told (told_of call a x.end.closing.state) (first_watch x.final x.began x.made.path.remote x.first_rtt x.initial_delay)
@@ -384,6 +428,19 @@ module _ (r : Run) (end : World) (honest : IsHonest r) (run : IsRun r end) (side
   ids_met : x.end.ids ≡ (end_at side front).ids
   ids_met = reads_either (λ (e : End). e.ids ≡ (end_at side front).ids) (control_at side front) (heard_at side front) call (end_at side front) refl refl
 
+  -- how its peer is asked, as the end met the call
+  standing_met : standing x.end ≡ standing (end_at side front)
+  standing_met = reads_either (λ (e : End). standing e ≡ standing (end_at side front)) (control_at side front) (heard_at side front) call (end_at side front) refl refl
+
+  asked_here : Asked r end honest run side i front
+  asked_here = asked_at r end honest run side i front (stands_within r end run side i side call a front made.behind made.made) before_served made.made.leads
+
+  shown : (polls.seen_at r side i).validated ≡ (end_at side front).path.validated
+  shown = ap (λ (v : EndView). v.validated) (last_seen side r.keys i r.start front r.events r.answers r.views made.made.leads)
+
+  past_here : (end_at side front).closing.state ≡ states.Open → (n : ℕ) → has_come (end_at side front).timers.path_validation n ≡ true → (is_past (questions r side i).due n && not (polls.seen_at r side i).validated) ≡ true
+  past_here opened n come = ap (λ (b : Bool). is_past (questions r side i).due n && not b) shown ∙ past_due (end_at side front).path.validated (questions r side i).due n (ap (λ (o : Option ℕ). has_come o n) (sym (asked_here opened).set) ∙ come)
+
   changed_is : has_changed (watch_of x y) (watch_next x y call a) ≡ path_changes r side i
   changed_is = ap (λ (v : Watch). has_changed v (watch_next x y call a)) (sym h.seen) ∙ ap (λ (v : Watch). has_changed (watch r side i) v) (sym (h.seen_behind ∙ watched_behind x y call a))
 
@@ -405,6 +462,10 @@ module _ (r : Run) (end : World) (honest : IsHonest r) (run : IsRun r end) (side
         let told = kept i front made.behind served made.made.leads made.leads (sym changed_is ∙ changed) in
         subst (λ (n : ℕ). (stays (generation_at r side (suc i)) ≡ true) ↔ (n ≡ x.end.ids.peer.active)) (ap (λ (e : End). e.ids.peer.active) left)
         (subst (λ (ids : Ids). (stays (generation_at r side (suc i)) ≡ true) ↔ ((end_at side made.behind).ids.peer.active ≡ ids.peer.active)) (sym ids_met) told));
+    questions = questions r side i;
+    watched = own_watch r end honest run side i ∙ h.seen;
+    validated = (polls.seen_at r side i).validated;
+    expires = λ n come. past_here (sym (reads_closing (control_at side front) (heard_at side front) call (end_at side front)) ∙ was_open x.policy x.end y.given call a opened) n (ap (λ (s : Standing). has_come s.due n) (sym standing_met) ∙ come);
   }
 
   -- what is seen of these
@@ -421,8 +482,12 @@ module _ (r : Run) (end : World) (honest : IsHonest r) (run : IsRun r end) (side
     asking = asking_at r side;
     using = in_use r stays side i;
     stays = stays (generation_at r side (suc i));
+    questions = questions r side i;
+    validated = (polls.seen_at r side i).validated;
     side = side;
     params = (end_at side r.start).peer_params;
+    window = (end_at side r.start).streams.receiving.window;
+    stream_window = (end_at side r.start).streams.receiving.stream_window;
     gave = before.own;
   }
 

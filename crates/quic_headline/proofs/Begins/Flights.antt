@@ -1,22 +1,26 @@
 -- What begins to wait where a datagram comes or a timer expires: what waited before, what is lost
 -- by it, limits that its frames raise, and ids for which they ask.
-use Rattle.std.proofs.Common.{◌≡◌, ℕ, ◌<◌, ◌≤◌, ◌&&◌, Bool, true, false, List, [], ◌∷◌, ◌++◌, append-nil, refl, sym, ap, ◌∙◌, subst, ◌⊎◌, inl, inr, arith}
+use Rattle.std.proofs.Common.{◌≡◌, ℕ, ◌+◌, ◌<◌, ◌≤◌, ◌&&◌, Bool, true, false, List, [], ◌∷◌, ◌++◌, length, append-nil, refl, sym, ap, ◌∙◌, subst, ◌⊎◌, inl, inr, arith}
 use Rattle.std.specs.Prelude.{◌==◌, nat_lt}
 use Rattle.std.specs.List.{list_any}
-use Rattle.std.proofs.lemmas.Bool.{or_left, or_right, both_ways, ltb-false}
+use Rattle.std.proofs.lemmas.Bool.{or_left, or_right, and_parts, eqb-true, both_ways, ltb-false}
 use Rattle.std.proofs.lemmas.List.{append_assoc}
-use Rattle.quic_wire.specs.Value.{FrameValue, NewConnectionIdValue, StreamValue, ack, stream, new_connection_id}
+use Rattle.quic_wire.specs.Value.{FrameValue, NewConnectionIdValue, StreamValue, ack, stream, new_connection_id, retire_connection_id}
+use Rattle.quic_ids.specs.CidState.{OwnIds}
 use Rattle.quic_ids.specs.CidQueue.{PeerIds}
 use Rattle.quic_send_buffer.specs.declared.stream_meta.StreamMeta.{StreamMeta}
 use Rattle.quic_streams_parts.specs.SendHalf.{meta_of}
 use Rattle.quic_streams_parts.specs.Table.{Table}
 use Rattle.quic_retransmits.specs.Retransmits.{Retransmits, nothing_waits}
 use Rattle.quic_streams_state.specs.declared.state.StreamsState.{StreamsState}
+use Rattle.quic_streams_state.specs.Limits.{data_grew}
 use Rattle.quic_machine.specs.End.{End}
 use Rattle.quic_machine.specs.Ids.{frame_of}
+use Rattle.quic_machine.specs.IdFrames.{issues_for}
 use Rattle.quic_wire_core.specs.declared.shared.IssuedCid.{IssuedCid}
-use Rattle.quic_machine.specs.FrameCases.{packets_lost_keep, frame_leaves, apart_leaves}
+use Rattle.quic_machine.specs.FrameCases.{Settling, packets_lost_keep, frame_leaves, apart_leaves, issues_may}
 use Rattle.quic_machine.specs.Receive.{take_frame}
+use Rattle.quic_machine.specs.Steps as steps
 use Rattle.quic_machine.specs.Tracking.{Carried, TrackedPacket, streams_in, retransmits_in}
 use Rattle.quic_headline.specs.Runs.{In}
 use Rattle.quic_headline.specs.Observer.{Sent}
@@ -32,9 +36,10 @@ use Rattle.quic_headline.proofs.Packets.Flying.{acked_keep, Loses, Flies}
 use Rattle.quic_headline.proofs.Places.Told.{in_append}
 use Rattle.quic_headline.proofs.Halves.Arrived.{meta_in}
 use Rattle.quic_headline.proofs.Duties.OfIds.{insert_keeps}
+use Rattle.quic_headline.proofs.Destined.Numbered.{AreNumbered, Retires, issued_near, frame_numbers}
 use Rattle.quic_headline.proofs.Begins.Controls.{none_waits, again_said}
 use Rattle.quic_headline.proofs.Begins.Called.{IsRaised}
-use Rattle.quic_headline.proofs.Begins.Apart.{retires_more, apart_waits, leaves_pend}
+use Rattle.quic_headline.proofs.Begins.Apart.{retires_more, issues_by, apart_waits, leaves_pend}
 use Rattle.quic_headline.proofs.Begins.Walk.{PendsAt, pend_more, ids_pend, CarriedIs, acked_pend, lost_pend, taken_pend}
 
 -- ---- what a packet carried stands in its datagram
@@ -59,9 +64,21 @@ meta_borne s m i = go (meta_in s.frames m i)
 
 -- ---- the causes
 
--- what waited at first, by the number of the peer's id in use then, these datagrams in flight and
--- those acknowledged before, while these frames come
-module _ (Start : Thing → Type 0) (used : ℕ) (flew before : List Sent) (frames : List FrameValue) where
+-- What is known of ids before frames come: the number of the peer's id in use, how many own ids
+-- were issued, and how many may live; and the numbers of these that are retired once the frames
+-- came.
+pub record IdsBefore : Type 0 where
+  pub used : ℕ
+  pub issued : ℕ
+  pub limit : ℕ
+  pub retired : List ℕ
+
+-- what waited at first, by what is known of ids then, these datagrams in flight and those
+-- acknowledged before, while these frames come, where a limit on all data that grows is Far
+module _ (Start : Thing → Type 0) (ids : IdsBefore) (flew before : List Sent) (frames : List FrameValue) (Far : Type 0) where
+  abbrev used : ℕ
+  used = ids.used
+
   -- a datagram that bore it was in flight, and is neither still, nor was acknowledged since
   pub record Lost (flying new : List Sent) (q : Thing) : Type 0 where
     pub sent : Sent
@@ -70,12 +87,13 @@ module _ (Start : Thing → Type 0) (used : ℕ) (flew before : List Sent) (fram
     pub unnamed : In sent new → ⊥
     pub bore : Bears sent q
 
-  -- a limit that frames raise, an own id where one was retired, and a number to be retired where
-  -- the peer's id of that number came, below the one in use at first, or others were to be retired
+  -- a limit that frames raise, an own id where one was retired, behind those that were issued and
+  -- below as many as may live and were retired, and a number to be retired where the peer's id of
+  -- that number came, below the one in use at first, or others were to be retired
   abbrev pub Raised : Thing → Type 0
-  Raised (Frame (LimitOf AllData)) = list_any brings_data frames ≡ true
+  Raised (Frame (LimitOf AllData)) = (list_any brings_data frames ≡ true) × Far
   Raised (Frame (LimitOf (StreamCount dir))) = list_any may_end frames ≡ true
-  Raised (Frame (NewId number)) = list_any is_retirement frames ≡ true
+  Raised (Frame (NewId number)) = (list_any is_retirement frames ≡ true) × (ids.issued ≤ number) × (number < ids.limit + length ids.retired)
   Raised (Frame (Retirement number)) = list_any (retires used number) frames ≡ true
   Raised q = ⊥
 
@@ -95,8 +113,13 @@ module _ (Start : Thing → Type 0) (used : ℕ) (flew before : List Sent) (fram
   abbrev pub Stays : PeerIds → Type 0
   Stays p = (p.active ≤ used) ⊎ ((number : ℕ) → list_any (retires used number) frames ≡ true)
 
-  abbrev pub Begun : List Sent → List Sent → End → Type 0
-  Begun flying acked e = BegunAt flying acked e.streams e.waiting.frames × Stays e.ids.peer
+  -- own ids, as they are counted
+  abbrev Counted : OwnIds → ℕ → Type 0
+  Counted own may = AreNumbered ids.retired ids.issued ids.limit own may
+
+  -- so it is at an end of whose streams this is known
+  abbrev pub Begun : (StreamsState → Type 0) → List Sent → List Sent → End → Type 0
+  Begun Spends flying acked e = BegunAt flying acked e.streams e.waiting.frames × Stays e.ids.peer × Counted e.ids.own e.ids.limit × Spends e.streams
 
   -- where fewer are in flight, and these were acknowledged, which were
   by_fewer : (flying left new ss : List Sent) → ((u : Sent) → In u left → In u flying) → ((u : Sent) → In u ss → In u flying) → (q : Thing) → By flying new q → By left (new ++ ss) q
@@ -131,10 +154,10 @@ module _ (Start : Thing → Type 0) (used : ℕ) (flew before : List Sent) (fram
 
   -- ---- losses
 
-  pub begun_loses : Loses Begun
-  begun_loses = record {
+  pub begun_loses : (Spends : StreamsState → Type 0) → Settling (λ (x : End). Spends x.streams) → Loses (Begun Spends)
+  begun_loses Spends settles = record {
     tracked = λ flying acked t e i. i;
-    searches = λ flying acked lost e i. search_keeps (Begun flying acked) (λ d x j. j) (λ most x j. j) lost e i;
+    searches = λ flying acked lost e i. search_keeps (Begun Spends flying acked) (λ d x j. j) (λ most x j. j) lost e i;
     loses = λ flying acked gone left ps e inside stays apart waited i. (
       record {
         new = i.0.new;
@@ -146,6 +169,8 @@ module _ (Start : Thing → Type 0) (used : ℕ) (flew before : List Sent) (fram
             (pend_more (By flying i.0.new) (By left i.0.new) e.streams e.waiting.frames (fewer flying left i.0.new stays) i.0.pends);
       },
       packets_lost_keep (λ (x : End). Stays x.ids.peer) (λ m x j. j) (λ c x j. j) ps e i.1,
+      packets_lost_keep (λ (x : End). Counted x.ids.own x.ids.limit) (λ m x j. j) (λ c x j. j) ps e i.2,
+      packets_lost_keep (λ (x : End). Spends x.streams) (λ m x j. settles (steps.lost m) x j) (λ c x j. j) ps e i.3,
     );
   }
     where
@@ -165,10 +190,10 @@ module _ (Start : Thing → Type 0) (used : ℕ) (flew before : List Sent) (fram
   data_ends (ack a) is = refl
   data_ends f is = is
 
-  raised_by : (f : FrameValue) → In f frames → brings_data f ≡ true → (flying new : List Sent) (c : Control) → IsRaised c → By flying new (Frame c)
-  raised_by f among is flying new (LimitOf AllData) raised = inr (inr (one_passes brings_data frames f among is))
-  raised_by f among is flying new (LimitOf (StreamCount dir)) raised = inr (inr (one_passes may_end frames f among (data_ends f is)))
-  raised_by f among is flying new c raised = absurd raised
+  raised_by : (f : FrameValue) → In f frames → brings_data f ≡ true → (flying new : List Sent) (c : Control) (s : StreamsState) → (data_grew s.receiving ≡ true → Far) → IsRaised s c → By flying new (Frame c)
+  raised_by f among is flying new (LimitOf AllData) s far raised = inr (inr (one_passes brings_data frames f among is, far raised))
+  raised_by f among is flying new (LimitOf (StreamCount dir)) s far raised = inr (inr (one_passes may_end frames f among (data_ends f is)))
+  raised_by f among is flying new c s far raised = absurd raised
 
   -- ids that wait to be told are drawn, which keep their numbers
   pub ids_begun : (flying acked : List Sent) (e : End) (ids : List IssuedCid) → ((n : ℕ) → has_new_id n ids ≡ true → has_new_id n e.waiting.frames.new_cids ≡ true) → BegunAt flying acked e.streams e.waiting.frames → BegunAt flying acked e.streams (record e.waiting.frames { new_cids = ids })
@@ -197,9 +222,22 @@ module _ (Start : Thing → Type 0) (used : ℕ) (flew before : List Sent) (fram
           let same = insert_keeps e.ids.peer (frame_of g) (omega arith) in
           peer_taken_up Stays g e (subst (λ (n : ℕ). (n ≤ used) ⊎ ((number : ℕ) → list_any (retires used number) frames ≡ true)) (sym same) i) i
 
-  pub begun_flies : Flies frames Begun
-  begun_flies = record {
-    losing = begun_loses;
+  -- where frames retire numbers that are, one is issued that may be
+  issued_by : (f : FrameValue) → In f frames → Retires ids.retired f → (e : End) → Counted e.ids.own e.ids.limit → (n : ℕ) → issues_by f e n ≡ true → Raised (Frame (NewId n))
+  issued_by (retire_connection_id k) among may e i n is =
+      let both = and_parts (issues_for k e) (n == e.ids.own.issued) is in
+      let same = eqb-true n e.ids.own.issued both.1 in
+      let near = issued_near ids.retired ids.issued ids.limit k e.ids (issues_may k e both.0) may i in
+      let more = i.more in
+      (one_passes is_retirement frames (retire_connection_id k) among refl, omega arith, omega arith)
+  issued_by f among may e i n is = cc
+
+  -- where what is known of streams is kept by each frame, and by what else these bring, and a limit
+  -- on all data that grew is Far by that
+  pub begun_flies : (Spends : StreamsState → Type 0) → Settling (λ (x : End). Spends x.streams) → ((f : FrameValue) (e : End) → In f frames → Spends e.streams → Spends (take_frame f e).end.streams) → ((s : StreamsState) → Spends s → data_grew s.receiving ≡ true → Far)
+      → ((f : FrameValue) → In f frames → Retires ids.retired f) → Flies frames (Begun Spends)
+  begun_flies Spends settles spends far retires_these = record {
+    losing = begun_loses Spends settles;
     names = λ flying acked a e among i. i;
     acks = λ flying acked ss left ps e a among inside stays apart waited i. (
       record {
@@ -211,6 +249,8 @@ module _ (Start : Thing → Type 0) (used : ℕ) (flew before : List Sent) (fram
             (pend_more (By flying i.0.new) (By left (i.0.new ++ ss)) e.streams e.waiting.frames (by_fewer flying left i.0.new ss stays inside) i.0.pends);
       },
       acked_keep (λ (x : End). Stays x.ids.peer) (λ d x j. j) (λ n x j. j) (λ n x j. j) (λ id x j. j) (λ m x j. j) ps e i.1,
+      acked_keep (λ (x : End). Counted x.ids.own x.ids.limit) (λ d x j. j) (λ n x j. j) (λ n x j. j) (λ id x j. j) (λ m x j. j) ps e i.2,
+      acked_keep (λ (x : End). Spends x.streams) (λ d x j. j) (λ n x j. j) (λ n x j. j) (λ id x j. settles (steps.reset id) x j) (λ m x j. settles (steps.acked m) x j) ps e i.3,
     );
     measured = λ flying acked r first e i. i;
     marked = λ flying acked counts marking e i. i;
@@ -220,9 +260,11 @@ module _ (Start : Thing → Type 0) (used : ℕ) (flew before : List Sent) (fram
         more = i.0.more;
         inside = i.0.inside;
         apart = i.0.apart;
-        pends = taken_pend (By flying i.0.new) f e on (λ is c raised. raised_by f among is flying i.0.new c raised) i.0.pends;
+        pends = taken_pend (By flying i.0.new) f e on (λ is c raised. raised_by f among is flying i.0.new c (take_frame f e).end.streams (far (take_frame f e).end.streams (spends f e among i.3)) raised) i.0.pends;
       },
       frame_leaves (λ (x : End). Stays x.ids.peer) f e on (λ t. i.1),
+      frame_leaves (λ (x : End). Counted x.ids.own x.ids.limit) f e on (λ t. i.2),
+      spends f e among i.3,
     );
     message = λ flying acked m e i. i;
     apart = λ flying acked f e among is i. (
@@ -231,9 +273,11 @@ module _ (Start : Thing → Type 0) (used : ℕ) (flew before : List Sent) (fram
         more = i.0.more;
         inside = i.0.inside;
         apart = i.0.apart;
-        pends = leaves_pend (By flying i.0.new) e (take_frame f e).end (is_path_challenge f) (is_retirement f) (λ n. retires e.ids.peer.active n f) (apart_waits f e is) (apart_leaves (λ (x : End). x.streams ≡ e.streams) f e is (λ c. refl) (λ c most. refl))
-            (λ asks n. inr (inr (one_passes is_retirement frames f among asks))) (λ n may. inr (inr (retired_by f among e.ids.peer i.1 n may))) i.0.pends;
+        pends = leaves_pend (By flying i.0.new) e (take_frame f e).end (is_path_challenge f) (λ n. issues_by f e n) (λ n. retires e.ids.peer.active n f) (apart_waits f e is) (apart_leaves (λ (x : End). x.streams ≡ e.streams) f e is (λ c. refl) (λ c most. refl))
+            (λ n issues. inr (inr (issued_by f among (retires_these f among) e i.2 n issues))) (λ n may. inr (inr (retired_by f among e.ids.peer i.1 n may))) i.0.pends;
       },
       frame_stays f among e i.1,
+      frame_numbers ids.retired ids.issued ids.limit f e (retires_these f among) i.2,
+      spends f e among i.3,
     );
   }

@@ -27,7 +27,7 @@ use Rattle.quic_machine.specs.Migration.{path_to, with_path, next_id_if, next_id
 use Rattle.quic_headline.specs.Waited.{is_path_challenge}
 use Rattle.quic_headline.specs.Begins.{is_passed}
 use Rattle.quic_headline.proofs.NextIds.Coming.{next_peer}
-use Rattle.quic_headline.proofs.Begins.Apart.{LeavesBy, next_waits}
+use Rattle.quic_headline.proofs.Begins.Apart.{LeavesBy, none, next_waits}
 
 -- ---- frames of path validation
 
@@ -94,7 +94,7 @@ module _ (e : End) (path : Path) (validation : Validation) (timers : Timers) (ch
   there = asking_there e path validation timers challenge
 
   -- where the next id comes into use
-  uses_there : LeavesBy false false (λ n. moves_over e (after_next_id there) n) (challenging e.waiting) (after_next_id there).waiting
+  uses_there : LeavesBy false none (λ n. moves_over e (after_next_id there) n) (challenging e.waiting) (after_next_id there).waiting
   uses_there =
       let waits = next_waits there (answers.UseNextId (Ok tt)) in
       record {
@@ -109,18 +109,18 @@ module _ (e : End) (path : Path) (validation : Validation) (timers : Timers) (ch
       }
 
   -- where it may
-  next_there : (r : Result (Unit {0}) NextIdError) → LeavesBy false false (λ n. moves_over e (next_id_if r there) n) (challenging e.waiting) (next_id_if r there).waiting
+  next_there : (r : Result (Unit {0}) NextIdError) → LeavesBy false none (λ n. moves_over e (next_id_if r there) n) (challenging e.waiting) (next_id_if r there).waiting
   next_there (Ok done) = uses_there
   next_there (Err error) = record { signals = ((λ is. refl), λ is. inl is); frames = refl; new_ids = λ n is. inl is; retirements = λ n is. inl is }
 
   -- and then frames of path validation count
-  taken_there : (is : List (Result FrameValue InvalidFrame)) (x : End) → LeavesBy false false (λ n. moves_over e x n) (challenging e.waiting) x.waiting
-      → LeavesBy (list_any item_challenges is) false (λ n. moves_over e (path_frames_taken is x) n) (challenging e.waiting) (path_frames_taken is x).waiting
+  taken_there : (is : List (Result FrameValue InvalidFrame)) (x : End) → LeavesBy false none (λ n. moves_over e x n) (challenging e.waiting) x.waiting
+      → LeavesBy (list_any item_challenges is) none (λ n. moves_over e (path_frames_taken is x) n) (challenging e.waiting) (path_frames_taken is x).waiting
   taken_there is x l =
       let still = path_frames_still is x in
       let y : End = path_frames_taken is x in
-      subst (λ (ids : Ids). LeavesBy (list_any item_challenges is) false (λ n. nat_lt e.ids.peer.active ids.peer.active && is_passed n e.ids.peer.active (next_after e.ids.peer)) (challenging e.waiting) y.waiting) (sym still.ids)
-      (subst (λ (p : Retransmits). LeavesBy (list_any item_challenges is) false (λ n. moves_over e x n) (challenging e.waiting) (record { signals = y.waiting.signals; frames = p })) (sym still.frames) (record {
+      subst (λ (ids : Ids). LeavesBy (list_any item_challenges is) none (λ n. nat_lt e.ids.peer.active ids.peer.active && is_passed n e.ids.peer.active (next_after e.ids.peer)) (challenging e.waiting) y.waiting) (sym still.ids)
+      (subst (λ (p : Retransmits). LeavesBy (list_any item_challenges is) none (λ n. moves_over e x n) (challenging e.waiting) (record { signals = y.waiting.signals; frames = p })) (sym still.frames) (record {
         signals = ((λ set. refl), λ set. elim (still.response set) [ inl was ↦ elim (l.signals.1 was) [ inl none ↦ inl none | inr none ↦ absurd (let clash : false ≡ true = none in cc) ] | inr asked ↦ inr asked ]);
         frames = l.frames;
         new_ids = l.new_ids;
@@ -129,14 +129,14 @@ module _ (e : End) (path : Path) (validation : Validation) (timers : Timers) (ch
 
 -- so it leaves what waits
 pub moved_waits : (p : Policy) (o : Opening) (remote : ℕ) (e : End)
-    → LeavesBy (list_any item_challenges (items o.payload)) false (λ n. moves_over e (migrated p o remote e) n) (challenging e.waiting) (migrated p o remote e).waiting
+    → LeavesBy (list_any item_challenges (items o.payload)) none (λ n. moves_over e (migrated p o remote e) n) (challenging e.waiting) (migrated p o remote e).waiting
 moved_waits p o remote e = go (nat_lt e.validation.drawn most_challenges)
   where
     left : Bool → End
     left b = challenged_anew p.words b (with_path e (path_to remote e))
 
     Leaves : End → Type 0
-    Leaves x = LeavesBy (list_any item_challenges (items o.payload)) false (λ n. moves_over e x n) (challenging e.waiting) x.waiting
+    Leaves x = LeavesBy (list_any item_challenges (items o.payload)) none (λ n. moves_over e x n) (challenging e.waiting) x.waiting
 
     behind : (path : Path) (validation : Validation) (timers : Timers) (challenge : Option ℕ) → Leaves (path_frames_taken (items o.payload) (next_id_if_allowed (asking_there e path validation timers challenge)))
     behind path validation timers challenge =

@@ -6,7 +6,7 @@ use Rattle.std.specs.Option.{is_some, option_map}
 use Rattle.std.specs.List.{list_any}
 use Rattle.std.specs.Ordering.{nat_cmp}
 use Rattle.std.specs.BTreeMap.{is_at}
-use Rattle.std.proofs.lemmas.Bool.{or_cases, or_left, and_parts, both_ways, eqb-true, cases_eq, eq-eqb}
+use Rattle.std.proofs.lemmas.Bool.{or_cases, or_left, and_from, and_parts, both_ways, eqb-true, cases_eq, eq-eqb}
 use Rattle.quic_wire_core.specs.StreamId.{dir_of}
 use Rattle.quic_wire_core.specs.declared.stream_id.Dir.{Dir}
 use Rattle.quic_wire_core.specs.declared.stream_id.Dir.TheVariants.{Bi, Uni}
@@ -55,7 +55,7 @@ use Rattle.quic_machine.specs.Puts as puts
 use Rattle.quic_machine.specs.CallCases.{is_delivery, is_poll, is_timeout}
 use Rattle.quic_machine.specs.Machine.{gave}
 use Rattle.quic_headline.specs.Runs.{In, Intake}
-use Rattle.quic_headline.specs.Observer.{Sent}
+use Rattle.quic_headline.specs.Observer.{Sent, is_past}
 use Rattle.quic_headline.specs.Amounts.{first_told}
 use Rattle.quic_headline.specs.Duties.{WasGiven}
 use Rattle.quic_headline.specs.Begins.{Control, BlockedOn, Thing, Frame, Bears, IsPending, finds_blocked, has_said_on, says}
@@ -63,6 +63,7 @@ use Rattle.quic_headline.proofs.Packets.Group.{meets}
 use Rattle.quic_headline.proofs.Packets.Probes.{by_going, ready_state}
 use Rattle.quic_headline.proofs.Packets.Sends.{by_sends}
 use Rattle.quic_headline.proofs.Places.Told.{in_append}
+use Rattle.quic_headline.proofs.Waited.Alive.{past_is}
 use Rattle.quic_headline.proofs.Places.Parties.{Party, called, watch_of, sent_as, sent_by, sent_if, sents_by, Beginning, begun_as}
 use Rattle.quic_headline.proofs.Places.Groups.{Way, Group, less_calls}
 use Rattle.quic_headline.proofs.Places.Coming.{by_coming}
@@ -626,6 +627,10 @@ said_group B knows quiet = record {
           used = refl;
           stays = used == x.end.ids.peer.active;
           tells = λ changed. (eqb-true used x.end.ids.peer.active, eq-eqb used x.end.ids.peer.active);
+          questions = record { watch = watch_of x y; count = 0; due = x.end.timers.path_validation; calls = 0 };
+          watched = refl;
+          validated = false;
+          expires = λ n come. and_from (is_past x.end.timers.path_validation n) true (past_is x.end.timers.path_validation n ∙ come) refl;
         } in
         any_told x y call a s (quiet x y c.gives) (i.still (was x y call a s)));
   };

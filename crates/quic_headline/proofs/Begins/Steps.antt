@@ -42,7 +42,7 @@ use Rattle.quic_headline.proofs.Begins.Called.{call_asks, IsUnsaid, call_one}
 use Rattle.quic_headline.proofs.Begins.Halves.{Any, AllPend, pend_kept, pends_more}
 use Rattle.quic_headline.proofs.Begins.OnStreams.{calls_pend}
 use Rattle.quic_headline.proofs.Begins.Walk.{PendsAt, Pends, Sends, moved_pend, draft_pends, asked_pend}
-use Rattle.quic_headline.proofs.Begins.Apart.{is_skipped, next_waits, leaves_pend}
+use Rattle.quic_headline.proofs.Begins.Apart.{is_skipped, none, next_waits, leaves_pend}
 use Rattle.quic_headline.proofs.Begins.Flights.{control_borne}
 use Rattle.quic_headline.proofs.Steps.Probes.{begun}
 use Rattle.quic_headline.proofs.Requests.Asks.{by_of, is_anew, anew_is}
@@ -136,7 +136,7 @@ module _ (F : Thing → Type 0) (p : Policy) (e : End) (theirs : List (List ℕ)
       go states.Drained = left_of F e i
       go states.Failed = left_of F e i
   quiet_left calls.UseNextId a skips says off apart silent other = left_of F (end_on_next_id e a)
-      (leaves_pend F e (end_on_next_id e a) false false (λ n. is_skipped calls.UseNextId a e.ids.peer n) (next_waits e a) (by_next_id (λ (x : End). x.streams ≡ e.streams) e a refl (λ c. refl) (λ c most. refl)) (λ none n. cc) skips i)
+      (leaves_pend F e (end_on_next_id e a) false none (λ n. is_skipped calls.UseNextId a e.ids.peer n) (next_waits e a) (by_next_id (λ (x : End). x.streams ≡ e.streams) e a refl (λ c. refl) (λ c most. refl)) (λ n is. cc) skips i)
   quiet_left calls.HandshakeDone (answers.HandshakeDone (Ok done)) skips says off apart silent other = record {
     controls = λ c is. elim (done_one c e.waiting.frames is) [ inl was ↦ i.controls c was | inr same ↦ subst (λ (d : Control). F (Frame d)) (sym same) (says refl) ];
     halves = bare F e.streams i.halves;

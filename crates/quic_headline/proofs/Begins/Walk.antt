@@ -162,7 +162,7 @@ module _ (F : Thing → Type 0) where
   halves_taken (max_streams f) e on i = by_max_streams (AllPend IsBuffered F) k (dir_named f.one_way) f.count e.streams i
   halves_taken f e on i = absurd on
 
-  pub taken_pend : (f : FrameValue) (e : End) → OnStreams f → (brings_data f ≡ true → (c : Control) → IsRaised c → F (Frame c)) → Pends F e → Pends F (take_frame f e).end
+  pub taken_pend : (f : FrameValue) (e : End) → OnStreams f → (brings_data f ≡ true → (c : Control) → IsRaised (take_frame f e).end.streams c → F (Frame c)) → Pends F e → Pends F (take_frame f e).end
   taken_pend f e on raised i = record {
     controls = λ c is. elim (frame_one c f e on is) [ inl was ↦ i.controls c was | inr new ↦ raised new.0 c new.1 ];
     halves = halves_taken f e on i.halves;

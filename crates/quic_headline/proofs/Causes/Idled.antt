@@ -376,7 +376,7 @@ module _ (p : Policy) (control : Control) (heard : Heard) (e : End) (theirs rest
   call_below call a here is served opened = stays_below _ (moment_of states.Open (seen call a) call) (clock_stays e p theirs call a refl opened)
 
 -- an end that is open behind a call was open before it, whatever a poll reads
-left_open : (p : Policy) (control : Control) (heard : Heard) (e : End) (theirs : List (List ℕ)) (call : Call) (a : Answer) → (end_left p control heard e theirs call a).closing.state ≡ states.Open → e.closing.state ≡ states.Open
+pub left_open : (p : Policy) (control : Control) (heard : Heard) (e : End) (theirs : List (List ℕ)) (call : Call) (a : Answer) → (end_left p control heard e theirs call a).closing.state ≡ states.Open → e.closing.state ≡ states.Open
 left_open p control heard e theirs (calls.Poll now) a opened = was_open p (with_blocked (with_window e (control [])) (is_blocked e heard)) theirs (calls.Poll now) a opened
 left_open p control heard e theirs call a opened = was_open p e theirs call a opened
 

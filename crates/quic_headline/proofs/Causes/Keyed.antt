@@ -44,10 +44,10 @@ pub record Exhausted (all : List Told) : Type 0 where
 abbrev test : Told → Bool
 test t = says_unopened t.answer
 
-unopened_more : (ts : List Told) (t : Told) → unopened (ts ++ t ∷ []) ≡ unopened ts + unopened (t ∷ [])
+pub unopened_more : (ts : List Told) (t : Told) → unopened (ts ++ t ∷ []) ≡ unopened ts + unopened (t ∷ [])
 unopened_more ts t = ap length (filter-append test ts (t ∷ [])) ∙ length-append (filter test ts) (filter test (t ∷ []))
 
-one_unopened : (t : Told) → says_unopened t.answer ≡ true → unopened (t ∷ []) ≡ 1
+pub one_unopened : (t : Told) → says_unopened t.answer ≡ true → unopened (t ∷ []) ≡ 1
 one_unopened t is = ap (λ (b : Bool). length (if b then t ∷ [] else [])) is
 
 no_more : (n : ℕ) → n ≤ n + 0
@@ -65,7 +65,7 @@ failure_said (receives.Closed error) h = go (is_key_limit error)
 failure_said a h = no_more h.failures
 
 -- bytes count no failures
-bytes_same : (new counts : Bool) (size : ℕ) (h : Heard) → (received_if counts size (heard_anew new h)).failures ≡ h.failures
+pub bytes_same : (new counts : Bool) (size : ℕ) (h : Heard) → (received_if counts size (heard_anew new h)).failures ≡ h.failures
 bytes_same true true size h = refl
 bytes_same true false size h = refl
 bytes_same false true size h = refl

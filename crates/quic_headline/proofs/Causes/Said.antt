@@ -295,7 +295,7 @@ closes_say_why r end honest run side i s f served among carried is =
 -- ---- what the peer is told
 
 -- a frame for which an end is told that its peer closed tells so
-frame_tells : (f : FrameValue) (e : End) (close : CloseValue) → (take_frame f e).fault ≡ Some (closed_by_peer close) → IsToldAs f close
+pub frame_tells : (f : FrameValue) (e : End) (close : CloseValue) → (take_frame f e).fault ≡ Some (closed_by_peer close) → IsToldAs f close
 frame_tells f e close is = go f (closing_frame f e close is) is
   where
     same_close : (c d : CloseValue) → Some (closed_by_peer c) ≡ Some (closed_by_peer d) → c ≡ d

@@ -1,5 +1,5 @@
 -- What a call makes of whether its end is open, why it isn't, and the close that it owes its peer.
-use Rattle.std.proofs.Common.{◌≡◌, ◌⊎◌, ℕ, Bool, true, false, List, [], ◌∷◌, Option, Some, None, Result, Ok, Err, refl, sym, ap, ◌∙◌, subst, inl, inr}
+use Rattle.std.proofs.Common.{◌≡◌, ℕ, Bool, true, false, List, [], ◌∷◌, Option, Some, None, Result, Ok, Err, refl, sym, ap, ◌∙◌, subst, inl, inr}
 use Rattle.std.specs.Prelude.{slice_get, if◌then◌else◌, not, ◌==◌, ◌||◌}
 use Rattle.std.specs.Option.{is_some}
 use Rattle.std.proofs.lemmas.List.{append-nil}
@@ -13,7 +13,6 @@ use Rattle.quic_packet.specs.declared.packet.HeaderError.{HeaderError}
 use Rattle.quic_packet.specs.declared.packet.HeaderError.TheVariants as headers
 use Rattle.quic_recovery_core.specs.Duplicates.{is_duplicate}
 use Rattle.quic_spaces.specs.Numbers.{can_number, expected, number_opened}
-use Rattle.quic_streams_state.specs.declared.state.StreamsState.{StreamsState}
 use Rattle.quic_machine.specs.Arrival.{Arrival, delivered_by, injected_by}
 use Rattle.quic_machine.specs.declared.answers.State.{State}
 use Rattle.quic_machine.specs.declared.answers.State.TheVariants as states
@@ -33,8 +32,7 @@ use Rattle.quic_machine.specs.Policy.{Policy}
 use Rattle.quic_machine.specs.Reasons.{error_close}
 use Rattle.quic_machine.specs.Closing.{Closing, ticked, closing_for, close_given}
 use Rattle.quic_machine.specs.Opens.{head, in_phase, opens_behind, would_open}
-use Rattle.quic_machine.specs.Calls.{is_open, closed_in}
-use Rattle.quic_machine.specs.StreamCalls.{IsRead, IsStreamAnswer}
+use Rattle.quic_machine.specs.Calls.{closed_in}
 use Rattle.quic_machine.specs.End.{End, with_closing, with_numbers}
 use Rattle.quic_machine.specs.Receive.{Fault, broke, too_many_pieces, closed_by_peer, violation, is_empty, asks_in, is_urged, take_frame, take_items, take_payload, Outcome, dropped, ends_as, by_state, opened_to, opened_as, opening, unopened_in, headed, received_in, received, is_read, items_taken, drawn_if, with_ids_drawn, drop_of, has_migrated, with_migration}
 use Rattle.quic_machine.specs.Poll.{Polled, gives_datagram, datagram_of, bounds, may_seal, polled}
@@ -56,6 +54,7 @@ use Rattle.quic_headline.proofs.Packets.Sends.{by_sends}
 use Rattle.quic_headline.proofs.Packets.Stays.{settles_losses}
 use Rattle.quic_headline.proofs.Places.Parties.{told_of}
 use Rattle.quic_headline.proofs.Places.Steps.{only_polls_give, poll_answer}
+use Rattle.quic_headline.proofs.Causes.Handed.{is_handed, only_handed}
 
 -- ---- what may become of it
 
@@ -132,48 +131,19 @@ bound_error p e reason = go (can_number e.numbers) (may_seal p e)
 
 -- ---- which answers ask for a close
 
-either_asks : (a b c : Answer) → asks_again b ≡ false → asks_again c ≡ false → (a ≡ b) ⊎ (a ≡ c) → asks_again a ≡ false
-either_asks a b c first second (inl is) = ap asks_again is ∙ first
-either_asks a b c first second (inr is) = ap asks_again is ∙ second
-
-read_asks : (s : StreamsState) (id : ℕ) (ordered : Bool) (mosts : List ℕ) (a : Answer) → IsRead s id ordered mosts a → asks_again a ≡ false
-read_asks s id ordered mosts (answers.Read said) is = refl
-read_asks s id ordered mosts a is = absurd is
-
-streams_ask : (opened : Bool) (s : StreamsState) (call : Call) (a : Answer) → IsStreamAnswer opened s call a → asks_again a ≡ false
-streams_ask opened s (calls.Open dir) a is = ap asks_again is
-streams_ask opened s (calls.Accept dir) a is = ap asks_again is
-streams_ask opened s (calls.Write id bytes) a is = either_asks a _ _ refl refl is
-streams_ask opened s (calls.WriteChunks id chunks) a is = either_asks a _ _ refl refl is
-streams_ask opened s (calls.Finish id) a is = either_asks a _ _ refl refl is
-streams_ask opened s (calls.Reset id code) a is = either_asks a _ _ refl refl is
-streams_ask opened s (calls.SetPriority id priority) a is = either_asks a _ _ refl refl is
-streams_ask opened s (calls.Read read) a is = read_asks s read.id read.ordered read.nexts.items a is
-streams_ask opened s (calls.Stop id code) a is = either_asks a _ _ refl refl is
-streams_ask opened s (calls.ReceivedReset id) a is = ap asks_again is
-streams_ask opened s call a is = absurd is
-
 injected_asks : (b is_last : Bool) (p : Policy) (e : End) (injection : Injection) → asks_again (injected_if b is_last p e injection) ≡ false
 injected_asks true is_last p e injection = refl
 injected_asks false is_last p e injection = refl
 
 -- only a delivery does
 only_deliveries_ask : (p : Policy) (e : End) (theirs : List (List ℕ)) (call : Call) (a : Answer) → is_delivery call ≡ false → IsAnswer p e theirs call a → asks_again a ≡ false
-only_deliveries_ask p e theirs calls.Ping a other is = ap asks_again is
-only_deliveries_ask p e theirs (calls.Poll now) a other is = either_asks a _ _ refl refl is
-only_deliveries_ask p e theirs (calls.Timeout now) a other is = either_asks a _ _ refl refl is
 only_deliveries_ask p e theirs (calls.Deliver delivery) a other is = cc
 only_deliveries_ask p e theirs (calls.Inject injection) a other is = ap asks_again is ∙ injected_asks (would_open p e injection.remote injection.bytes) (says_last a) p e injection
-only_deliveries_ask p e theirs calls.Event a other is = ap asks_again is
-only_deliveries_ask p e theirs (calls.Timer timer) a other is = ap asks_again is
-only_deliveries_ask p e theirs calls.NextTimeout a other is = ap asks_again is
-only_deliveries_ask p e theirs calls.State a other is = ap asks_again is
-only_deliveries_ask p e theirs (calls.Close close) a other is = ap asks_again is
-only_deliveries_ask p e theirs calls.UseNextId a other is = either_asks a _ _ refl refl is
-only_deliveries_ask p e theirs calls.HandshakeDone a other is = ap asks_again is
-only_deliveries_ask p e theirs (calls.Send message makes_room) a other is = either_asks a _ _ refl refl is
-only_deliveries_ask p e theirs calls.Recv a other is = ap asks_again is
-only_deliveries_ask p e theirs call a other is = streams_ask (is_open e.closing.state) e.streams call a is
+only_deliveries_ask p e theirs call a other is = apart a (only_handed p e theirs call a refl is)
+  where
+    apart : (b : Answer) → is_handed b ≡ false → asks_again b ≡ false
+    apart (answers.Deliver r) none = cc
+    apart b none = refl
 
 -- a datagram with such a header doesn't
 header_asks : (error : HeaderError) → asks_again (answers.Deliver (receives.Dropped (drop_of error))) ≡ false

@@ -1,5 +1,5 @@
--- Frames that an end may give: of streams that it knows, counts that it keeps, and HANDSHAKE_DONE of
--- a server alone; and so they stay, since streams only open and counts only grow.
+-- Frames that an end may give: of streams that it knows, counts that it keeps, and HANDSHAKE_DONE
+-- of a server alone; and so they stay, since streams only open and counts only grow.
 use Rattle.std.proofs.Common.{◌≡◌, ℕ, zero, suc, ◌+◌, ◌≤◌, Bool, true, false, not, List, [], ◌∷◌, ◌++◌, replicate, Option, Some, None, refl, sym, ap, ◌∙◌, subst, inl, inr, arith, ltb}
 use Rattle.std.specs.Prelude.{◌&&◌, ◌||◌, max, min, unwrap_or, ◌/◌}
 use Rattle.std.proofs.lemmas.Bool.{and_parts, or_cases, cond_both, le-ltb}
@@ -120,9 +120,9 @@ frames_grow fs e = frames_keep (λ (x : End). Grown e.streams x.streams) (frame_
 
 -- ---- what may be given
 
--- a frame of such a stream as its rule asks, of a count that the end keeps, one that asks for no less
--- than the peer lets acknowledgements wait, or HANDSHAKE_DONE of a server; and none that it never
--- gives
+-- a frame of such a stream as its rule asks, of a count that the end keeps, one that asks for no
+-- less than the peer lets acknowledgements wait, or HANDSHAKE_DONE of a server; and none that it
+-- never gives
 abbrev pub Given : StreamsState → FrameValue → Type 0
 Given s (max_streams f) = f.count ≤ raised_count (dir_named f.one_way) s.opening
 Given s (new_token t) = ⊥
@@ -167,7 +167,7 @@ in_others x [] i = i
 in_others x (y ∷ xs) i = inr i
 
 -- so does the first
-first_in : {X : Type 0} (x : X) (xs : List X) → first_of xs ≡ Some x → In x xs
+pub first_in : {X : Type 0} (x : X) (xs : List X) → first_of xs ≡ Some x → In x xs
 first_in x [] is = cc
 first_in x (y ∷ xs) is = let same : x ≡ y = cc in inl same
 

@@ -7,7 +7,7 @@ use Rattle.std.specs.declared.cmp.Ordering.TheVariants.{Less, Equal, Greater}
 use Rattle.std.specs.BTreeMap.{is_at}
 use Rattle.std.specs.BTreeSet.{insert_key}
 use Rattle.std.specs.declared.ops.Range.{Range}
-use Rattle.std.proofs.lemmas.Bool.{and_parts, or_left, or_right, cases_lt, ltb-true, leb-true, eq-eqb, ne_eqb, lt-leb}
+use Rattle.std.proofs.lemmas.Bool.{and_parts, or_left, or_right, or_cases, cases_lt, eqb-true, ltb-true, leb-true, eq-eqb, ne_eqb, lt-leb}
 use Rattle.std.proofs.lemmas.List.{length-append}
 use Rattle.quic_wire_core.specs.TransportError.{plain_error, protocol_violation}
 use Rattle.quic_wire_core.specs.declared.shared.IssuedCid.{IssuedCid}
@@ -28,7 +28,7 @@ use Rattle.quic_headline.proofs.Duties.OfIds.{insert_keeps}
 -- ---- lists of numbers
 
 -- one that stands in a list and is taken out was one of so many
-length_without : (m : ℕ) (ks : List ℕ) → is_in m ks ≡ true → length (without m ks) + 1 ≡ length ks
+pub length_without : (m : ℕ) (ks : List ℕ) → is_in m ks ≡ true → length (without m ks) + 1 ≡ length ks
 length_without m [] is = cc
 length_without m (k ∷ ks) is = go (is_at (nat_cmp m) k) is (length_without m ks)
   where
@@ -55,12 +55,12 @@ few_inserted (k ∷ ks) m = go (nat_cmp m k) (few_inserted ks m)
     go Equal less = omega arith
     go Greater less = omega arith
 
-length_below : (m : ℕ) → length (below m) ≡ m
+pub length_below : (m : ℕ) → length (below m) ≡ m
 length_below zero = refl
 length_below (suc m) = let all = length-append (below m) (m ∷ []) in let before = length_below m in omega arith
 
 -- the numbers below one ascend, and each less number is one of them
-below_rises : (m : ℕ) → Rise (below m) 0
+pub below_rises : (m : ℕ) → Rise (below m) 0
 below_rises zero = tt
 below_rises (suc m) = subst (λ (ks : List ℕ). Rise ks 0) (insert_next m m (omega arith)) (rise_inserted (below m) m 0 (omega arith) (below_rises m))
 
@@ -69,6 +69,14 @@ is_below zero n less = absurd (omega arith)
 is_below (suc m) n less = ap (λ (ks : List ℕ). is_in n ks) (sym (insert_next m m (omega arith))) ∙ in_inserted (below m) m n ∙ elim (cases_lt n m) [
   | inl before ↦ or_right (n == m) (is_in n (below m)) (is_below m n before)
   | inr last ↦ or_left (n == m) (is_in n (below m)) (eq-eqb n m (omega arith))
+]
+
+-- and no other is
+pub only_below : (m n : ℕ) → is_in n (below m) ≡ true → n < m
+only_below zero n is = cc
+only_below (suc m) n is = elim (or_cases (n == m) (is_in n (below m)) (sym (in_inserted (below m) m n) ∙ (ap (λ (ks : List ℕ). is_in n ks) (insert_next m m (omega arith)) ∙ is))) [
+  | inl same ↦ (let last = eqb-true n m same in omega arith)
+  | inr before ↦ (let less = only_below m n before in omega arith)
 ]
 
 both_are : (b c : Bool) → b ≡ true → c ≡ false → (b && not c) ≡ true

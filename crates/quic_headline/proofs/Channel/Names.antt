@@ -1,13 +1,12 @@
 -- Each frame that an end gave is of streams that it knows and counts that it keeps, and
 -- STOP_SENDING that waits too; and ACK_FREQUENCY goes to a peer that obeys: a group over what is
 -- written.
-use Rattle.std.proofs.Common.{◌≡◌, ℕ, List, ◌++◌, Some, subst, inl, inr, Bool, true, false, Option, None, refl, sym, ap, ◌∙◌}
+use Rattle.std.proofs.Common.{◌≡◌, ℕ, ◌++◌, Some, subst, inl, inr, Bool, true, false, Option, None, refl, sym, ap, ◌∙◌}
 use Rattle.std.proofs.lemmas.Bool.{and_parts}
 use Rattle.quic_wire_core.specs.declared.stream_id.Side.TheVariants.{Server}
 use Rattle.quic_wire.specs.Value.{FrameValue, StopSendingValue, stop_sending, handshake_done, AckFrequencyValue, ack_frequency}
-use Rattle.quic_streams_parts.specs.RecvHalf.{RecvHalf}
 use Rattle.quic_streams_state.specs.declared.state.StreamsState.{StreamsState}
-use Rattle.quic_streams_state.specs.State.{is_opened, receives_on, receiving_half}
+use Rattle.quic_streams_state.specs.State.{is_opened, receives_on}
 use Rattle.quic_streams_laws.specs.Giving.{Receives}
 use Rattle.quic_streams_laws.specs.ShapeLaws.{receives_may}
 use Rattle.quic_streams_laws.specs.Written.{HoldsWritten}
@@ -15,17 +14,15 @@ use Rattle.quic_machine.specs.declared.run.Call.{Call}
 use Rattle.quic_machine.specs.declared.run.Call.TheVariants as calls
 use Rattle.quic_machine.specs.declared.run.Answer.{Answer}
 use Rattle.quic_machine.specs.End.{End}
-use Rattle.quic_machine.specs.Receive.{Outcome}
 use Rattle.quic_machine.specs.Machine.{IsAnswer, gave}
-use Rattle.quic_machine.specs.FrameCases.{begun, apart_leaves}
+use Rattle.quic_machine.specs.FrameCases.{begun}
 use Rattle.quic_machine.specs.Poll.{rests}
-use Rattle.quic_headline.specs.Runs.{Packet, Intake, In}
+use Rattle.quic_headline.specs.Runs.{Intake, In}
 use Rattle.quic_headline.specs.Observer.{Sent}
 use Rattle.quic_headline.proofs.Packets.Owing.{sent_fine}
 use Rattle.quic_headline.proofs.Places.Told.{in_append}
 use Rattle.quic_headline.proofs.Places.Steps.{poll_answer}
-use Rattle.quic_headline.proofs.Packets.Delivered.{Arrivals, arrived, frames_at}
-use Rattle.quic_headline.proofs.Packets.Named.{TakesOn, frames_settle, tracked_carried, NamesTaken}
+use Rattle.quic_headline.proofs.Packets.Delivered.{frames_at}
 use Rattle.quic_headline.proofs.Packets.Group.{PacketsHold, meets}
 use Rattle.quic_headline.proofs.Places.Coming.{by_coming}
 use Rattle.quic_headline.proofs.Places.Groups.{Way, Calls, Group}
@@ -33,13 +30,12 @@ use Rattle.quic_headline.proofs.Places.Parties.{sent_by, sent_if, sents_by, Part
 use Rattle.quic_headline.proofs.Halves.Wrote.{wrote}
 use Rattle.quic_headline.proofs.Halves.QuietSteps.{sent_within}
 use Rattle.quic_headline.proofs.Channel.Given.{Grown, grown_same, call_grows, frames_grow, receives_grow, Given, given_grows, StopsHold, polled_given, Obeys, May}
-use Rattle.quic_headline.proofs.Channel.Stops.{StopsOf, from_stops, TrackedStops, call_stops, frame_stops, settles_stops, ready_keeps}
+use Rattle.quic_headline.proofs.Channel.Stops.{StopsOf, AllStop, StopsFor, TrackedStops, ready_keeps}
+use Rattle.quic_headline.proofs.Channel.Stopping.{tracked_stops, stops_behind}
 use Rattle.std.specs.Option.{is_some}
 use Rattle.std.specs.Prelude.{if◌then◌else◌}
 use Rattle.quic_parameters.specs.Parameters.{ParameterValues}
 use Rattle.quic_headline.proofs.Packets.Stays.{placed_call}
-use Rattle.quic_headline.proofs.Packets.Strays.{acks_at}
-use Rattle.quic_headline.proofs.Packets.Moved.{by_migrated}
 use Rattle.quic_headline.proofs.Halves.Moved.{in_arrivals}
 use Rattle.quic_machine.specs.PollCases.{ready_leaves}
 
@@ -74,8 +70,8 @@ module _ (B : Way) (rests : RestsOn B) (x y : Party) (call : Call) (a : Answer) 
     abbrev t : StreamsState
     t = (called x y.given call a).end.streams
 
-    abbrev Known : ℕ → Type 0
-    Known id = Receives t id
+    abbrev Known : StopSendingValue → Type 0
+    Known g = Receives t g.id
 
     abbrev IsServer : Type 0
     IsServer = x.end.streams.side ≡ Server
@@ -88,52 +84,19 @@ module _ (B : Way) (rests : RestsOn B) (x y : Party) (call : Call) (a : Answer) 
     stops_before = ((λ r i. receives_grow x.end.streams t grows_behind r.id (n.stops.0 r i)), n.asks, n.stops.1)
 
     -- what is stopped is a stream on which the end receives
-    stopped_known : (id : ℕ) (h : RecvHalf) → receiving_half x.end.streams id ≡ Some h → Known id
-    stopped_known id h is = receives_grow x.end.streams t grows_behind id (and_parts (receives_on x.end.streams.side id) (is_opened x.end.streams id) (receives_may x.end.streams id h written.shape is))
+    stopped_known : StopsFor Known x.end.streams call a
+    stopped_known id code h done called answered is = receives_grow x.end.streams t grows_behind id (and_parts (receives_on x.end.streams.side id) (is_opened x.end.streams id) (receives_may x.end.streams id h written.shape is))
 
     -- what was sent was for such streams
-    sent_known : (s : Sent) → In s x.sents → (g : StopSendingValue) → In (stop_sending g) s.frames → Known g.id
+    sent_known : (s : Sent) → In s x.sents → (g : StopSendingValue) → In (stop_sending g) s.frames → Known g
     sent_known s i g j = given_grows x.end.streams t grows_behind (stop_sending g) (n.given s i (stop_sending g) j)
 
-    -- and so was what is tracked
-    tracked_stops : (Q : ℕ → Type 0) → ((s : Sent) → In s x.sents → (g : StopSendingValue) → In (stop_sending g) s.frames → Q g.id) → TrackedStops Q (Obeys x.end) IsServer x.end.tracking.packets
-    tracked_stops Q sent k p among =
-        let was = tracked_carried x.sents x.end.tracking.packets (rests.packets x y c.gives).tracked k p among in
-        from_stops Q (Obeys x.end) IsServer p.carried was.sent.frames was.is (sent was.sent was.among, n.asked was.sent was.among, n.given was.sent was.among handshake_done)
+    -- and so it is of all that was sent
+    sent_stops : (s : Sent) → In s x.sents → AllStop Known (Obeys x.end) IsServer s.frames
+    sent_stops s i = (sent_known s i, n.asked s i, n.given s i handshake_done)
 
-    arrivals_stop : (now : ℕ) (s : Sent) → In s y.sents → (here : Bool) → Arrivals x.end now s.number s.frames (frames_at here s.frames) (came_to x y) (λ (o : Outcome) (i : Intake). StopsOf Known (Obeys x.end) IsServer o.end.waiting.frames)
-    arrivals_stop now s among here = record {
-      ignored = λ reason. stops_before;
-      noted = λ state reason. stops_before;
-      takes = λ words state new none urged mark. passed_stops;
-      moves = λ p o same remote z opened j. by_migrated (λ (e : End). StopsOf Known (Obeys x.end) IsServer e.waiting.frames) p o remote z (λ c. j) (λ c most. j);
-      drains = λ words state new close is. passed_stops;
-      refuses = λ words state new f is. passed_stops;
-      exhausts = λ state. stops_before;
-    }
-      where
-        took : List Packet
-        took = (came_to y x).took
-
-        p : PacketsHold x y
-        p = rests.packets x y c.gives
-
-        back : PacketsHold y x
-        back = rests.packets y x c.takes
-
-        takes_on : TakesOn took x.sents (frames_at here s.frames) (λ (e : End). StopsOf Known (Obeys x.end) IsServer e.waiting.frames)
-        takes_on = record { settles = settles_stops Known (Obeys x.end) IsServer took x.sents (λ u i. (sent_known u i, n.asked u i, n.given u i handshake_done)); names = λ a e i j. j; on_streams = λ f e i on j. frame_stops Known (Obeys x.end) IsServer f e on j; message = λ m e j. j; apart = λ f e i apart j. apart_leaves (λ (g : End). StopsOf Known (Obeys x.end) IsServer g.waiting.frames) f e apart (λ c. j) (λ c most. j) }
-
-        passed_stops : StopsOf Known (Obeys x.end) IsServer (arrived x.end now s.number (frames_at here s.frames)).end.waiting.frames
-        passed_stops = frames_settle took x.sents (record { taken = p.taken; rising = p.gives.rising }) (frames_at here s.frames) (λ (e : End). StopsOf Known (Obeys x.end) IsServer e.waiting.frames) takes_on (begun x.end now s.number)
-            (acks_at (NamesTaken took) here s.frames (λ b i k named. back.named s b k among i named)) p.tracked stops_before
-
-    stops_behind : StopsOf Known (Obeys x.end) IsServer (called x y.given call a).end.waiting.frames
-    stops_behind = by_coming x y a c.joined c.served (meets y x (rests.packets y x c.takes)) (λ (e : End) (i : Intake). StopsOf Known (Obeys x.end) IsServer e.waiting.frames) call c.answer (record {
-      apart = λ apart. call_stops Known (Obeys x.end) IsServer x.policy x.end y.given call a c.answer apart stopped_known n.obeys (λ is. is) (tracked_stops Known sent_known) stops_before;
-      none = λ delivery is. stops_before;
-      comes = λ delivery is s among here. arrivals_stop delivery.now s among here;
-    })
+    stops_now : StopsOf Known (Obeys x.end) IsServer (called x y.given call a).end.waiting.frames
+    stops_now = stops_behind B rests.packets x y call a c Known (Obeys x.end) IsServer sent_stops stops_before stopped_known n.obeys (λ is. is)
 
     -- what was sent before, and what the call sends
     old_given : (s : Sent) → In s x.sents → (f : FrameValue) → In f s.frames → Given t f
@@ -145,11 +108,11 @@ module _ (B : Way) (rests : RestsOn B) (x y : Party) (call : Call) (a : Answer) 
         (λ set. (let there : Obeys x.end = (ready_keeps Here (Obeys x.end) IsServer x.end now n.obeys tracked (n.stops.0, n.asks, n.stops.1)).1 set in (ap (λ (e : End). e.peer_params.min_ack_delay) (ready_leaves x.end now) ∙ there, there))))
         s (subst (λ (b : Answer). In s (sent_if (gave b) (sent_by x.policy x.end now))) (poll_answer x.policy x.end now a is c.served) i) f j
       where
-        Here : ℕ → Type 0
-        Here id = Receives x.end.streams id
+        Here : StopSendingValue → Type 0
+        Here g = Receives x.end.streams g.id
 
         tracked : TrackedStops Here (Obeys x.end) IsServer x.end.tracking.packets
-        tracked = tracked_stops Here (λ u i g j. n.given u i (stop_sending g) j)
+        tracked = tracked_stops B rests.packets x y call a c Here (Obeys x.end) IsServer (λ u i. ((λ g j. n.given u i (stop_sending g) j), n.asked u i, n.given u i handshake_done))
     more_given k is s i f j = absurd i
 
     given_behind : (s : Sent) → In s (x.sents ++ sents_by x.policy x.end call a) → (f : FrameValue) → In f s.frames → Given t f
@@ -167,9 +130,9 @@ module _ (B : Way) (rests : RestsOn B) (x y : Party) (call : Call) (a : Answer) 
     pub names_behind : NamesHold (called x y.given call a) y
     names_behind = record {
       given = given_behind;
-      stops = (stops_behind.0, λ set. grows_behind.0 ∙ stops_behind.2 set);
+      stops = (stops_now.0, λ set. grows_behind.0 ∙ stops_now.2 set);
       obeys = λ some. obeys_behind (n.obeys (ap (λ (p : ParameterValues). is_some p.min_ack_delay) (sym (placed_call x.policy x.end y.given call a).peer) ∙ some));
-      asks = λ set. obeys_behind (stops_behind.1 set);
+      asks = λ set. obeys_behind (stops_now.1 set);
       asked = λ s i g j. obeys_behind (asked_behind s i g j);
     }
 

@@ -68,34 +68,38 @@ use Rattle.quic_headline.proofs.Waited.Pings.{ready_waiting}
 
 -- STOP_SENDING waits for streams of which this is so, ACK_FREQUENCY where that is, and
 -- HANDSHAKE_DONE where something else is
-abbrev pub StopsOf : (ℕ → Type 0) → Type 0 → Type 0 → Retransmits → Type 0
-StopsOf Q A D p = ((r : StopSendingValue) → In r p.stop_sending → Q r.id) × (p.ack_frequency ≡ true → A) × (p.handshake_done ≡ true → D)
+abbrev pub StopsOf : (StopSendingValue → Type 0) → Type 0 → Type 0 → Retransmits → Type 0
+StopsOf Q A D p = ((r : StopSendingValue) → In r p.stop_sending → Q r) × (p.ack_frequency ≡ true → A) × (p.handshake_done ≡ true → D)
+
+-- what a call stops, by its answer, is a stream on which the end receives, of which that is known
+abbrev pub StopsFor : (StopSendingValue → Type 0) → StreamsState → Call → Answer → Type 0
+StopsFor Q s call a = (id code : ℕ) (h : RecvHalf) (done : Unit {0}) → call ≡ calls.Stop id code → a ≡ answers.Stop (Ok done) → receiving_half s id ≡ Some h → Q (record { id = id; code = code })
 
 -- ---- what frames carried
 
 -- each of these frames says so
-abbrev pub AllStop : (ℕ → Type 0) → Type 0 → Type 0 → List FrameValue → Type 0
-AllStop Q A D fs = ((g : StopSendingValue) → In (stop_sending g) fs → Q g.id) × ((g : AckFrequencyValue) → In (ack_frequency g) fs → A) × (In handshake_done fs → D)
+abbrev pub AllStop : (StopSendingValue → Type 0) → Type 0 → Type 0 → List FrameValue → Type 0
+AllStop Q A D fs = ((g : StopSendingValue) → In (stop_sending g) fs → Q g) × ((g : AckFrequencyValue) → In (ack_frequency g) fs → A) × (In handshake_done fs → D)
 
 -- the STOP_SENDING of frames
-again_stops : (Q : ℕ → Type 0) (A D : Type 0) (r : Retransmits) (f : FrameValue) → AllStop Q A D (f ∷ []) → StopsOf Q A D r → StopsOf Q A D (and_again r f)
-again_stops Q A D r (stop_sending g) one before = ((λ s i. elim (in_more s g r.stop_sending i) [ inl old ↦ before.0 s old | inr new ↦ subst (λ (x : StopSendingValue). Q x.id) (sym new) (one.0 g (inl refl)) ]), before.1, before.2)
+again_stops : (Q : StopSendingValue → Type 0) (A D : Type 0) (r : Retransmits) (f : FrameValue) → AllStop Q A D (f ∷ []) → StopsOf Q A D r → StopsOf Q A D (and_again r f)
+again_stops Q A D r (stop_sending g) one before = ((λ s i. elim (in_more s g r.stop_sending i) [ inl old ↦ before.0 s old | inr new ↦ subst Q (sym new) (one.0 g (inl refl)) ]), before.1, before.2)
 again_stops Q A D r (ack_frequency g) one before = (before.0, (λ set. one.1 g (inl refl)), before.2)
 again_stops Q A D r handshake_done one before = (before.0, before.1, λ set. one.2 (inl refl))
 again_stops Q A D r f one before = before
 
-fold_stops : (Q : ℕ → Type 0) (A D : Type 0) (fs : List FrameValue) (r : Retransmits) → AllStop Q A D fs → StopsOf Q A D r → StopsOf Q A D (fold and_again r fs)
+fold_stops : (Q : StopSendingValue → Type 0) (A D : Type 0) (fs : List FrameValue) (r : Retransmits) → AllStop Q A D fs → StopsOf Q A D r → StopsOf Q A D (fold and_again r fs)
 fold_stops Q A D [] r all before = before
 fold_stops Q A D (f ∷ fs) r all before = fold_stops Q A D fs (and_again r f) ((λ g i. all.0 g (inr i)), (λ g i. all.1 g (inr i)), λ i. all.2 (inr i)) (again_stops Q A D r f (first f all) before)
   where
     first : (f : FrameValue) → AllStop Q A D (f ∷ fs) → AllStop Q A D (f ∷ [])
     first f all = ((λ g i. elim i [ inl is ↦ all.0 g (inl is) | inr none ↦ absurd none ]), (λ g i. elim i [ inl is ↦ all.1 g (inl is) | inr none ↦ absurd none ]), λ i. elim i [ inl is ↦ all.2 (inl is) | inr none ↦ absurd none ])
 
-pub carried_stops : (Q : ℕ → Type 0) (A D : Type 0) (fs : List FrameValue) → AllStop Q A D fs → StopsOf Q A D (carried_in fs).retransmits
+pub carried_stops : (Q : StopSendingValue → Type 0) (A D : Type 0) (fs : List FrameValue) → AllStop Q A D fs → StopsOf Q A D (carried_in fs).retransmits
 carried_stops Q A D fs all = fold_stops Q A D fs nothing_waits all ((λ r i. absurd i), (λ set. cc), λ set. cc)
 
 -- or all but what has to be sent again
-pub from_stops : (Q : ℕ → Type 0) (A D : Type 0) (c : Carried) (fs : List FrameValue) → IsCarriedFrom c fs → AllStop Q A D fs → StopsOf Q A D c.retransmits
+pub from_stops : (Q : StopSendingValue → Type 0) (A D : Type 0) (c : Carried) (fs : List FrameValue) → IsCarriedFrom c fs → AllStop Q A D fs → StopsOf Q A D c.retransmits
 from_stops Q A D c fs (inl is) all = subst (λ (x : Carried). StopsOf Q A D x.retransmits) (sym is) (carried_stops Q A D fs all)
 from_stops Q A D c fs (inr is) all = subst (λ (x : Carried). StopsOf Q A D x.retransmits) (sym is) ((λ r i. absurd i), (λ set. cc), λ set. cc)
 
@@ -104,7 +108,7 @@ server_says : (side : Side) (was opened : Bool) (done : Unit {0}) → answers.Ha
 server_says Client was opened done is = cc
 server_says Server was opened done is = refl
 
-module _ (Q : ℕ → Type 0) (A D : Type 0) where
+module _ (Q : StopSendingValue → Type 0) (A D : Type 0) where
   -- ---- small steps
 
   either : (b : Bool) (x y : Streams) → StopsOf Q A D x.pending → StopsOf Q A D y.pending → StopsOf Q A D (if b then x else y).pending
@@ -151,12 +155,12 @@ module _ (Q : ℕ → Type 0) (A D : Type 0) where
     told_stops (Err e) id = i
 
     -- a stop is for a stream on which the end receives
-    stop_stops : (id code : ℕ) → ((h : RecvHalf) → receiving_half s id ≡ Some h → Q id) → StopsOf Q A D (after_stop s p id code).pending
+    stop_stops : (id code : ℕ) → ((h : RecvHalf) → receiving_half s id ≡ Some h → Q (record { id = id; code = code })) → StopsOf Q A D (after_stop s p id code).pending
     stop_stops id code known = go (receiving_half s id) refl
       where
-        added : Q id → (o : Option ℕ) → StopsOf Q A D (with_stop o id code p)
+        added : Q (record { id = id; code = code }) → (o : Option ℕ) → StopsOf Q A D (with_stop o id code p)
         added here (Some reset) = i
-        added here None = ((λ r j. elim (in_more r (record { id = id; code = code }) p.stop_sending j) [ inl old ↦ i.0 r old | inr new ↦ subst (λ (x : StopSendingValue). Q x.id) (sym new) here ]), i.1, i.2)
+        added here None = ((λ r j. elim (in_more r (record { id = id; code = code }) p.stop_sending j) [ inl old ↦ i.0 r old | inr new ↦ subst Q (sym new) here ]), i.1, i.2)
 
         go : (o : Option RecvHalf) → receiving_half s id ≡ o → StopsOf Q A D (stopped_at o s p id code).pending
         go None is = i
@@ -167,7 +171,7 @@ module _ (Q : ℕ → Type 0) (A D : Type 0) where
   if_stops (Err e) after before i j = j
 
   -- each call on streams
-  calls_stops : (b : Bool) (t : Streams) (call : Call) (a : Answer) → ((id : ℕ) (h : RecvHalf) → receiving_half t.state id ≡ Some h → Q id) → StopsOf Q A D t.pending → StopsOf Q A D (after_on_streams b t call a).pending
+  calls_stops : (b : Bool) (t : Streams) (call : Call) (a : Answer) → StopsFor Q t.state call a → StopsOf Q A D t.pending → StopsOf Q A D (after_on_streams b t call a).pending
   calls_stops b t (calls.Open dir) a known i = i
   calls_stops b t (calls.Accept dir) a known i = i
   calls_stops b t (calls.Write id bytes) (answers.Write answer) known i = write_stops t.state t.pending i b answer id bytes
@@ -176,7 +180,8 @@ module _ (Q : ℕ → Type 0) (A D : Type 0) where
   calls_stops b t (calls.Reset id code) (answers.Reset answer) known i = if_stops answer (after_reset t.state t.pending id code) t (reset_stops t.state t.pending i (sending_half t.state id) id code) i
   calls_stops b t (calls.SetPriority id priority) (answers.SetPriority answer) known i = if_stops answer _ t i i
   calls_stops b t (calls.Read read) (answers.Read (Ok nexts)) known i = finalize_stops (after_nexts told_bytes (after_read_begun t.state read.id read.ordered) read.id read.nexts.items nexts) t.pending i read.id
-  calls_stops b t (calls.Stop id code) (answers.Stop answer) known i = if_stops answer (after_stop t.state t.pending id code) t (stop_stops t.state t.pending i id code (known id)) i
+  calls_stops b t (calls.Stop id code) (answers.Stop (Ok done)) known i = stop_stops t.state t.pending i id code (λ h is. known id code h done refl refl is)
+  calls_stops b t (calls.Stop id code) (answers.Stop (Err e)) known i = i
   calls_stops b t (calls.ReceivedReset id) a known i = told_stops t.state t.pending i (received_reset_answer t.state id) id
   calls_stops b t call a known i = i
 
@@ -235,7 +240,7 @@ module _ (Q : ℕ → Type 0) (A D : Type 0) where
   done_stops e a is server i = i
 
   -- any call but a delivery
-  pub call_stops : (p : Policy) (e : End) (theirs : List (List ℕ)) (call : Call) (a : Answer) → IsAnswer p e theirs call a → is_delivery call ≡ false → ((id : ℕ) (h : RecvHalf) → receiving_half e.streams id ≡ Some h → Q id) → (is_some e.peer_params.min_ack_delay ≡ true → A) → (side_of e ≡ Server → D) → TrackedStops e.tracking.packets → StopsOf Q A D e.waiting.frames
+  pub call_stops : (p : Policy) (e : End) (theirs : List (List ℕ)) (call : Call) (a : Answer) → IsAnswer p e theirs call a → is_delivery call ≡ false → StopsFor Q e.streams call a → (is_some e.peer_params.min_ack_delay ≡ true → A) → (side_of e ≡ Server → D) → TrackedStops e.tracking.packets → StopsOf Q A D e.waiting.frames
       → StopsOf Q A D (after_call p e theirs call a).waiting.frames
   call_stops p e theirs call a is apart known asks server carried i = by_call p e theirs (λ (f : End). StopsOf Q A D f.waiting.frames) call a (record {
     same = i;
@@ -296,8 +301,8 @@ module _ (Q : ℕ → Type 0) (A D : Type 0) where
   reset_acked_stops None s p id i = i
   reset_acked_stops (Some h) s p id i = either (is_some h.reset) (settled (send_done s id) p) (streams_of s p) i i
 
-  -- where each STOP_SENDING that was sent is for such a stream, and ACK_FREQUENCY and HANDSHAKE_DONE
-  -- were sent so
+  -- where each STOP_SENDING that was sent is for such a stream, and ACK_FREQUENCY and
+  -- HANDSHAKE_DONE were sent so
   pub settles_stops : (took : List Packet) (sents : List Sent) → ((s : Sent) → In s sents → AllStop Q A D s.frames) → SettlesOn took sents (λ (e : End). StopsOf Q A D e.waiting.frames)
   settles_stops took sents sent (steps.reset id) e may i = reset_acked_stops (sent_half e.streams id) e.streams e.waiting.frames id i
   settles_stops took sents sent (steps.acked m) e may i = acked_stops (sent_half e.streams m.id) e.streams e.waiting.frames m i

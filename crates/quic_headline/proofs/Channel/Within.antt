@@ -34,12 +34,16 @@ use Rattle.quic_headline.proofs.Channel.Heard.{Heard, call_heard, frames_heard, 
 use Rattle.quic_headline.proofs.Packets.Delivered.{frames_at, among_at}
 use Rattle.quic_headline.proofs.Halves.Moved.{in_arrivals}
 
--- x writes, and y reads: what y told x it holds, x heard no more, and y lets come what x wrote
+-- x writes, and y reads: what y told x it holds, x heard no more, and y lets come what x wrote, and
+-- as much of each stream, and of all, as at first
 pub record Within (x y : Party) : Type 0 where
   pub stays : Stays y.end.streams y.end.streams
   pub told : AllTold y.end.streams y.sents
   pub heard : Heard y.end.streams x.end.streams
   pub wrote : (id : ℕ) → Allows y.end.streams id (length (written id x.told))
+  pub first : (id : ℕ) → Allows y.end.streams id y.made.streams.receiving.stream_window
+  pub wide : y.end.streams.receiving.stream_window ≡ y.made.streams.receiving.stream_window
+  pub first_all : y.made.streams.receiving.window ≤ y.end.streams.receiving.announced
 
 -- ---- a call
 
@@ -73,6 +77,9 @@ module _ (B : Way) (w : IsWriting B) (x y : Party) (call : Call) (a : Answer) (c
         told = told_call B w x y call a c i.stays i.told;
         heard = heard_stays x.end.streams (called x y.given call a).end.streams y.end.streams on i.heard;
         wrote = λ id. on.receives.allows id (length (written id y.told)) (i.wrote id);
+        first = λ id. on.receives.allows id x.made.streams.receiving.stream_window (i.first id);
+        wide = on.receives.as_wide ∙ i.wide;
+        first_all = (let more = on.receives.more in let first = i.first_all in omega (arith, more, first));
       }
 
 -- ---- the start
@@ -156,8 +163,8 @@ module _ (x y : Beginning) (m : AreMade x y) where
 
 pub within_group : (B : Way) → IsWriting B → Group B Within
 within_group B w = record {
-  first = λ x y m there back. record { stays = stays_first x y m; told = λ t i. absurd i; heard = heard_first x y m; wrote = λ id. allows_first x y m id 0 (omega arith) };
-  writer = λ x y call a c i back. record { stays = i.stays; told = i.told; heard = heard_on B w x y call a c i; wrote = wrote_on B w x y call a c i };
+  first = λ x y m there back. record { stays = stays_first x y m; told = λ t i. absurd i; heard = heard_first x y m; wrote = λ id. allows_first x y m id 0 (omega arith); first = λ id. allows_first x y m id y.making.settings.stream_receive_window (omega arith); wide = refl; first_all = omega arith };
+  writer = λ x y call a c i back. record { stays = i.stays; told = i.told; heard = heard_on B w x y call a c i; wrote = wrote_on B w x y call a c i; first = i.first; wide = i.wide; first_all = i.first_all };
   reader = λ x y call a c there i. reads_on B w x y call a c i;
-  shows = λ x y here there b back i j. record { stays = i.stays; told = i.told; heard = i.heard; wrote = i.wrote };
+  shows = λ x y here there b back i j. record { stays = i.stays; told = i.told; heard = i.heard; wrote = i.wrote; first = i.first; wide = i.wide; first_all = i.first_all };
 }

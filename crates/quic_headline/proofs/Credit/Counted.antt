@@ -13,7 +13,7 @@ use Rattle.quic_streams_parts.specs.declared.answers.UpdateError.{UpdateError}
 use Rattle.quic_streams_parts.specs.declared.answers.UpdateError.TheVariants as update_errors
 use Rattle.quic_streams_parts.specs.Dirs.{Counts, of, is_own, is_two_way}
 use Rattle.quic_streams_parts.specs.Table.{at}
-use Rattle.quic_streams_parts.specs.RecvHalf.{RecvHalf, new_recv_half, begun, read_on, stopped_now, after_frame, after_reset_stream, end_of}
+use Rattle.quic_streams_parts.specs.RecvHalf.{RecvHalf, new_recv_half, begun, read_on, stopped_now, after_frame, after_reset_stream, final_after, end_of}
 use Rattle.quic_streams_halves.specs.Halves.{without_half, is_done}
 use Rattle.quic_streams_state.specs.declared.state.StreamsState.{StreamsState}
 use Rattle.quic_streams_state.specs.State.{Opening, Receiving, first_window, receiving_half, with_recv, recv_done, done_if, sending_status, seen_at}
@@ -67,21 +67,21 @@ abbrev pub IsSized : RecvHalf → Type 0
 IsSized h = (is_some h.final ≡ true) ⊎ (is_some h.reset ≡ true)
 
 -- of a half in use: what was seen of it came, it was stopped and reset only where the lists say so,
--- and something came where its final size is known
+-- and its final size is known only where that came
 pub record IsCounted (u : Usage) (id : ℕ) (h : RecvHalf) : Type 0 where
   pub seen : h.seen ≤ u.top id
   pub halted : h.stopped ≡ true → u.halted id ≡ true
   pub cut : is_some h.reset ≡ true → u.cut id ≡ true
-  pub listed : IsSized h → u.listed id ≡ true
+  pub sized : IsSized h → u.sized id ≡ true
 
 -- nothing more of a stream is read, by the lists
 abbrev pub IsReadUp : Usage → ℕ → Type 0
 IsReadUp u id = (u.ended id || (u.halted id || u.cut id)) ≡ true
 
--- of one that is done: as much came, and was consumed; nothing more is read of it, and something
--- came
+-- of one that is done: as much came, and was consumed; nothing more is read of it, and its final
+-- size came
 abbrev pub IsSpent : Usage → ℕ → ℕ → Type 0
-IsSpent u id m = (m ≤ u.top id) × (m ≤ used_on u id) × IsReadUp u id × (u.listed id ≡ true)
+IsSpent u id m = (m ≤ u.top id) × (m ≤ used_on u id) × IsReadUp u id × (u.sized id ≡ true)
 
 -- nothing of one that was never in use
 abbrev pub IsAny : ℕ → Type 0
@@ -96,9 +96,9 @@ pub record Uses (wide each_wide : ℕ) (u : Usage) (side : Side) (r : Receiving)
 -- ---- one half
 
 new_counted : (u : Usage) (id window : ℕ) → IsAny id → IsCounted u id (new_recv_half window)
-new_counted u id window any = record { seen = omega arith; halted = λ is. cc; cut = λ is. cc; listed = λ sized. none sized }
+new_counted u id window any = record { seen = omega arith; halted = λ is. cc; cut = λ is. cc; sized = λ last. none last }
   where
-    none : IsSized (new_recv_half window) → u.listed id ≡ true
+    none : IsSized (new_recv_half window) → u.sized id ≡ true
     none (inl is) = cc
     none (inr is) = cc
 
@@ -108,16 +108,25 @@ cut_spent u id h c over sized =
     let known : (u.halted id ≡ true) ⊎ (u.cut id ≡ true) = elim over [ inl is ↦ inl (c.halted is) | inr is ↦ inr (c.cut is) ] in
     let most = used_all u id known in
     let seen = c.seen in
-    (seen, omega (arith, most, seen), or_right (u.ended id) (u.halted id || u.cut id) (elim known [ inl is ↦ or_left (u.halted id) (u.cut id) is | inr is ↦ or_right (u.halted id) (u.cut id) is ]), c.listed sized)
+    (seen, omega (arith, most, seen), or_right (u.ended id) (u.halted id || u.cut id) (elim known [ inl is ↦ or_left (u.halted id) (u.cut id) is | inr is ↦ or_right (u.halted id) (u.cut id) is ]), c.sized sized)
 
 -- a frame that comes
-frame_counted : (u : Usage) (id : ℕ) (h : RecvHalf) (f : StreamValue) → end_of f ≤ u.top id → u.listed id ≡ true → IsCounted u id h → IsCounted u id (after_frame h f)
-frame_counted u id h f most there c = cond_both h.stopped _ _ (IsCounted u id) (λ e. record { seen = (let seen = c.seen in omega arith); halted = λ is. c.halted is; cut = λ is. c.cut is; listed = λ sized. there })
-    (λ e. cond_both (is_some h.reset) _ _ (IsCounted u id) (λ g. c) (λ g. record { seen = (let seen = c.seen in omega arith); halted = λ is. c.halted is; cut = λ is. c.cut is; listed = λ sized. there }))
+frame_counted : (u : Usage) (id : ℕ) (h : RecvHalf) (f : StreamValue) → end_of f ≤ u.top id → (f.fin ≡ true → u.sized id ≡ true) → IsCounted u id h → IsCounted u id (after_frame h f)
+frame_counted u id h f most there c = cond_both h.stopped _ _ (IsCounted u id) (λ e. record { seen = (let seen = c.seen in omega arith); halted = λ is. c.halted is; cut = λ is. c.cut is; sized = known })
+    (λ e. cond_both (is_some h.reset) _ _ (IsCounted u id) (λ g. c) (λ g. record { seen = (let seen = c.seen in omega arith); halted = λ is. c.halted is; cut = λ is. c.cut is; sized = known }))
+  where
+    -- its final size is the end of the frame, or was known
+    last : (b : Bool) → f.fin ≡ b → is_some (if b then Some (end_of f) else h.final) ≡ true → u.sized id ≡ true
+    last true fin is = there fin
+    last false fin is = c.sized (inl is)
 
-reset_counted : (u : Usage) (id : ℕ) (h : RecvHalf) (code size : ℕ) → size ≤ u.top id → u.cut id ≡ true → u.listed id ≡ true → IsCounted u id h → IsCounted u id (after_reset_stream h code size)
-reset_counted u id h code size most there among c = cond_both h.stopped _ _ (IsCounted u id) (λ e. record { seen = most; halted = λ is. c.halted is; cut = λ is. there; listed = λ sized. among })
-    (λ e. cond_both (is_some h.reset) _ _ (IsCounted u id) (λ g. c) (λ g. record { seen = most; halted = λ is. c.halted is; cut = λ is. there; listed = λ sized. among }))
+    known : (is_some (final_after h (end_of f) f.fin) ≡ true) ⊎ (is_some h.reset ≡ true) → u.sized id ≡ true
+    known (inl is) = last f.fin refl is
+    known (inr is) = c.sized (inr is)
+
+reset_counted : (u : Usage) (id : ℕ) (h : RecvHalf) (code size : ℕ) → size ≤ u.top id → u.cut id ≡ true → u.sized id ≡ true → IsCounted u id h → IsCounted u id (after_reset_stream h code size)
+reset_counted u id h code size most there came c = cond_both h.stopped _ _ (IsCounted u id) (λ e. record { seen = most; halted = λ is. c.halted is; cut = λ is. there; sized = λ last. came })
+    (λ e. cond_both (is_some h.reset) _ _ (IsCounted u id) (λ g. c) (λ g. record { seen = most; halted = λ is. c.halted is; cut = λ is. there; sized = λ last. came }))
 
 -- a half of which nothing more is read is in use
 pub live_of : (s : StreamsState) (id : ℕ) (h : RecvHalf) → receiving_half s id ≡ Some h → IsReadOut h → at s.receiving.halves.live id ≡ Some h
@@ -155,8 +164,8 @@ uses_grow wide each_wide u v m side r announced configured i = record {
   window = i.window;
   stream_window = i.stream_window;
   sums = sums_follow IsAny IsAny (IsCounted u) (IsCounted v) (IsSpent u) (IsSpent v) side r announced configured (λ id any. any)
-      (λ id h c. record { seen = (let seen = c.seen in let more = m.top id in omega (arith, seen, more)); halted = λ is. m.halted id (c.halted is); cut = λ is. m.cut id (c.cut is); listed = λ sized. m.listed id (c.listed sized) })
-      (λ id n d. (let top = m.top id in let more = used_more u v m id in let low = d.0 in let most = d.1 in (omega (arith, top, low), omega (arith, more, most), up_more u v m id d.2, m.listed id d.3))) i.sums;
+      (λ id h c. record { seen = (let seen = c.seen in let more = m.top id in omega (arith, seen, more)); halted = λ is. m.halted id (c.halted is); cut = λ is. m.cut id (c.cut is); sized = λ last. m.sized id (c.sized last) })
+      (λ id n d. (let top = m.top id in let more = used_more u v m id in let low = d.0 in let most = d.1 in (omega (arith, top, low), omega (arith, more, most), up_more u v m id d.2, m.sized id d.3))) i.sums;
 }
 
 module _ (wide each_wide : ℕ) where
@@ -217,11 +226,11 @@ module _ (wide each_wide : ℕ) where
 
   -- of each stream so many bytes were read as these chunks have
   abbrev reading : Usage → (ℕ → Reads) → Usage
-  reading u r = record { top = u.top; read = λ id. length (bytes_of (r id).chunks); halted = u.halted; cut = u.cut; ended = u.ended; listed = u.listed }
+  reading u r = record { top = u.top; read = λ id. length (bytes_of (r id).chunks); halted = u.halted; cut = u.cut; ended = u.ended; sized = u.sized }
 
   -- a `next` only adds to them
   next_uses : (u : Usage) (id : ℕ) (x : Next) (r : ℕ → Reads) → UsesMore (reading u r) (reading u (read_next_by x id r))
-  next_uses u id x r = record { top = λ q. omega arith; read = λ q. go x q; halted = λ q is. is; cut = λ q is. is; ended = λ q is. is; listed = λ q is. is }
+  next_uses u id x r = record { top = λ q. omega arith; read = λ q. go x q; halted = λ q is. is; cut = λ q is. is; ended = λ q is. is; sized = λ q is. is }
     where
       go : (x : Next) (q : ℕ) → length (bytes_of (r q).chunks) ≤ length (bytes_of (read_next_by x id r q).chunks)
       go (Ok (Some c)) q = by_stream (q == id)
@@ -244,13 +253,13 @@ module _ (wide each_wide : ℕ) where
         let counted : bytes_read_of h.arrived ≡ length (laws.bytes_of (r id).chunks) = (read_at done r s id h e holds).counted in
         let same : length (bytes_of (r id).chunks) ≡ length (laws.bytes_of (r id).chunks) = ap length (bytes_same (r id).chunks) in
         let more : length (bytes_of (r id).chunks) ≤ v.read id = m.read id in
-        (c.seen, omega (arith, ended, counted, same, more), or_left (v.ended id) (v.halted id || v.cut id) ended_there, c.listed (inl (ap is_some sized)))
+        (c.seen, omega (arith, ended, counted, same, more), or_left (v.ended id) (v.halted id || v.cut id) ended_there, c.sized (inl (ap is_some sized)))
 
     one_next : (told : Told) (s : StreamsState) (r : ℕ → Reads) (most : ℕ) (x : Next) → (x ≡ Ok None → u.ended id ≡ true) → IsNextAnswer told s id most x → HoldsRead done r s → Stays before s → Of (Uses wide each_wide (reading u r)) s → Of (Uses wide each_wide (reading u (read_next_by x id r))) (after_next told x s id most)
     one_next told s r most x ends is holds known i = elim is [
       | inl same ↦ subst (λ (a : Next). Of (Uses wide each_wide v) (after_next told a s id most)) (sym same)
           (next_to (Of (Uses wide each_wide v)) told s id most j
-          (λ h e. (let c = half_counts before v s id h e j in uses_with before v s id h (read_on h most) e (record { seen = c.seen; halted = λ f. c.halted f; cut = λ f. c.cut f; listed = λ f. c.listed f }) known j))
+          (λ h e. (let c = half_counts before v s id h e j in uses_with before v s id h (read_on h most) e (record { seen = c.seen; halted = λ f. c.halted f; cut = λ f. c.cut f; sized = λ f. c.sized f }) known j))
           (λ h e out up. uses_done before v s id h (live_of s id h e out) (out_spent r v more s h e out (elim up [ inl cut ↦ inl cut | inr said ↦ inr (ends (same ∙ said)) ]) holds known (half_counts before v s id h e j)) known j))
       | inr lacks ↦ subst (λ (a : Next). Of (Uses wide each_wide v) (after_next told a s id most)) (sym lacks) (subst (Of (Uses wide each_wide v)) (sym (next_lacking told s id most)) j)
     ]
@@ -298,7 +307,7 @@ module _ (wide each_wide : ℕ) where
         let s : StreamsState = after_read_begun e.streams rd.id rd.ordered in
         let j : Of (Uses wide each_wide (reading u first)) e.streams = grown (usage packets ts) (reading u first) begins_more e.streams i in
         let k : Of (Uses wide each_wide (reading u first)) s = begun_to (Of (Uses wide each_wide (reading u first))) e.streams rd.id rd.ordered j
-        (λ h there. (let c = half_counts before (reading u first) e.streams rd.id h there j in uses_with before (reading u first) e.streams rd.id h (begun h false) there (record { seen = c.seen; halted = λ f. c.halted f; cut = λ f. c.cut f; listed = λ f. c.listed f }) known j)) in
+        (λ h there. (let c = half_counts before (reading u first) e.streams rd.id h there j in uses_with before (reading u first) e.streams rd.id h (begun h false) there (record { seen = c.seen; halted = λ f. c.halted f; cut = λ f. c.cut f; sized = λ f. c.sized f }) known j)) in
         let all : Of (Uses wide each_wide (reading u last)) (after_nexts told_bytes s rd.id rd.nexts.items said) = all_nexts before u done taken rd.id told_bytes s first rd.nexts.items said said_ended is.1
         (begins done taken rd.id e.streams rd.ordered (read ts) is.0 holds keeps) ((known_calls before).begun e.streams rd.id rd.ordered known) k in
         grown (reading u last) u ends_more (after_nexts told_bytes s rd.id rd.nexts.items said) all
@@ -311,7 +320,7 @@ module _ (wide each_wide : ℕ) where
         said_ended e = ap tells_end (nexts_more rd.id ts t) ∙ tells_append (nexts rd.id ts) (nexts_by rd.id t.call t.answer) ∙ or_right (tells_end (nexts rd.id ts)) (tells_end (nexts_by rd.id t.call t.answer)) (ap (λ (b : Bool). tells_end (if b then said else [])) (eq-eqb rd.id rd.id refl) ∙ e)
 
         begins_more : UsesMore (usage packets ts) (reading (usage packets (ts ++ t ∷ [])) (begun_reads rd.ordered rd.id (read ts)))
-        begins_more = (let m = told_uses packets ts t in record { top = m.top; read = λ q. go rd.ordered q; halted = m.halted; cut = m.cut; ended = m.ended; listed = m.listed })
+        begins_more = (let m = told_uses packets ts t in record { top = m.top; read = λ q. go rd.ordered q; halted = m.halted; cut = m.cut; ended = m.ended; sized = m.sized })
           where
             go : (ordered : Bool) (q : ℕ) → length (bytes_of (reads q ts)) ≤ length (bytes_of (begun_reads ordered rd.id (read ts) q).chunks)
             go true q = omega arith
@@ -328,7 +337,7 @@ module _ (wide each_wide : ℕ) where
           halted = λ q is. is;
           cut = λ q is. is;
           ended = λ q is. is;
-          listed = λ q is. is;
+          sized = λ q is. is;
         }
 
     -- what a stop is answered, where nothing may be read or something may
@@ -356,7 +365,7 @@ module _ (wide each_wide : ℕ) where
           seen = c.seen;
           halted = λ f. stopped_last id ts (told_of (calls.Stop id code) (answers.Stop (Ok tt)) state) (eq-eqb id id refl);
           cut = λ f. c.cut f;
-          listed = λ f. c.listed f;
+          sized = λ f. c.sized f;
         })
 
         now : (h : RecvHalf) → receiving_half s id ≡ Some h → Then (Ok tt) (with_recv s id (stopped_now h))

@@ -57,7 +57,7 @@ use Rattle.quic_headline.proofs.Halves.Wrote.{reset_more}
 use Rattle.quic_headline.proofs.Channel.AllStreams.{ids}
 use Rattle.quic_headline.proofs.Unread.Walk.{Of}
 use Rattle.quic_headline.proofs.Unread.Newest.{NewestSaid, newest_group}
-use Rattle.quic_headline.proofs.Credit.Lists.{usage, told_uses, packet_uses, sum_listed, among_any, frames_more}
+use Rattle.quic_headline.proofs.Credit.Lists.{usage, told_uses, packet_uses, sum_listed, sized_among, frames_more}
 use Rattle.quic_headline.proofs.Credit.Counted.{IsCounted, IsSpent, IsAny, Uses, up_more}
 use Rattle.quic_headline.proofs.Credit.Drafts.{AreFine, poll_fine}
 use Rattle.quic_headline.proofs.Credit.Done.{IsLeft, RunsOneWay, mark, marked, CountsDone, done_kept}
@@ -177,7 +177,7 @@ module _ (wide each_wide : ℕ) (side : Side) (packets : List Packet) (ts : List
       none id out = go (same_dir (dir_of id) dir) (i.both id) refl
         where
           go : (a b : Bool) → i.both id ≡ b → mark (a && b) ≡ 0
-          go true true one = absurd (out (among_any id (streams_of packets) (spent id one).3))
+          go true true one = absurd (out (sized_among id packets (spent id one).3))
           go true false one = refl
           go false b one = refl
 

@@ -3,7 +3,7 @@
 use Rattle.std.proofs.Common.{◌≡◌, ℕ, ◌+◌, ◌≤◌, max, Bool, true, false, List, [], ◌∷◌, ◌++◌, length, Option, Some, None, refl, sym, ap, ◌∙◌, subst, arith, ◌⊎◌, inl, inr}
 use Rattle.std.specs.Prelude.{◌==◌, ◌||◌, if◌then◌else◌}
 use Rattle.std.specs.List.{list_any, sum_by}
-use Rattle.std.proofs.lemmas.Bool.{cases_eq, cases_lt, or_left, or_right, eqb-true, eq-eqb, ne_eqb, cond-true, cond-false}
+use Rattle.std.proofs.lemmas.Bool.{cases_eq, cases_lt, or_left, or_right, or_cases, and_parts, and_from, eqb-true, eq-eqb, ne_eqb, cond-true, cond-false}
 use Rattle.std.proofs.lemmas.List.{length-append}
 use Rattle.std.proofs.lemmas.List.Sums.{sum_by-cons, sum_by-le-sum_by}
 use Rattle.quic_wire.specs.Value.{FrameValue, StreamValue, ResetStreamValue, stream, reset_stream, max_data, max_stream_data, padding}
@@ -14,24 +14,25 @@ use Rattle.quic_headline.specs.Runs.{Told, Packet, In, nexts, reads, bytes_of, t
 use Rattle.quic_headline.specs.Amounts.{greatest_in, greatest}
 use Rattle.quic_headline.specs.Unread.{stopped_by, stopped}
 use Rattle.quic_headline.specs.Credit.{end_in, resets_stream, was_reset, stream_in, and_stream, streams_in, streams_of, consumed_on, all_consumed, StaysWithin}
+use Rattle.quic_headline.specs.Going.{brings_size, size_came}
 use Rattle.quic_headline.proofs.Places.Told.{nexts_append, reads_append, bytes_append, tells_append}
 use Rattle.quic_headline.proofs.Channel.Sums.{sum_none}
 
 -- ---- one stream
 
 -- of each stream: how far it came, how many bytes were read, whether it was stopped, whether its
--- reset came, whether its end was read, and whether it is among those of which something came
+-- reset came, whether its end was read, and whether its final size came
 pub record Usage : Type 0 where
   pub top : ℕ → ℕ
   pub read : ℕ → ℕ
   pub halted : ℕ → Bool
   pub cut : ℕ → Bool
   pub ended : ℕ → Bool
-  pub listed : ℕ → Bool
+  pub sized : ℕ → Bool
 
 -- what the lists say of it
 abbrev pub usage : List Packet → List Told → Usage
-usage packets told = record { top = λ id. greatest (end_in id) packets; read = λ id. length (bytes_of (reads id told)); halted = λ id. stopped id told; cut = λ id. was_reset id packets; ended = λ id. finished id told; listed = λ id. list_any (λ j. j == id) (streams_of packets) }
+usage packets told = record { top = λ id. greatest (end_in id) packets; read = λ id. length (bytes_of (reads id told)); halted = λ id. stopped id told; cut = λ id. was_reset id packets; ended = λ id. finished id told; sized = λ id. size_came id packets }
 
 -- what was consumed of a stream
 abbrev pub used_on : Usage → ℕ → ℕ
@@ -44,7 +45,7 @@ pub record UsesMore (u v : Usage) : Type 0 where
   pub halted : (id : ℕ) → u.halted id ≡ true → v.halted id ≡ true
   pub cut : (id : ℕ) → u.cut id ≡ true → v.cut id ≡ true
   pub ended : (id : ℕ) → u.ended id ≡ true → v.ended id ≡ true
-  pub listed : (id : ℕ) → u.listed id ≡ true → v.listed id ≡ true
+  pub sized : (id : ℕ) → u.sized id ≡ true → v.sized id ≡ true
 
 or_more : (a b c d : Bool) → (a ≡ true → c ≡ true) → (b ≡ true → d ≡ true) → (a || b) ≡ true → (c || d) ≡ true
 or_more true b c d f g e = or_left c d (f refl)
@@ -76,7 +77,7 @@ uses_then u v w m n = record {
   halted = λ id is. n.halted id (m.halted id is);
   cut = λ id is. n.cut id (m.cut id is);
   ended = λ id is. n.ended id (m.ended id is);
-  listed = λ id is. n.listed id (m.listed id is);
+  sized = λ id is. n.sized id (m.sized id is);
 }
 
 -- ---- more is told
@@ -100,12 +101,12 @@ told_uses packets ts t = record {
   halted = λ id is. stopped_front id ts (t ∷ []) is;
   cut = λ id is. is;
   ended = λ id is. ap tells_end (nexts_append id ts (t ∷ [])) ∙ tells_append (nexts id ts) (nexts id (t ∷ [])) ∙ or_left (finished id ts) (finished id (t ∷ [])) is;
-  listed = λ id is. is;
+  sized = λ id is. is;
 }
 
 -- ---- the streams of which something came
 
-pub among_any : (id : ℕ) (js : List ℕ) → list_any (λ (j : ℕ). j == id) js ≡ true → In id js
+among_any : (id : ℕ) (js : List ℕ) → list_any (λ (j : ℕ). j == id) js ≡ true → In id js
 among_any id [] is = cc
 among_any id (j ∷ js) is = go (j == id) refl is (λ e. among_any id js e)
   where
@@ -134,17 +135,26 @@ stay_among : (fs : List FrameValue) (js : List ℕ) (j : ℕ) → In j js → In
 stay_among [] js j i = i
 stay_among (f ∷ fs) js j i = stays_among (stream_in f) (streams_in fs js) j (stay_among fs js j i)
 
--- one that is among them is found there
-any_listed : (id : ℕ) (js : List ℕ) → In id js → list_any (λ (j : ℕ). j == id) js ≡ true
-any_listed id [] i = absurd i
-any_listed id (j ∷ js) (inl is) = or_left (j == id) (list_any (λ (k : ℕ). k == id) js) (eq-eqb j id (sym is))
-any_listed id (j ∷ js) (inr i) = or_right (j == id) (list_any (λ (k : ℕ). k == id) js) (any_listed id js i)
+-- the stream whose final size a frame brings is that of the frame
+frame_sized : (id : ℕ) (f : FrameValue) → brings_size id f ≡ true → stream_in f ≡ Some id
+frame_sized id (stream f) is = ap Some (eqb-true f.id id (and_parts (f.id == id) f.fin is).0)
+frame_sized id (reset_stream f) is = ap Some (eqb-true f.id id is)
+frame_sized id f is = cc
 
--- the stream of a frame is among those of the frames
-frame_among : (fs : List FrameValue) (js : List ℕ) (f : FrameValue) (id : ℕ) → stream_in f ≡ Some id → In f fs → In id (streams_in fs js)
-frame_among [] js f id of_it i = absurd i
-frame_among (g ∷ fs) js f id of_it (inl same) = subst (λ (o : Option ℕ). In id (and_stream o (streams_in fs js))) (sym (ap stream_in (sym same) ∙ of_it)) (added id (streams_in fs js))
-frame_among (g ∷ fs) js f id of_it (inr i) = stays_among (stream_in g) (streams_in fs js) id (frame_among fs js f id of_it i)
+frames_sized : (id : ℕ) (fs : List FrameValue) (js : List ℕ) → list_any (brings_size id) fs ≡ true → In id (streams_in fs js)
+frames_sized id [] js is = cc
+frames_sized id (f ∷ fs) js is = elim (or_cases (brings_size id f) (list_any (brings_size id) fs) is) [
+  | inl here ↦ subst (λ (o : Option ℕ). In id (and_stream o (streams_in fs js))) (sym (frame_sized id f here)) (added id (streams_in fs js))
+  | inr more ↦ stays_among (stream_in f) (streams_in fs js) id (frames_sized id fs js more)
+]
+
+-- a stream whose final size came is among those of which something came
+pub sized_among : (id : ℕ) (ps : List Packet) → size_came id ps ≡ true → In id (streams_of ps)
+sized_among id [] is = cc
+sized_among id (p ∷ ps) is = elim (or_cases (list_any (brings_size id) p.frames) (size_came id ps) is) [
+  | inl here ↦ frames_sized id p.frames (streams_of ps) here
+  | inr more ↦ stay_among p.frames (streams_of ps) id (sized_among id ps more)
+]
 
 -- ---- more comes
 
@@ -155,7 +165,7 @@ packet_uses p packets ts = record {
   halted = λ id is. is;
   cut = λ id is. or_right (list_any (resets_stream id) p.frames) (was_reset id packets) is;
   ended = λ id is. is;
-  listed = λ id is. any_listed id (streams_of (p ∷ packets)) (stay_among p.frames (streams_of packets) id (among_any id (streams_of packets) is));
+  sized = λ id is. or_right (list_any (brings_size id) p.frames) (size_came id packets) is;
 }
 
 -- what a frame says is among what frames say
@@ -171,8 +181,8 @@ any_among test (g ∷ fs) f (inr i) is = or_right (test g) (list_any test fs) (a
 
 -- what a frame brings of its stream, and that it resets it, the lists say once it came
 pub record SaysFrame (u : Usage) (f : FrameValue) : Type 0 where
-  pub brings : (g : StreamValue) → f ≡ stream g → (end_of g ≤ u.top g.id) × (u.listed g.id ≡ true)
-  pub resets : (g : ResetStreamValue) → f ≡ reset_stream g → (g.final_size ≤ u.top g.id) × (u.cut g.id ≡ true) × (u.listed g.id ≡ true)
+  pub brings : (g : StreamValue) → f ≡ stream g → (end_of g ≤ u.top g.id) × (g.fin ≡ true → u.sized g.id ≡ true)
+  pub resets : (g : ResetStreamValue) → f ≡ reset_stream g → (g.final_size ≤ u.top g.id) × (u.cut g.id ≡ true) × (u.sized g.id ≡ true)
 
 -- PADDING says nothing
 pub padding_said : (u : Usage) → SaysFrame u padding
@@ -183,12 +193,12 @@ frame_said p packets ts f i = record {
   brings = λ g is. (
       let most : end_in g.id (stream g) ≤ greatest_in (end_in g.id) p.frames = tells_among (end_in g.id) p.frames (stream g) (subst (λ (x : FrameValue). In x p.frames) is i) in
       let value : end_in g.id (stream g) ≡ end_of g = cond-true (g.id == g.id) (end_of g) 0 (eq-eqb g.id g.id refl) in
-      (omega (arith, most, value), any_listed g.id (streams_of (p ∷ packets)) (frame_among p.frames (streams_of packets) (stream g) g.id refl (subst (λ (x : FrameValue). In x p.frames) is i))));
+      (omega (arith, most, value), λ last. or_left (list_any (brings_size g.id) p.frames) (size_came g.id packets) (any_among (brings_size g.id) p.frames (stream g) (subst (λ (x : FrameValue). In x p.frames) is i) (and_from (g.id == g.id) g.fin (eq-eqb g.id g.id refl) last))));
   resets = λ g is. (
       let there : In (reset_stream g) p.frames = subst (λ (x : FrameValue). In x p.frames) is i in
       let most : end_in g.id (reset_stream g) ≤ greatest_in (end_in g.id) p.frames = tells_among (end_in g.id) p.frames (reset_stream g) there in
       let value : end_in g.id (reset_stream g) ≡ g.final_size = cond-true (g.id == g.id) g.final_size 0 (eq-eqb g.id g.id refl) in
-      (omega (arith, most, value), or_left (list_any (resets_stream g.id) p.frames) (was_reset g.id packets) (any_among (resets_stream g.id) p.frames (reset_stream g) there (eq-eqb g.id g.id refl)), any_listed g.id (streams_of (p ∷ packets)) (frame_among p.frames (streams_of packets) (reset_stream g) g.id refl there)));
+      (omega (arith, most, value), or_left (list_any (resets_stream g.id) p.frames) (was_reset g.id packets) (any_among (resets_stream g.id) p.frames (reset_stream g) there (eq-eqb g.id g.id refl)), or_left (list_any (brings_size g.id) p.frames) (size_came g.id packets) (any_among (brings_size g.id) p.frames (reset_stream g) there (eq-eqb g.id g.id refl))));
 }
 
 -- ---- of which nothing came

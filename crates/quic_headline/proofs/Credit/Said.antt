@@ -74,7 +74,7 @@ module _ (wide each_wide : ℕ) (packets : List Packet) (ts : List Told) (before
         omega (arith, within, seen),
       )
 
-  consumed_within : (s : StreamsState) → IsKnown s → consumed s.receiving ≤ all_consumed packets ts
+  pub consumed_within : (s : StreamsState) → IsKnown s → consumed s.receiving ≤ all_consumed packets ts
   consumed_within s k =
       let sum : consumed s.receiving ≡ sum_below ids c = k.uses.sums.sum in
       let most : sum_below ids c ≤ all_consumed packets ts = sum_listed ids c (λ id. consumed_on id packets ts) (streams_of packets) (λ j. (each j).0)
@@ -119,7 +119,7 @@ module _ (wide each_wide : ℕ) (packets : List Packet) (ts : List Told) (before
         (λ id. (let i = k.uses in record {
           window = i.window;
           stream_window = i.stream_window;
-          sums = sums_told IsAny (IsCounted u) (IsSpent u) before (λ j h n c. record { seen = c.seen; halted = λ is. c.halted is; cut = λ is. c.cut is; listed = λ is. c.listed is }) s id k.stays i.sums;
+          sums = sums_told IsAny (IsCounted u) (IsSpent u) before (λ j h n c. record { seen = c.seen; halted = λ is. c.halted is; cut = λ is. c.cut is; sized = λ is. c.sized is }) s id k.stays i.sums;
         }))
         (λ dir. (let i = k.uses in record { window = i.window; stream_window = i.stream_window; sums = record { final = i.sums.final; sum = i.sums.sum; each = i.sums.each } }))
         (λ limit. k.uses)

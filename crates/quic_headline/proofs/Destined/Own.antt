@@ -169,21 +169,23 @@ pub record SameOwn (ids others : Ids) : Type 0 where
   pub living : others.living ≡ ids.living
   pub issued : others.own.issued ≡ ids.own.issued
   pub undrawn : others.undrawn ≡ ids.undrawn
+  pub own : others.own ≡ ids.own
+  pub limit : others.limit ≡ ids.limit
 
 same_ids : (ids others : Ids) → others ≡ ids → SameOwn ids others
-same_ids ids others same = subst (λ (them : Ids). SameOwn ids them) (sym same) (record { living = refl; issued = refl; undrawn = refl })
+same_ids ids others same = subst (λ (them : Ids). SameOwn ids them) (sym same) (record { living = refl; issued = refl; undrawn = refl; own = refl; limit = refl })
 
 own_settles : (ids : Ids) → Settling (λ (x : End). SameOwn ids x.ids)
 own_settles ids (steps.known n) e k = k
 own_settles ids s e k = k
 
 -- where the next id of the peer is used, or isn't
-next_own : (e : End) (a : Answer) → SameOwn e.ids (end_on_next_id e a).ids
+pub next_own : (e : End) (a : Answer) → SameOwn e.ids (end_on_next_id e a).ids
 next_own e (answers.UseNextId (Ok done)) = taken_next (retires_for_next e.ids)
   where
     taken_next : (o : Option (Range ℕ)) → SameOwn e.ids (next_id_taken o e).ids
     taken_next None = same_ids e.ids e.ids refl
-    taken_next (Some r) = subst (λ (ids : Ids). SameOwn e.ids ids) (sym (shortened_ids _ (retiring r (with_ids e (next_used e.ids))))) (record { living = refl; issued = refl; undrawn = refl })
+    taken_next (Some r) = subst (λ (ids : Ids). SameOwn e.ids ids) (sym (shortened_ids _ (retiring r (with_ids e (next_used e.ids))))) (record { living = refl; issued = refl; undrawn = refl; own = refl; limit = refl })
 next_own e a = same_ids e.ids e.ids refl
 
 -- any call that is no delivery

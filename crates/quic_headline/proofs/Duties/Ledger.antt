@@ -99,11 +99,14 @@ not_empty (RetireOf number) p s is = ap not (fills RetireConnectionId p s (any_l
 not_empty (NewIdOf number) p s is = ap not (fills NewConnectionId p s (any_listed (λ (cid : IssuedCid). cid.sequence == number) p.new_cids is))
 not_empty DoneOf p s is = ap not (fills HandshakeDone p s is)
 
+-- so something asks to go
+pub listed_asks : (e : End) (what : Listed) → listed_in what e.waiting.frames ≡ true → asks_to_go e ≡ true
+listed_asks e what is =
+    or_right (signals_wait e.waiting.signals) (not (is_empty e.waiting.frames e.streams) || (message_waits e || can_send_stream_data e.streams))
+    (or_left (not (is_empty e.waiting.frames e.streams)) (message_waits e || can_send_stream_data e.streams) (not_empty what e.waiting.frames e.streams is))
+
 pub listed_queued : (e : End) (what : Listed) → listed_in what e.waiting.frames ≡ true → waits e ≡ true
-listed_queued e what is =
-    or_right (can_send e.acknowledging) (asks_to_go e)
-    (or_right (signals_wait e.waiting.signals) (not (is_empty e.waiting.frames e.streams) || (message_waits e || can_send_stream_data e.streams))
-    (or_left (not (is_empty e.waiting.frames e.streams)) (message_waits e || can_send_stream_data e.streams) (not_empty what e.waiting.frames e.streams is)))
+listed_queued e what is = or_right (can_send e.acknowledging) (asks_to_go e) (listed_asks e what is)
 
 -- a limit that matters, and waits, is something that waits
 limit_any : (what : Limited) (e : End) → Matters e what → limit_waits e.waiting.frames what ≡ true → not (is_empty e.waiting.frames e.streams) ≡ true
@@ -118,11 +121,13 @@ limit_any (StreamData id) e matters waits = ap not (fills MaxStreamData e.waitin
     ]
 limit_any (StreamCount dir) e matters waits = ap not (fills (MaxStreams dir) e.waiting.frames e.streams waits)
 
+pub limit_asks : (e : End) (what : Limited) → Matters e what → limit_waits e.waiting.frames what ≡ true → asks_to_go e ≡ true
+limit_asks e what matters waits =
+    or_right (signals_wait e.waiting.signals) (not (is_empty e.waiting.frames e.streams) || (message_waits e || can_send_stream_data e.streams))
+    (or_left (not (is_empty e.waiting.frames e.streams)) (message_waits e || can_send_stream_data e.streams) (limit_any what e matters waits))
+
 pub limit_queued : (e : End) (what : Limited) → Matters e what → limit_waits e.waiting.frames what ≡ true → waits e ≡ true
-limit_queued e what matters waits =
-    or_right (can_send e.acknowledging) (asks_to_go e)
-    (or_right (signals_wait e.waiting.signals) (not (is_empty e.waiting.frames e.streams) || (message_waits e || can_send_stream_data e.streams))
-    (or_left (not (is_empty e.waiting.frames e.streams)) (message_waits e || can_send_stream_data e.streams) (limit_any what e matters waits)))
+limit_queued e what matters waits = or_right (can_send e.acknowledging) (asks_to_go e) (limit_asks e what matters waits)
 
 -- ACK_FREQUENCY that waits does too
 pub request_queued : (e : End) → e.waiting.frames.ack_frequency ≡ true → waits e ≡ true
@@ -135,7 +140,7 @@ request_queued e is =
     any_goes_too b = ap (λ (d : Bool). not (not d)) (or_right b e.waiting.frames.ack_frequency is)
 
 -- a limit that matters isn't one that matters no more
-matters_still : (what : Limited) (e : End) → Matters e what → AllReceiving (Ends what) e.streams → ⊥
+pub matters_still : (what : Limited) (e : End) → Matters e what → AllReceiving (Ends what) e.streams → ⊥
 matters_still AllData e matters ends = ends.each 0
 matters_still (StreamCount dir) e matters ends = ends.each 0
 matters_still (StreamData id) e matters ends = go (at e.streams.receiving.halves.live id) (receives_on e.streams.side id && is_opened e.streams id) (has_place e.streams.side e.streams.receiving.halves.places id) matters (ends.each id refl)

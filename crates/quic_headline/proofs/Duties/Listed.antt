@@ -1,6 +1,6 @@
 -- What waits in a list and goes as a frame of its own, RESET_STREAM, STOP_SENDING,
--- RETIRE_CONNECTION_ID and NEW_CONNECTION_ID, and HANDSHAKE_DONE, which goes so too, waits, stands in
--- a packet that is tracked, or has come: each call keeps that.
+-- RETIRE_CONNECTION_ID and NEW_CONNECTION_ID, and HANDSHAKE_DONE, which goes so too, waits, stands
+-- in a packet that is tracked, or has come: each call keeps that.
 use Rattle.std.proofs.Common.{◌≡◌, ℕ, zero, suc, Bool, true, false, ◌||◌, ◌==◌, List, [], ◌∷◌, ◌-◌, ◌++◌, length, map, Option, Some, None, Result, Ok, Err, refl, sym, ap, ◌∙◌, subst, ◌⊎◌, inl, inr}
 use Rattle.std.specs.Prelude.{if◌then◌else◌, map, nat_le, set, slice_get}
 use Rattle.std.specs.declared.ops.Range.{Range}
@@ -67,6 +67,8 @@ use Rattle.quic_machine.specs.Machine.{after_call}
 use Rattle.quic_headline.specs.Runs.{Packet, Intake, In, reset_by, says_done, ResetHasArrived, DoneHasArrived}
 use Rattle.quic_headline.specs.Observer.{Sent}
 use Rattle.quic_headline.specs.Amounts.{stops_stream, was_stopped}
+use Rattle.quic_headline.specs.Credit.{resets_stream}
+use Rattle.quic_headline.specs.Going.{retires_number}
 use Rattle.quic_headline.specs.InFlight.{is_handshake_done, again_in}
 use Rattle.quic_headline.specs.Duties.{AnyIn, has_reset, has_stop, has_retirement, has_new_id, WasRetired, WasToldId}
 use Rattle.quic_headline.proofs.Packets.Searches.{by_losses}
@@ -92,24 +94,14 @@ use Rattle.quic_headline.proofs.Packets.Moving.{moving_keeps}
 
 -- ---- what waits in a list
 
--- RESET_STREAM of a stream, or STOP_SENDING of one; the retirement of a number, or the id of one; or
--- HANDSHAKE_DONE
+-- RESET_STREAM of a stream, or STOP_SENDING of one; the retirement of a number, or the id of one;
+-- or HANDSHAKE_DONE
 pub data Listed : Type 0 where
   ResetOf : (id : ℕ) → Listed
   StopOf : (id : ℕ) → Listed
   RetireOf : (number : ℕ) → Listed
   NewIdOf : (number : ℕ) → Listed
   DoneOf : Listed
-
--- whether a frame resets a stream
-abbrev pub resets_stream : ℕ → FrameValue → Bool
-resets_stream id (reset_stream f) = f.id == id
-resets_stream id f = false
-
--- whether a frame retires a number
-abbrev pub retires_number : ℕ → FrameValue → Bool
-retires_number number (retire_connection_id n) = n == number
-retires_number number f = false
 
 -- whether a frame tells of the id of a number
 abbrev pub tells_number : ℕ → FrameValue → Bool

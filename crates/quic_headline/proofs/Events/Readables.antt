@@ -361,13 +361,13 @@ reset_tells side wide each_wide before u g e none i uses unread =
 
 -- what these lists say, where this stream was reset only as is said here
 abbrev but_reset : ℕ → Bool → Usage → Usage
-but_reset id was u = record { top = u.top; read = u.read; halted = u.halted; cut = λ j. if j == id then was else u.cut j; ended = u.ended; listed = u.listed }
+but_reset id was u = record { top = u.top; read = u.read; halted = u.halted; cut = λ j. if j == id then was else u.cut j; ended = u.ended; sized = u.sized }
 
 -- where it is as it was before a packet, no less was used
 but_more : (id : ℕ) (p : Packet) (packets : List Packet) (ts : List Told) → UsesMore (usage packets ts) (but_reset id (was_reset id packets) (usage (p ∷ packets) ts))
 but_more id p packets ts =
     let m : UsesMore (usage packets ts) (usage (p ∷ packets) ts) = packet_uses p packets ts in
-    record { top = λ j. m.top j; read = λ j. m.read j; halted = λ j is. m.halted j is; cut = λ j is. go j (j == id) refl is (m.cut j is); ended = λ j is. m.ended j is; listed = λ j is. m.listed j is }
+    record { top = λ j. m.top j; read = λ j. m.read j; halted = λ j is. m.halted j is; cut = λ j is. go j (j == id) refl is (m.cut j is); ended = λ j is. m.ended j is; sized = λ j is. m.sized j is }
   where
     go : (j : ℕ) (b : Bool) → (j == id) ≡ b → was_reset j packets ≡ true → was_reset j (p ∷ packets) ≡ true → (if b then was_reset id packets else was_reset j (p ∷ packets)) ≡ true
     go j true same was now = subst (λ (q : ℕ). was_reset q packets ≡ true) (eqb-true j id same) was

@@ -1,6 +1,6 @@
 -- What was done on the streams of an end, and read of them, by what was told at it; and that what
 -- it sent says so.
-use Rattle.std.specs.Prelude.{ℕ, not, List}
+use Rattle.std.specs.Prelude.{◌≡◌, ℕ, not, List, None}
 use Rattle.quic_wire.specs.Value.{FrameValue, stream, reset_stream}
 use Rattle.quic_machine.specs.declared.run.Call.{Call}
 use Rattle.quic_machine.specs.declared.run.Answer.{Answer}
@@ -26,6 +26,17 @@ abbrev pub SaysOf : (ℕ → Wrote) → FrameValue → Type 0
 SaysOf done (stream f) = IsStreamOf (done f.id) f
 SaysOf done (reset_stream f) = IsResetOf (done f.id) f
 SaysOf done f = Unit {0}
+
+-- as it goes, a STREAM frame also is of a stream that wasn't reset
+abbrev pub GoesOf : (ℕ → Wrote) → FrameValue → Type 0
+GoesOf done (stream f) = IsStreamOf (done f.id) f × ((done f.id).reset ≡ None)
+GoesOf done (reset_stream f) = IsResetOf (done f.id) f
+GoesOf done f = Unit {0}
+
+pub goes_says : (done : ℕ → Wrote) (f : FrameValue) → GoesOf done f → SaysOf done f
+goes_says done (stream f) goes = goes.0
+goes_says done (reset_stream f) goes = goes
+goes_says done f goes = tt
 
 -- each frame that an end sent says what was done at it
 abbrev pub Saying : Way

@@ -116,7 +116,7 @@ module _ (P : StreamsState → Type 0) (q : IsQuiet P) where
 
   -- ---- packets that are acknowledged or lost
 
-  settles : Settling (λ (e : End). P e.streams)
+  pub settles : Settling (λ (e : End). P e.streams)
   settles (steps.reset id) e i = q.reset_acked e.streams e.waiting.frames id i
   settles (steps.acked m) e i = q.acked e.streams e.waiting.frames m i
   settles (steps.lost m) e i = q.lost e.streams m i

@@ -1,4 +1,5 @@
--- What an end composes says what was written on its streams, and leaves them holding it.
+-- What an end composes says what was written on its streams, of which none that has bytes in it was
+-- reset, and leaves them holding it.
 use Rattle.std.proofs.Common.{ℕ, zero, suc, Bool, true, false, List, [], ◌∷◌, length, replicate, map, sym, subst, inl, inr, arith}
 use Rattle.std.specs.List.{AllByRecursion}
 use Rattle.quic_wire.specs.Value.{FrameValue, StreamValue, ping, immediate_ack, padding, stream, datagram, reset_stream, connection_close, application_close, path_challenge, path_response, ack_frequency}
@@ -20,10 +21,9 @@ use Rattle.quic_machine.specs.PollCases.{frames_padded}
 use Rattle.quic_headline.specs.Runs.{In}
 use Rattle.quic_headline.proofs.Packets.Entries.{IsControl, control_of, by_request}
 use Rattle.quic_headline.proofs.Packets.Kinds.{by_kinds}
-use Rattle.quic_headline.proofs.Halves.Ghosts.{SaysOf}
+use Rattle.quic_headline.proofs.Halves.Ghosts.{GoesOf}
 use Rattle.quic_headline.proofs.Halves.Kept.{Keeping, keeping_kept}
 use Rattle.quic_headline.proofs.Halves.Writes.{Writes, asked_writes}
-use Rattle.quic_headline.proofs.Halves.Says.{AllSay}
 
 -- ---- frames that go
 
@@ -34,22 +34,22 @@ all_in P (g ∷ fs) all f (inl is) = subst P (sym is) all.0
 all_in P (g ∷ fs) all f (inr i) = all_in P fs all.1 f i
 
 -- a frame of control says what RESET_STREAM does
-control_says : (done : ℕ → Wrote) (f : FrameValue) → IsControl f → ResetSays done f → SaysOf done f
+control_says : (done : ℕ → Wrote) (f : FrameValue) → IsControl f → ResetSays done f → GoesOf done f
 control_says done (stream f) is says = absurd is
 control_says done (reset_stream f) is says = says
 control_says done f is says = tt
 
-controls_say : (done : ℕ → Wrote) (fs : List FrameValue) → AllByRecursion IsControl fs → AllByRecursion (ResetSays done) fs → AllByRecursion (SaysOf done) fs
+controls_say : (done : ℕ → Wrote) (fs : List FrameValue) → AllByRecursion IsControl fs → AllByRecursion (ResetSays done) fs → AllByRecursion (GoesOf done) fs
 controls_say done [] are say = tt
 controls_say done (f ∷ fs) are say = (control_says done f are.0 say.0, controls_say done fs are.1 say.1)
 
--- a STREAM frame says what was written
-streams_say : (done : ℕ → Wrote) (fs : List StreamValue) → AllByRecursion (SaysSo done) fs → AllByRecursion (SaysOf done) (map stream fs)
+-- a STREAM frame says what was written, and its stream wasn't reset
+streams_say : (done : ℕ → Wrote) (fs : List StreamValue) → AllByRecursion (SaysSo done) fs → AllByRecursion (GoesOf done) (map stream fs)
 streams_say done [] say = tt
-streams_say done (f ∷ fs) say = (let s = say.0 in let written = s.says in written.says, streams_say done fs say.1)
+streams_say done (f ∷ fs) say = (let s = say.0 in let written = s.says in (written.says, written.kept), streams_say done fs say.1)
 
 -- PADDING says nothing
-padding_says : (done : ℕ → Wrote) (count : ℕ) → AllByRecursion (SaysOf done) (replicate count padding)
+padding_says : (done : ℕ → Wrote) (count : ℕ) → AllByRecursion (GoesOf done) (replicate count padding)
 padding_says done zero = tt
 padding_says done (suc count) = (tt, padding_says done count)
 
@@ -65,10 +65,10 @@ controls_go most d are = by_control most (λ (c : control.Draft). AllByRecursion
 -- the streams of a draft hold what was written, and its frames say so
 pub record Draws (done : ℕ → Wrote) (d : Draft) : Type 0 where
   pub writes : Writes done (streams_at d.end)
-  pub says : AllByRecursion (SaysOf done) d.frames
+  pub says : AllByRecursion (GoesOf done) d.frames
 
 module _ (done : ℕ → Wrote) where
-  signal_says : (f : FrameValue) → IsSignal f → SaysOf done f
+  signal_says : (f : FrameValue) → IsSignal f → GoesOf done f
   signal_says ping is = tt
   signal_says immediate_ack is = tt
   signal_says (path_challenge token) is = tt
@@ -76,10 +76,10 @@ module _ (done : ℕ → Wrote) where
   signal_says f is = absurd is
 
   signal_draws : (d : Draft) → Draws done d → Draws done (with_signal_frames d)
-  signal_draws = by_signals (Draws done) (λ d f left is w. record { writes = w.writes; says = all_append (SaysOf done) d.frames (f ∷ []) w.says (signal_says f is, tt) })
+  signal_draws = by_signals (Draws done) (λ d f left is w. record { writes = w.writes; says = all_append (GoesOf done) d.frames (f ∷ []) w.says (signal_says f is, tt) })
 
   ack_draws : (d : Draft) → Draws done d → Draws done (with_ack d)
-  ack_draws d w = record { writes = w.writes; says = all_append (SaysOf done) d.frames (_ ∷ []) w.says (tt, tt) }
+  ack_draws d w = record { writes = w.writes; says = all_append (GoesOf done) d.frames (_ ∷ []) w.says (tt, tt) }
 
   control_draws : (d : Draft) → Draws done d → Draws done (with_control_frames d)
   control_draws d w =
@@ -89,7 +89,7 @@ module _ (done : ℕ → Wrote) where
       let tells : TellsResets done c = control_frames_say done (frame_room d.end) first (record { holds = keeps.holds; waits = w.writes.waits; carries = tt; says = tt }) in
       record {
         writes = record { keeps = by_control_frames (Keeping done) (keeping_kept done) (frame_room d.end) first keeps; waits = tells.waits };
-        says = all_append (SaysOf done) d.frames c.frames w.says (controls_say done c.frames (controls_go (frame_room d.end) first tt) tells.says);
+        says = all_append (GoesOf done) d.frames c.frames w.says (controls_say done c.frames (controls_go (frame_room d.end) first tt) tells.says);
       }
 
   stream_draws : (d : Draft) → Draws done d → Draws done (with_stream_frames d)
@@ -102,15 +102,15 @@ module _ (done : ℕ → Wrote) where
           keeps = by_stream_frames (Keeping done) (keeping_kept done) d.end.transport.send_fairness (left d) (no_stream_frames d) (λ s id room h is q. (polled_on h room, λ x. polled_holds (done id) h x room)) keeps;
           waits = w.writes.waits;
         };
-        says = all_append (SaysOf done) d.frames (map stream t.frames) w.says (streams_say done t.frames say.0);
+        says = all_append (GoesOf done) d.frames (map stream t.frames) w.says (streams_say done t.frames say.0);
       }
 
   message_draws : (d : Draft) → Draws done d → Draws done (with_message_frames d)
-  message_draws = by_messages (Draws done) (λ d m ms is fit w. record { writes = w.writes; says = all_append (SaysOf done) d.frames (datagram m ∷ []) w.says (tt, tt) })
+  message_draws = by_messages (Draws done) (λ d m ms is fit w. record { writes = w.writes; says = all_append (GoesOf done) d.frames (datagram m ∷ []) w.says (tt, tt) })
 
   kind_draws : (d : Draft) (kind : Kind) → Draws done d → Draws done (put d kind)
   kind_draws d signals w = signal_draws d w
-  kind_draws d frequency w = by_request (Draws done) d (λ waits w. record { writes = asked_writes done false (streams_at d.end) w.writes; says = all_append (SaysOf done) d.frames (ack_frequency (request_of d.end) ∷ []) w.says (tt, tt) }) w
+  kind_draws d frequency w = by_request (Draws done) d (λ waits w. record { writes = asked_writes done false (streams_at d.end) w.writes; says = all_append (GoesOf done) d.frames (ack_frequency (request_of d.end) ∷ []) w.says (tt, tt) }) w
   kind_draws d controls w = control_draws d w
   kind_draws d messages w = message_draws d w
   kind_draws d streams w = stream_draws d w
@@ -140,14 +140,14 @@ module _ (done : ℕ → Wrote) where
   draft_draws (probe size) e may w = record { writes = w; says = (tt, tt) }
   draft_draws (closing f) e may w = record { writes = w; says = (close_says f may.0, tt) }
     where
-      close_says : (g : FrameValue) → IsClose g → SaysOf done g
+      close_says : (g : FrameValue) → IsClose g → GoesOf done g
       close_says (connection_close c) is = tt
       close_says (application_close c) is = tt
       close_says g is = absurd is
   draft_draws (nothing held) e may w = record { writes = w; says = tt }
 
   -- its frames say what was written, those of PADDING too
-  pub padded_say : (d : Draft) → Draws done d → AllSay done (frames_padded d)
-  padded_say d w =
+  pub padded_go : (d : Draft) → Draws done d → (f : FrameValue) → In f (frames_padded d) → GoesOf done f
+  padded_go d w =
       let count : ℕ = zeros_behind d in
-      all_in (SaysOf done) (frames_padded d) (all_append (SaysOf done) d.frames (replicate count padding) w.says (padding_says done count))
+      all_in (GoesOf done) (frames_padded d) (all_append (GoesOf done) d.frames (replicate count padding) w.says (padding_says done count))

@@ -43,14 +43,14 @@ use Rattle.quic_headline.proofs.Packets.Group.{PacketsHold, meets}
 use Rattle.quic_headline.proofs.Places.Coming.{by_coming}
 use Rattle.quic_headline.proofs.Places.Groups.{Way, Calls, Group}
 use Rattle.quic_headline.proofs.Places.Parties.{sent_by, sent_if, sents_by, told_of, Party, called, came_to, Beginning, begun_as, AreMade}
-use Rattle.quic_headline.proofs.Halves.Ghosts.{SaysOf, Saying}
+use Rattle.quic_headline.proofs.Halves.Ghosts.{SaysOf, GoesOf, goes_says, Saying}
 use Rattle.quic_headline.proofs.Halves.Kept.{Keeping, keeping_kept}
 use Rattle.quic_headline.proofs.Halves.Wrote.{wrote, done_by, ResetsFirst, wrote_more}
 use Rattle.quic_headline.proofs.Halves.Writes.{Writes, calls_leave, calls_grow, resets_first, asked_writes}
 use Rattle.quic_headline.proofs.Halves.Says.{AllSay, SentSay, says_grow, CarriedSays, sent_says, taken_says, tracked_says}
 use Rattle.quic_headline.proofs.Halves.Counts.{counts_in_range}
 use Rattle.quic_headline.proofs.Halves.Small.{IsSmallLimit, payload_small}
-use Rattle.quic_headline.proofs.Halves.Sends.{composed_draws, padded_say, draft_draws}
+use Rattle.quic_headline.proofs.Halves.Sends.{composed_draws, padded_go, draft_draws}
 use Rattle.quic_headline.proofs.Halves.Arrives.{frame_leaves, lost_leaves, again_leaves, settles_leave}
 use Rattle.quic_machine.specs.Tracking.{TrackedPacket}
 use Rattle.quic_machine.specs.Closing.{ticked}
@@ -120,9 +120,12 @@ module _ (p : Policy) (e : End) (theirs : List (List ℕ)) (done : ℕ → Wrote
   ready_writes : Says → (now : ℕ) → Writes done (streams_at (ready_at e now).end)
   ready_writes says now = ready_stays (Writes done) e now (losing says) w (asked_writes done)
 
-  -- what it gives says what was written
+  -- what it gives says what was written, and is of no stream that was reset
+  pub poll_goes : Says → (now : ℕ) (f : FrameValue) → In f (frames_at e now) → GoesOf done f
+  poll_goes says now = padded_go done (draft_at e now) (draft_draws done (ready_at e now).leaving (ready_at e now).end (may_leave_at e now) (ready_writes says now))
+
   pub poll_says : Says → (now : ℕ) → AllSay done (frames_at e now)
-  poll_says says now = padded_say done (draft_at e now) (draft_draws done (ready_at e now).leaving (ready_at e now).end (may_leave_at e now) (ready_writes says now))
+  poll_says says now f among = goes_says done f (poll_goes says now f among)
 
   poll_writes : Says → (now : ℕ) → Writes done (streams_at (polled p e now).end)
   poll_writes says now = poll_streams (Writes done) p e now (λ x v. (composed_draws done x v).writes) w (ready_writes says now)

@@ -26,7 +26,7 @@ use Rattle.quic_headline.proofs.Tellings.Losses.{waited_last}
 -- ---- counts
 
 -- one test of two numbers is the other, turned round
-le_turned : (m n : ℕ) → nat_le m n ≡ not (nat_lt n m)
+pub le_turned : (m n : ℕ) → nat_le m n ≡ not (nat_lt n m)
 le_turned m n = elim (cases_lt n m) [
   | inl less ↦ lt-leb m n less ∙ sym (ap not (lt-ltb n m less))
   | inr more ↦ le-leb m n more ∙ sym (ap not (le-ltb n m more))

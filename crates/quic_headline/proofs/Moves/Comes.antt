@@ -43,7 +43,7 @@ module _ (remote : ℕ) (mark : Option EcnCodepoint) (e : End) (now n : ℕ) (fr
   behind_frames words = drawn words (after_taken n (asks_in (map Ok frames)) urges mark (arrived e now n those).end)
 
   -- it has the same path
-  taken_stays : (words : ℕ → ℕ) → (behind_frames words).path.generation ≡ e.path.generation
+  pub taken_stays : (words : ℕ → ℕ) → (behind_frames words).path.generation ≡ e.path.generation
   taken_stays words = by_taken (λ (y : End). y.path.generation ≡ e.path.generation) n (asks_in (map Ok frames)) urges mark (arrived e now n those).end
       (λ idle alive. frames_keep (λ (y : End). y.path.generation ≡ e.path.generation) (λ f y j. frame_stays f y ∙ j) those (begun e now n) refl)
 

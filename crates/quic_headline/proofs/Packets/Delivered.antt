@@ -135,8 +135,8 @@ frames_of_oks (f ∷ fs) = ap (λ (xs : List FrameValue). f ∷ xs) (frames_of_o
 pub frames_of_payload : (fs : List FrameValue) (payload : List ℕ) → Payload fs payload → frames_of (items payload) ≡ fs
 frames_of_payload fs payload spells = ap frames_of (payload_items fs payload spells) ∙ frames_of_oks fs
 
--- the frames of a packet that are taken, where it came from where its taker takes its peer to be, or
--- came from elsewhere: of path validation none then, but PADDING in their place
+-- the frames of a packet that are taken, where it came from where its taker takes its peer to be,
+-- or came from elsewhere: of path validation none then, but PADDING in their place
 abbrev pub frames_at : Bool → List FrameValue → List FrameValue
 frames_at true fs = fs
 frames_at false fs = map as_elsewhere fs
@@ -191,8 +191,8 @@ with_taken i n frames = record i { opened = n ∷ i.opened; took = record { numb
 abbrev pub with_refused : Intake → ℕ → List FrameValue → Intake
 with_refused i n frames = record i { opened = n ∷ i.opened; part = Some (record { number = n; frames = frames }) }
 
--- the cases of such a delivery of which these frames are taken, with what is known in each: P of what
--- the end makes of it, and of what came then
+-- the cases of such a delivery of which these frames are taken, with what is known in each: P of
+-- what the end makes of it, and of what came then
 pub record Arrivals (e : End) (now n : ℕ) (frames taken : List FrameValue) (i : Intake) (P : Outcome → Intake → Type 0) : Type 0 where
   -- it is dropped, and nothing changes
   pub ignored : (reason : DropReason) → P (dropped reason e) i
@@ -239,8 +239,8 @@ of_any mark e now n frames taken i P c = record {
   exhausts = c.exhausts;
 }
 
--- whether a packet of this number with these frames, from this address, says at an end that its peer
--- is there, if it is taken
+-- whether a packet of this number with these frames, from this address, says at an end that its
+-- peer is there, if it is taken
 abbrev pub moves_by : ℕ → ℕ → List FrameValue → End → Bool
 moves_by remote n frames e = not (is_client (side_of e)) && (not (is_there remote e) && (nat_le (expected e.numbers) n && list_any (λ f. not (is_probing f)) frames))
 
@@ -281,6 +281,17 @@ of_every q remote mark e now n frames i P c = record {
   drains = c.drains q.words;
   refuses = c.refuses q.words;
   exhausts = c.exhausts;
+}
+
+-- what is less holds where more does
+pub less_arrivals : (remote : ℕ) (mark : Option EcnCodepoint) (e : End) (now n : ℕ) (frames : List FrameValue) (i : Intake) (P Q : Outcome → Intake → Type 0) → ((o : Outcome) (j : Intake) → P o j → Q o j) → ArrivalsFrom remote mark e now n frames i P → ArrivalsFrom remote mark e now n frames i Q
+less_arrivals remote mark e now n frames i P Q less c = record {
+  ignored = λ reason. less _ _ (c.ignored reason);
+  noted = λ state reason. less _ _ (c.noted state reason);
+  takes = λ p o same state new none. less _ _ (c.takes p o same state new none);
+  drains = λ words state new close is. less _ _ (c.drains words state new close is);
+  refuses = λ words state new f is. less _ _ (c.refuses words state new f is);
+  exhausts = λ state. less _ _ (c.exhausts state);
 }
 
 -- what stays where the peer moves holds from wherever it came
@@ -345,8 +356,8 @@ moved P came o o' i e h p = subst (λ (x : Outcome). P x (came x)) (sym e) (subs
 abbrev handed_open : Policy → End → Intake → List ℕ → Outcome → Intake
 handed_open q e i d o = and_opened (came_open q i.took (answers.Deliver o.answer) d) (answers.Deliver o.answer) i
 
--- what the header of a datagram says that was sent to this id, which is known or isn't, and came from
--- where its taker takes nothing, or didn't
+-- what the header of a datagram says that was sent to this id, which is known or isn't, and came
+-- from where its taker takes nothing, or didn't
 abbrev head_as : Bool → Bool → List ℕ → Result (List ℕ) DropReason
 head_as foreign known id = if foreign then Err drops.Address else with_drop (known_as known id)
 
@@ -492,8 +503,8 @@ module _ (p q : Policy) (id : List ℕ) (n reference : ℕ) (frames : List Frame
   at_state states.Drained state k = cases.ignored drops.Drained
   at_state states.Failed state k = cases.ignored drops.Failed
 
--- every delivery of a datagram that an honest end gave is one of the cases, at an end with this policy,
--- from its address and with its mark
+-- every delivery of a datagram that an honest end gave is one of the cases, at an end with this
+-- policy, from its address and with its mark
 pub by_arrival_by : (p q : Policy) (id : List ℕ) (n reference : ℕ) (frames : List FrameValue) (d : List ℕ) (g : IsGiven p id n reference frames d) (e : End) (arrival : Arrival) (i : Intake) (P : Outcome → Intake → Type 0)
     → CanOpen p q → IsLawful p → KnowsIn e.closing.state e.numbers i
     → ArrivalsBy q arrival.remote arrival.mark e arrival.now n frames i P

@@ -40,6 +40,7 @@ use Rattle.quic_machine.specs.Poll.{Draft, no_frames, asking, datagram_size, req
 use Rattle.quic_machine.specs.Timeouts.{loss_judged, loss_expired}
 use Rattle.quic_machine.specs.FrameCases.{OnStreams, named, ack_taken, passed, streams_acked_keep, resets_acked_keep, packets_lost_keep, frame_leaves, frames_taken, by_marks, IsApart, apart_leaves}
 use Rattle.quic_machine.specs.PollCases.{ready_at, frames_padded, Composes, composes}
+use Rattle.quic_headline.specs.RoundTrip.{round_with}
 use Rattle.quic_headline.specs.Runs.{In, names, destination}
 use Rattle.quic_headline.specs.Observer.{Sent, Terms, terms_of, asks_of, Flight, latest, late_by, is_lost, after_losses, is_answered, kept_delay, open_request, delay_asked, request_behind, delay_in, longest, is_greatest, of_number, measures, rtt_behind, settled_by, after_ack, after_frames, is_behind_asked, unasked, without_oldest, kept_flying, and_flying, waited, probe_due, due_or, loss_due, most_probes, expired_for, is_close, reference_for, moment_for, sent_as}
 use Rattle.quic_headline.specs.InFlight.{is_ack_frequency}
@@ -55,6 +56,7 @@ use Rattle.quic_headline.proofs.Packets.Given.{draft_number}
 use Rattle.quic_headline.proofs.Packets.Delivered.{shown_if, expands, destination_given, opened_given, frames_of_payload}
 use Rattle.quic_headline.proofs.Packets.References.{width_shown}
 use Rattle.quic_headline.proofs.Packets.Numbered.{Lies, lies_remove, one_key, added_last, is_at_same}
+use Rattle.quic_headline.proofs.Packets.RoundTrip.{sample_same}
 use Rattle.quic_headline.proofs.Packets.Waited.{IsWaited, AreWaited, waited_filter, waited_length, waited_asks, waited_put, waited_push, waited_oldest, IsFound, waited_found, waited_staying, waited_lost, waited_late}
 use Rattle.quic_headline.proofs.Timers.LossTimers.{OpenStands}
 use Rattle.quic_machine.specs.Sizes.{search_acked, search_lost}
@@ -301,8 +303,9 @@ measured_tells t now f a e (Some s) (Some p) found w = record { terms = w.terms;
         ap (λ (u : Terms). rtt_behind u f.delay now a (Some s) f.rtt) w.terms
         ∙ ap (λ (d : ℕ). rtt_behind (terms_of e) d now a (Some s) f.rtt) w.delay
         ∙ ap (λ (n : ℕ). rtt_behind (terms_of e) (peer_delay e) n a (Some s) f.rtt) w.clock
-        ∙ ap (λ (r : Rtt). with_sample r (told_delay e a) (e.closing.clock - s.moment)) w.rtt
-        ∙ ap (λ (n : ℕ). with_sample e.path.rtt (told_delay e a) (e.closing.clock - n)) (sym found)
+        ∙ ap (λ (r : Rtt). round_with r (told_delay e a) (e.closing.clock - s.moment)) w.rtt
+        ∙ ap (λ (n : ℕ). round_with e.path.rtt (told_delay e a) (e.closing.clock - n)) (sym found)
+        ∙ sample_same e.path.rtt (told_delay e a) (e.closing.clock - p.time_sent)
 measured_tells t now f a e None (Some p) found w = absurd found
 measured_tells t now f a e (Some s) None found w = absurd found
 
@@ -544,8 +547,8 @@ due_same : (o p : Option ℕ) → moment_or o p ≡ due_or o p
 due_same None p = refl
 due_same (Some moment) p = refl
 
--- how long is waited for a round trip, where the peer holds an acknowledgement back for so long, and
--- the timer expired so often
+-- how long is waited for a round trip, where the peer holds an acknowledgement back for so long,
+-- and the timer expired so often
 abbrev pub reckoned : Rtt → ℕ → ℕ → ℕ
 reckoned r delay expiries = min (min (min (best_rtt r + max (4 * r.var) 1000000) latest + delay) latest * 2 ^ expiries) latest
 

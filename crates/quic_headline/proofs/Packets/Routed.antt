@@ -1,5 +1,5 @@
--- Where the observer of an end knows its peer to be, once a datagram came: where the end takes it to be
--- (RFC 9000, section 9); and what is in flight then.
+-- Where the observer of an end knows its peer to be, once a datagram came: where the end takes it
+-- to be (RFC 9000, section 9); and what is in flight then.
 use Rattle.std.proofs.Common.{◌≡◌, ℕ, ◌+◌, max, Bool, true, false, ◌||◌, List, [], ◌∷◌, map, Option, Some, None, Ok, refl, sym, ap, ◌∙◌, subst, inl, inr}
 use Rattle.std.specs.Prelude.{◌==◌, ◌&&◌, not, nat_le, if◌then◌else◌}
 use Rattle.std.specs.List.{list_any}
@@ -42,7 +42,7 @@ settles_remote : (remote : ℕ) → Settling (λ (x : End). x.path.remote ≡ re
 settles_remote remote (steps.known n) x i = i
 settles_remote remote s x i = i
 
-frames_route : (fs : List FrameValue) (e : End) → (passed fs e).end.path.remote ≡ e.path.remote
+pub frames_route : (fs : List FrameValue) (e : End) → (passed fs e).end.path.remote ≡ e.path.remote
 frames_route fs e = frames_keep Same (frame_keeps Same (record {
   ack = λ rises a x i. acked_keeps Same (settles_remote e.path.remote) rises a (named a x) i;
   on_streams = λ f x on i. frame_leaves Same f x on (λ t. i);

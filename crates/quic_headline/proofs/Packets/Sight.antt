@@ -10,7 +10,8 @@ use Rattle.quic_machine.specs.declared.run.Answer.{Answer}
 use Rattle.quic_machine.specs.declared.run.Answer.TheVariants as answers
 use Rattle.quic_machine.specs.declared.run.Delivery.{Delivery}
 use Rattle.quic_machine.specs.Policy.{Policy}
-use Rattle.quic_config.specs.Transport.{first_estimate}
+use Rattle.quic_headline.specs.RoundTrip.{first_round}
+use Rattle.quic_headline.proofs.Packets.RoundTrip.{first_same}
 use Rattle.quic_spaces.specs.Numbers.{cut_against, expected}
 use Rattle.quic_machine.specs.Closing.{ticked}
 use Rattle.quic_machine.specs.End.{End, side_of, with_closing, closed_by, with_window}
@@ -71,8 +72,8 @@ sight_first x y = record { left = λ rest whole. sym whole; own = refl; watched 
     e : End
     e = new_as x y
 
-    first : Waits (terms_of e) x.making.moment (no_flight (first_estimate e.transport) (e.peer_params.max_ack_delay * 1000000)) (held e)
-    first = record { tells = record { terms = refl; clock = refl; named = refl; waits = tt; asked = refl; rtt = refl; delay = refl; request = refl }; loss_time = refl; expiries = refl; probes = refl }
+    first : Waits (terms_of e) x.making.moment (no_flight (first_round e.transport) (e.peer_params.max_ack_delay * 1000000)) (held e)
+    first = record { tells = record { terms = refl; clock = refl; named = refl; waits = tt; asked = refl; rtt = first_same e.transport; delay = refl; request = refl }; loss_time = refl; expiries = refl; probes = refl }
 
 -- ---- what a poll gives
 

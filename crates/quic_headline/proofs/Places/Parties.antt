@@ -6,7 +6,8 @@ use Rattle.quic_wire_core.specs.declared.stream_id.Side.{Side}
 use Rattle.quic_wire_core.specs.StreamId.{other_side}
 use Rattle.quic_packet.specs.Number.{truncated}
 use Rattle.quic_time.specs.Rtt.{Rtt}
-use Rattle.quic_config.specs.Transport.{parameters_of, first_estimate}
+use Rattle.quic_config.specs.Transport.{parameters_of}
+use Rattle.quic_headline.specs.RoundTrip.{first_round}
 use Rattle.quic_machine.specs.declared.answers.State.{State}
 use Rattle.quic_machine.specs.declared.run.Call.{Call}
 use Rattle.quic_machine.specs.declared.run.Call.TheVariants as calls
@@ -199,7 +200,7 @@ begun_as x y = record {
   policy = x.policy;
   id = x.making.id;
   began = x.making.moment;
-  first_rtt = first_estimate (new_as x y).transport;
+  first_rtt = first_round (new_as x y).transport;
   initial_delay = (new_as x y).peer_params.max_ack_delay * 1000000;
   terms = terms_of (new_as x y);
   final = x.final;

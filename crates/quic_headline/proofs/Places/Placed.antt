@@ -5,7 +5,8 @@ use Rattle.std.proofs.lemmas.List.{append-nil}
 use Rattle.quic_wire_core.specs.declared.stream_id.Side.{Side}
 use Rattle.quic_wire_core.specs.declared.stream_id.Side.TheVariants.{Client, Server}
 use Rattle.quic_wire_core.specs.StreamId.{other_side}
-use Rattle.quic_config.specs.Transport.{Settings, parameters_of, first_estimate}
+use Rattle.quic_config.specs.Transport.{Settings, parameters_of}
+use Rattle.quic_headline.specs.RoundTrip.{first_round}
 use Rattle.quic_parameters.specs.Parameters.{ParameterValues}
 use Rattle.quic_parameters.specs.ParametersRead.{parameters_at}
 use Rattle.quic_machine.specs.declared.run.RunEvent.{RunEvent}
@@ -58,7 +59,7 @@ party r side w sents told = record {
   policy = policy_at side r.keys;
   id = first_id r side;
   began = (end_at side r.start).closing.clock;
-  first_rtt = first_estimate (end_at side r.start).transport;
+  first_rtt = first_round (end_at side r.start).transport;
   initial_delay = (end_at side r.start).peer_params.max_ack_delay * 1000000;
   terms = terms_of (end_at side r.start);
   final = given_of r side;
@@ -168,7 +169,7 @@ module _ (G : Way) (g : Group Nothing G) (r : Run) (end : World) (honest : IsHon
 
   -- an end that has given these, before anything was told
   abbrev fresh : Side → End → List (List ℕ) → Party
-  fresh side e ds = record { side = side; policy = policy_at side r.keys; id = own_id e.ids.living; began = e.closing.clock; first_rtt = first_estimate e.transport; initial_delay = e.peer_params.max_ack_delay * 1000000; terms = terms_of e; final = given_of r side; made = e; end = e; given = ds; sents = []; told = [] }
+  fresh side e ds = record { side = side; policy = policy_at side r.keys; id = own_id e.ids.living; began = e.closing.clock; first_rtt = first_round e.transport; initial_delay = e.peer_params.max_ack_delay * 1000000; terms = terms_of e; final = given_of r side; made = e; end = e; given = ds; sents = []; told = [] }
 
   gave_nothing : (side : Side) → given_by side r.start ≡ []
   gave_nothing Client = honest.start.client_gave

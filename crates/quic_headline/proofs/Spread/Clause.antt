@@ -9,6 +9,7 @@ use Rattle.quic_wire_core.specs.declared.stream_id.Side.{Side}
 use Rattle.quic_wire_core.specs.declared.stream_id.Side.TheVariants.{Client, Server}
 use Rattle.quic_wire_core.specs.StreamId.{other_side}
 use Rattle.quic_time.specs.Rtt.{Rtt, best_rtt}
+use Rattle.quic_config.specs.Transport.{transport_of, first_mtu}
 use Rattle.quic_congestion.specs.Congestion.{Told}
 use Rattle.quic_congestion.specs.Pacer.{Pacing, Ask, new_pacing, pacing_after}
 use Rattle.quic_congestion.specs.Pacer as pacer
@@ -39,11 +40,13 @@ use Rattle.quic_machine.specs.LeaveCases as expiring
 use Rattle.quic_headline.specs.Runs.{Run, In, same_side, folded, until, given_of, LeadsTo, AreServed}
 use Rattle.quic_headline.specs.Runs as runs
 use Rattle.quic_headline.specs.Observer.{terms_of, Watch, watch_from, watch, watch_told, lens_of, has_changed, path_changes}
+use Rattle.quic_headline.specs.Amounts.{making_at}
 use Rattle.quic_headline.specs.Headline.{IsHonest, IsRun}
 use Rattle.quic_headline.specs.Polls.{bytes_on, pacing_timer, seen_of, seen_at, pacing_at, pacer_names, IsMade, GaveNothing, GaveAsking, IsFull, IsHeldBack, IsLimited, IsToGo, IsSizeProbe}
 use Rattle.quic_headline.specs.Waited.{Wants, wants}
 use Rattle.quic_headline.proofs.Packets.Quiet.{HaveHeardNothing}
-use Rattle.quic_headline.specs.Spread.{gone_at, names_for, paces_by, paces_in, paces_at, pacer_anew, pacer_at, named_at, HoldsToPacer, HoldsBy, SearchesApart, PacerIsOfHistory}
+use Rattle.quic_headline.specs.Tokens.{names_for, spent_by}
+use Rattle.quic_headline.specs.Spread.{gone_at, paces_by, paces_in, paces_at, pacer_anew, first_pacer, pacer_at, named_at, HoldsToPacer, HoldsBy, SearchesApart, PacerIsOfHistory}
 use Rattle.quic_headline.proofs.Packets.Apart.{by_waits, by_next_id}
 use Rattle.quic_headline.proofs.Packets.Moved.{by_migrated}
 use Rattle.quic_headline.proofs.Packets.Flying.{Waits, held}
@@ -51,7 +54,7 @@ use Rattle.quic_headline.proofs.Packets.Group.{has_room}
 use Rattle.quic_headline.proofs.Places.Parties.{sent_by, sent_if, sents_by, Party, watch_of, with_shown, shown_at}
 use Rattle.quic_headline.proofs.Places.Groups.{Way, Nothing, And, Group, both, beside, over}
 use Rattle.quic_headline.proofs.Places.Moments.{last_seen}
-use Rattle.quic_headline.proofs.Places.Placed.{party_at, Placed, placed, watch_is}
+use Rattle.quic_headline.proofs.Places.Placed.{start_is, party_at, Placed, placed, watch_is}
 use Rattle.quic_headline.proofs.Places.Steps.{poll_answer}
 use Rattle.quic_headline.proofs.Places.Together.{Spells}
 use Rattle.quic_headline.proofs.Places.Everything as everything
@@ -73,6 +76,7 @@ use Rattle.quic_headline.proofs.Timers.Still.{was_open}
 use Rattle.quic_headline.proofs.Timers.Watched.{Observed, went_is, timers_behind, open_behind}
 use Rattle.quic_headline.proofs.Waited.Group.{wants_of, Wanting, wanting_group}
 use Rattle.quic_headline.proofs.Spread.Pings.{Pinging, ObservedWanting, pinging_group}
+use Rattle.quic_headline.proofs.Spread.Tokens.{full_same, begun_same, names_of, names_same, spent_same}
 use Rattle.quic_headline.proofs.Spread.Gates.{ask, names}
 use Rattle.quic_headline.proofs.Spread.Polls.{Knows, asked_alike, polled_spread}
 use Rattle.quic_headline.proofs.Packets.Heard.{by_taken}
@@ -263,7 +267,7 @@ module _ (r : Run) (end : World) (honest : IsHonest r) (run : IsRun r end) (quie
 
   -- what the lists make of it by an event that leads nowhere else
   abbrev stayed : Side → ℕ → Pacing
-  stayed side i = pacing_after (paces_at (slice_get r.events i) (slice_get r.views i) r side i) (pacer_at r side i)
+  stayed side i = spent_by (paces_at (slice_get r.events i) (slice_get r.views i) r side i) (pacer_at r side i)
 
   -- a call of its own
   module _ (side : Side) (i : ℕ) (call : Call) (a : Answer) (w next : World) (apart : SearchesApart r side) (m : IsMade r i side call a w next) (leads : LeadsTo r (suc i) next) (before : Paced side i w) (still : (end_at side next).closing.state ≡ states.Open) where
@@ -298,9 +302,10 @@ module _ (r : Run) (end : World) (honest : IsHonest r) (run : IsRun r end) (quie
     -- what the lists make of it otherwise
     stayed_is : stayed side i ≡ pacing_after (paces_by call r side i view.0) (pacer_at r side i)
     stayed_is =
-        ap (λ (o : Option RunEvent). pacing_after (paces_at o (slice_get r.views i) r side i) (pacer_at r side i)) m.at.event
-        ∙ ap (λ (o : Option View). pacing_after (paces_at (Some (record { side = side; call = call })) o r side i) (pacer_at r side i)) view.1
-        ∙ ap (λ (b : Bool). pacing_after (paces_in b call r side i view.0) (pacer_at r side i)) (own side)
+        ap (λ (o : Option RunEvent). spent_by (paces_at o (slice_get r.views i) r side i) (pacer_at r side i)) m.at.event
+        ∙ ap (λ (o : Option View). spent_by (paces_at (Some (record { side = side; call = call })) o r side i) (pacer_at r side i)) view.1
+        ∙ ap (λ (b : Bool). spent_by (paces_in b call r side i view.0) (pacer_at r side i)) (own side)
+        ∙ spent_same (paces_by call r side i view.0) (pacer_at r side i)
       where
         own : (s : Side) → same_side s s ≡ true
         own Client = refl
@@ -332,6 +337,7 @@ module _ (r : Run) (end : World) (honest : IsHonest r) (run : IsRun r end) (quie
         ∙ ap (λ (n : ℕ). new_pacing (best_rtt (watch r side (suc i)).flight.rtt) n (current_mtu behind.path) behind.closing.clock) (sym window_seen)
         ∙ ap (λ (n : ℕ). new_pacing (best_rtt (watch r side (suc i)).flight.rtt) (seen_at r side (suc i)).window n behind.closing.clock) (sym size_seen)
         ∙ ap (λ (n : ℕ). new_pacing (best_rtt (watch r side (suc i)).flight.rtt) (seen_at r side (suc i)).window (seen_at r side (suc i)).current_mtu n) (sym clock)
+        ∙ sym (full_same (best_rtt (watch r side (suc i)).flight.rtt) (seen_at r side (suc i)).window (seen_at r side (suc i)).current_mtu (watch r side (suc i)).clock)
       where
         delivers : (b : Bool) → is_delivery call ≡ b → is_delivery call ≡ true
         delivers true is = is
@@ -388,17 +394,23 @@ module _ (r : Run) (end : World) (honest : IsHonest r) (run : IsRun r end) (quie
 
       unpaced : stayed side i ≡ pacer_at r side i
       unpaced =
-          ap (λ (o : Option RunEvent). pacing_after (paces_at o (slice_get r.views i) r side i) (pacer_at r side i)) at
-          ∙ ap (λ (ps : List pacer.Call). pacing_after ps (pacer_at r side i)) (none (slice_get r.views i))
+          ap (λ (o : Option RunEvent). spent_by (paces_at o (slice_get r.views i) r side i) (pacer_at r side i)) at
+          ∙ ap (λ (ps : List pacer.Call). spent_by ps (pacer_at r side i)) (none (slice_get r.views i))
 
       stays : path_changes r side i ≡ false
       stays =
           ap (λ (ts : List runs.Told). has_changed (watch r side i) (folded (watch_told (lens_of r side)) ts (watch_from (end_at side r.start) (given_of r side)))) told
           ∙ ap not (eq-eqb (watch r side i).route.generation (watch r side i).route.generation refl)
 
+  -- as the run begins
+  begins_so : (side : Side) → first_pacer (end_at side r.start) ≡ (end_at side r.start).path.pacing
+  begins_so side =
+      let made = making_at side r.start honest.start in
+      subst (λ (e : End). first_pacer e ≡ e.path.pacing) (sym (start_is r.start honest.start side)) (begun_same (transport_of made.settings) made.windows.initial (first_mtu (transport_of made.settings)) made.moment)
+
   at_place : (side : Side) (i : ℕ) (w : World) → SearchesApart r side → i ≤ length r.views → AreServed r i → LeadsTo r i w → Paced side i w
   at_place side i w apart = along r end run side (Paced side) (record {
-    first = λ opened. refl;
+    first = λ opened. sym (begins_so side);
     own = λ j call a v next m leads before still. own_next side j call a v next apart m leads before still;
     other = other_next side;
   }) i w
@@ -411,7 +423,8 @@ module _ (r : Run) (end : World) (honest : IsHonest r) (run : IsRun r end) (quie
       let e : End = with_shown (end_at side w) (shown_at side w) in
       sym (names_shown side w now)
       ∙ names e now
-      ∙ ap (λ (q : Pacing). names_for q (ask e now)) (at_place side i w apart (stands_within r end run side i side (calls.Poll now) a w next m) (served_before r.answers i m.served) m.leads opened)
+      ∙ ap (λ (q : Pacing). names_of q (ask e now)) (at_place side i w apart (stands_within r end run side i side (calls.Poll now) a w next m) (served_before r.answers i m.served) m.leads opened)
+      ∙ sym (names_same (pacer_at r side i) (ask e now))
       ∙ ap (λ (x : Ask). names_for (pacer_at r side i) x) (sym (asked_alike r side i e now (knows i side now a w next m opened apart)))
 
   -- the timer in a view

@@ -12,10 +12,10 @@ use Rattle.quic_machine.specs.Sizes.{may_search, search_names, search_asked}
 use Rattle.quic_machine.specs.Poll.{waits, asking, probed, lazied, composed, asks_to_go, is_gated, whole, probe, Ready, leaves, leaves_unless, goes, draft_of, request_queued}
 use Rattle.quic_machine.specs.DraftLaws.{lazy_due}
 use Rattle.quic_machine.specs.PollCases.{ready_at, by_probed, probe_leaves, by_gate, by_leaves}
-use Rattle.quic_headline.specs.Spread.{names_for}
 use Rattle.quic_headline.proofs.Packets.Invariant.{Acks}
 use Rattle.quic_headline.proofs.Steps.Probes.{begun}
 use Rattle.quic_headline.proofs.Steps.Idle.{mute_composed}
+use Rattle.quic_headline.proofs.Spread.Tokens.{names_of}
 use Rattle.quic_headline.proofs.Steps.Probing.{IsProbing, unprobed, unasked}
 
 -- what the pacer of an end is asked in a poll at a moment
@@ -30,9 +30,9 @@ asked_at e now = request_queued (begun e now)
 -- An end was made ready so.
 pub data IsReadied (e : End) (now : ℕ) (g : Ready) : Type 0 where
   -- the pacer names a later moment
-  held : (moment : ℕ) → names_for e.path.pacing (ask e now) ≡ Some moment → g.end.timers.pacing ≡ Some moment → g.end.path.pacing ≡ after_ask e.path.pacing (ask e now) → asking (draft_of g).frames ≡ false → IsReadied e now g
+  held : (moment : ℕ) → names_of e.path.pacing (ask e now) ≡ Some moment → g.end.timers.pacing ≡ Some moment → g.end.path.pacing ≡ after_ask e.path.pacing (ask e now) → asking (draft_of g).frames ≡ false → IsReadied e now g
   -- window and pacer let what waits go
-  passes : names_for e.path.pacing (ask e now) ≡ None → e.tracking.probes ≡ 0 → is_window_full e ≡ false → asks_to_go (asked_at e now) ≡ true → g ≡ record { leaving = whole; end = pacer_asked (asked_at e now) } → IsReadied e now g
+  passes : names_of e.path.pacing (ask e now) ≡ None → e.tracking.probes ≡ 0 → is_window_full e ≡ false → asks_to_go (asked_at e now) ≡ true → g ≡ record { leaving = whole; end = pacer_asked (asked_at e now) } → IsReadied e now g
   -- the window is full
   full : g.end.timers.pacing ≡ None → g.end.path.pacing ≡ e.path.pacing → e.tracking.probes ≡ 0 → is_window_full e ≡ true → asking (draft_of g).frames ≡ false → IsReadied e now g
   -- neither was asked: a probe of losses waits, or nothing that asks; then what asks is a probe of
@@ -53,7 +53,7 @@ module _ (e : End) (now : ℕ) where
   same_path : x.path ≡ e.path
   same_path = ap (λ (z : End). z.path) (probe_leaves (begun e now))
 
-  pub names : paced_until x ≡ names_for e.path.pacing (ask e now)
+  pub names : paced_until x ≡ names_of e.path.pacing (ask e now)
   names = ap (λ (z : End). paced_until z) (probe_leaves (begun e now))
 
   pays : (pacer_asked x).path.pacing ≡ after_ask e.path.pacing (ask e now)

@@ -11,7 +11,9 @@ use Rattle.quic_wire_core.specs.StreamId.{other_side}
 use Rattle.quic_wire.specs.Value.{FrameValue}
 use Rattle.quic_packet.specs.Datagram.{Opening}
 use Rattle.quic_parameters.specs.Parameters.{ParameterValues}
-use Rattle.quic_config.specs.Transport.{Settings, parameters_of, first_estimate}
+use Rattle.quic_config.specs.Transport.{Settings, parameters_of}
+use Rattle.quic_headline.specs.RoundTrip.{first_round}
+use Rattle.quic_headline.proofs.Packets.RoundTrip.{first_same}
 use Rattle.quic_time.specs.Timers.{has_come}
 use Rattle.quic_paths.specs.Paths.{is_asked}
 use Rattle.quic_recovery_core.specs.AckFrequency.{Frequency}
@@ -98,7 +100,8 @@ pub record DueSo (count : ℕ) (due : Option ℕ) (s : Standing) : Type 0 where
   pub asked : count ≡ s.asked.validation.drawn
   pub set : s.due ≡ unless_validated s.validated due
 
--- One that had asked so often asks once more, until this moment, unless it asked as often as it may.
+-- One that had asked so often asks once more, until this moment, unless it asked as often as it
+-- may.
 pub record AsksMore (count moment : ℕ) (s : Standing) : Type 0 where
   pub asked : (if nat_lt count most_questions then count + 1 else count) ≡ s.asked.validation.drawn
   pub set : s.due ≡ unless_validated s.validated (if nat_lt count most_questions then Some moment else None)
@@ -192,8 +195,8 @@ moved_due n o p op remote x i = subst (λ (m : ℕ). AsksMore n m (standing (mig
       set = ap (λ (b : Bool). if b then Some (validation_moment x) else None) (sym may);
     }
 
--- What a call leaves of an end that asked so often, until this moment: it asks so on the same path, or
--- once more on another.
+-- What a call leaves of an end that asked so often, until this moment: it asks so on the same path,
+-- or once more on another.
 abbrev Goes : End → ℕ → Option ℕ → End → Intake → Type 0
 Goes e n o = Leads e (λ (f : End) (j : Intake). DueSo n o (standing f)) (λ (f : End) (j : Intake). AsksMore n (validation_moment f) (standing f))
 
@@ -396,12 +399,12 @@ first_is_watch false w = one_more_watch w 0 0
 -- one that is made asks its first word, where the address of its peer isn't validated
 first_due : (side : Side) (settings : Settings) (windows : Windows) (theirs : ParameterValues) (own_id peer_id : List ℕ) (remote now : ℕ) (validated : Bool) (words : ℕ → ℕ) (final : List (List ℕ))
     → (let e = new_end side settings windows theirs own_id peer_id remote now validated words in
-    let r = first_questions e.path.validated (first_watch final now remote (first_estimate e.transport) (e.peer_params.max_ack_delay * 1000000)) in
+    let r = first_questions e.path.validated (first_watch final now remote (first_round e.transport) (e.peer_params.max_ack_delay * 1000000)) in
     DueSo r.count r.due (standing e))
 first_due side settings windows theirs own_id peer_id remote now true words final = record { asked = refl; set = refl }
 first_due side settings windows theirs own_id peer_id remote now false words final = record {
   asked = refl;
-  set = ap (λ (k : ℕ). Some k) (sym (moment_reckoned (terms_of e) now (first_watch final now remote (first_estimate e.transport) (e.peer_params.max_ack_delay * 1000000)).flight e (record { terms = refl; clock = refl; named = refl; waits = tt; asked = refl; rtt = refl; delay = refl; request = refl })));
+  set = ap (λ (k : ℕ). Some k) (sym (moment_reckoned (terms_of e) now (first_watch final now remote (first_round e.transport) (e.peer_params.max_ack_delay * 1000000)).flight e (record { terms = refl; clock = refl; named = refl; waits = tt; asked = refl; rtt = first_same e.transport; delay = refl; request = refl })));
 }
   where
     e : End

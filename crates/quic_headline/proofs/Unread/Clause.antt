@@ -57,11 +57,11 @@ use Rattle.quic_headline.proofs.Unread.Blocked.{BothRest, blocked_unread, within
 -- ---- all that holds
 
 -- the packets, what was written, said and is under way
-abbrev Base : Way
+abbrev pub Base : Way
 Base = And (And (And (everything.All Ready ready) Arrives) (everything.Said Ready ready)) Flying
 
 -- what is read and grew, and what limits, amounts and halves come to
-abbrev Wide : Way
+abbrev pub Wide : Way
 Wide = And ReadsHold (And GrownWait (And Tallied (And NewestSaid (And Sums Consumed))))
 
 packets_of : (x y : Party) → Base x y → PacketsHold x y
@@ -84,7 +84,7 @@ is_writing = record {
 abbrev N : Way
 N = And Nothing Base
 
-wide : Group Nothing (And Base Wide)
+pub wide : Group Nothing (And Base Wide)
 wide = both Nothing Base Wide (everything.all_flying Ready ready)
     (beside N ReadsHold (And GrownWait (And Tallied (And NewestSaid (And Sums Consumed)))) (reads_group N is_writing)
     (beside N GrownWait (And Tallied (And NewestSaid (And Sums Consumed))) (grown_group N is_writing)

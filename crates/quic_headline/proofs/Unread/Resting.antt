@@ -94,7 +94,7 @@ quiet_limits fs none (StreamCount Uni) = no_counts true fs none
 -- ---- what is tracked
 
 -- the datagram of a tracked packet
-found_for : (ps : Table TrackedPacket) (ss : List Sent) (p : ℕ × TrackedPacket) → map but_for_record ps ≡ map but_for_record (map waited_for ss) → In p ps → (s : Sent) × In s ss × (but_for_record p ≡ but_for_record (waited_for s))
+pub found_for : (ps : Table TrackedPacket) (ss : List Sent) (p : ℕ × TrackedPacket) → map but_for_record ps ≡ map but_for_record (map waited_for ss) → In p ps → (s : Sent) × In s ss × (but_for_record p ≡ but_for_record (waited_for s))
 found_for [] ss p same i = absurd i
 found_for (q ∷ ps) [] p same i = cc
 found_for (q ∷ ps) (s ∷ ss) p same (inl is) = let first : but_for_record q ≡ but_for_record (waited_for s) = cc in (s, inl refl, ap but_for_record is ∙ first)
@@ -103,7 +103,7 @@ found_for (q ∷ ps) (s ∷ ss) p same (inr i) =
     let more = found_for ps ss p rest i in
     (more.0, inr more.1, more.2)
 
-among_waited : (s : Sent) (ss : List Sent) → In s ss → In (waited_for s) (map waited_for ss)
+pub among_waited : (s : Sent) (ss : List Sent) → In s ss → In (waited_for s) (map waited_for ss)
 among_waited s [] i = absurd i
 among_waited s (t ∷ ss) (inl is) = inl (ap waited_for is)
 among_waited s (t ∷ ss) (inr i) = inr (among_waited s ss i)
@@ -185,7 +185,7 @@ module _ (x y : Party) (flying : List Sent) (rest : AtRest x.end flying) (packet
       go (inr (inr here)) = here
 
   -- what waits in lists
-  listed_came : (what : Listed) → ListedStands came what x.end → Came came what
+  pub listed_came : (what : Listed) → ListedStands came what x.end → Came came what
   listed_came what (inl there) = absurd (waits_not x.end flying rest (listed_queued x.end what there))
   listed_came what (inr (inl carried)) = (let found = any_member (HasIt what) x.end.tracking.packets carried in absurd (no_listed x.end flying rest found.0 what found.1 found.2))
   listed_came what (inr (inr here)) = here

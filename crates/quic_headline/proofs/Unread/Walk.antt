@@ -203,7 +203,7 @@ module _ (K : Side → Receiving → Counts → Counts → Type 0) where
   reset_acked_left None s p id i = i
   reset_acked_left (Some h) s p id i = either_streams (is_some h.reset) (settled (send_done s id) p) (streams_of s p) (sent_left s id i) i
 
-  settling : Settling (λ (e : End). Of e.streams)
+  pub settling : Settling (λ (e : End). Of e.streams)
   settling (steps.reset id) e i = reset_acked_left (sent_half e.streams id) e.streams e.waiting.frames id i
   settling (steps.acked m) e i = acked_left (sent_half e.streams m.id) e.streams e.waiting.frames m i
   settling (steps.lost m) e i = lost_left (sent_half e.streams m.id) e.streams m i

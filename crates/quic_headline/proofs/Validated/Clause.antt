@@ -32,7 +32,7 @@ use Rattle.quic_headline.specs.Observer.{Watch, first_watch, watch_from, watch, 
 use Rattle.quic_headline.specs.Headline.{IsHonest, IsRun}
 use Rattle.quic_headline.specs.Polls.{seen_at, IsMade}
 use Rattle.quic_headline.specs.Waited.{is_path_response}
-use Rattle.quic_headline.specs.Validated.{asking, AnswerCame, IsLatest, WasAnswered, ValidatedByAnswer, AreWords, CameFromPeer, AnswersValidate}
+use Rattle.quic_headline.specs.Validated.{asking, AnswerCame, IsLatest, IsOwnWord, WasAnswered, ValidatedByAnswer, AreWords, CameFromPeer, AnswersValidate}
 use Rattle.quic_headline.proofs.Packets.Delivered.{frames_at, with_taken, ArrivalsFrom}
 use Rattle.quic_headline.proofs.Packets.Moving.{by_asked}
 use Rattle.quic_headline.proofs.Packets.Strays.{of_at}
@@ -42,7 +42,7 @@ use Rattle.quic_headline.proofs.Places.Moments.{last_seen}
 use Rattle.quic_headline.proofs.Places.Parties.{Party, called, came_to, lens}
 use Rattle.quic_headline.proofs.Places.Groups.{Way, Nothing, And, Group, both, over}
 use Rattle.quic_headline.proofs.Places.Placed.{party_at, stands_in, Placed, placed}
-use Rattle.quic_headline.proofs.Places.Coming.{by_coming_from}
+use Rattle.quic_headline.proofs.Places.Coming.{by_coming_by, by_coming_from}
 use Rattle.quic_headline.proofs.Places.Everything as everything
 use Rattle.quic_headline.proofs.Places.Theorems.{ready}
 use Rattle.quic_headline.proofs.Halves.Ready.{Ready}
@@ -57,7 +57,7 @@ use Rattle.quic_headline.proofs.Steps.Along.{stands_within}
 use Rattle.quic_headline.proofs.Steps.Called.{IsCalled, StaysSo, called_or_stays}
 use Rattle.quic_headline.proofs.Validated.Standing.{Standing, standing, answered_if, answered, next_stands, call_stands, frames_stand}
 use Rattle.quic_headline.proofs.Validated.Went.{polled_left}
-use Rattle.quic_headline.proofs.Validated.Group.{word_whole, IsSmall, AnswerFits, Challenging, challenging_group}
+use Rattle.quic_headline.proofs.Validated.Group.{word_whole, AnswerFits, IsOwn, AnswersOwn, arrivals_answer, words_own, Challenging, challenging_group}
 use Rattle.quic_headline.proofs.Validated.Asking.{Asks, Silent, AsksSo, asks_at}
 
 -- ---- a packet
@@ -250,57 +250,61 @@ same_call side call other o is also =
 one_delivery : (d other : Delivery) → calls.Deliver d ≡ calls.Deliver other → other ≡ d
 one_delivery d other is = cc
 
+-- the word that is asked, if one is, fits 64 bits
+abbrev IsSmall : Option ℕ → Type 0
+IsSmall o = (word : ℕ) → o ≡ Some word → word < 2 ^ 64
+
 -- all that holds between the ends, and what both ask
-abbrev All : Way
+abbrev pub All : Way
 All = And (everything.All Ready ready) Challenging
 
-all : Group Nothing All
+pub all : Group Nothing All
 all = both Nothing (everything.All Ready ready) Challenging (everything.all Ready ready) (over Observed (And Nothing (everything.All Ready ready)) Challenging (λ x y h. (h.1.0.0, h.1.1)) challenging_group)
 
 module _ (r : Run) (end : World) (honest : IsHonest r) (run : IsRun r end) (side : Side) (i : ℕ) (call : Call) (a : Answer) (w next : World) (m : IsMade r i side call a w next) (leads : LeadsTo r (suc i) next) (still : (end_at side next).closing.state ≡ states.Open) where
-  h : CallHolds All r i side call a w
+  pub h : CallHolds All r i side call a w
   h = call_holds All all r end honest run i side call a w next (λ id is. honest.ids side i id call a m.at is) (run.codes (record { side = side; call = call }) (stands_in r.events i (record { side = side; call = call }) m.at.event)) m
 
-  abbrev x : Party
+  abbrev pub x : Party
   x = calling r i w side call h.sents
 
-  abbrev y : Party
+  abbrev pub y : Party
   y = party_at r i w (other_side side) h.theirs
 
-  abbrev behind : Party
+  abbrev pub behind : Party
   behind = called x y.given call a
 
-  left : end_at side next ≡ left_at r side w call a
+  pub left : end_at side next ≡ left_at r side w call a
   left = made_end r i side call a w next m
 
-  open_behind : behind.end.closing.state ≡ states.Open
+  pub open_behind : behind.end.closing.state ≡ states.Open
   open_behind = sym (ap (λ (e : End). e.closing.state) left) ∙ still
 
-  opened : x.end.closing.state ≡ states.Open
+  pub opened : x.end.closing.state ≡ states.Open
   opened = was_open x.policy x.end y.given call a open_behind
 
   -- that a poll reads its window changes nothing of it
   reads : standing x.end ≡ standing (end_at side w)
   reads = reads_either (λ (e : End). standing e ≡ standing (end_at side w)) (control_at side w) (heard_at side w) call (end_at side w) refl refl
 
-  reads_path : (x.end.path.generation ≡ (end_at side w).path.generation) × (x.end.path.remote ≡ (end_at side w).path.remote)
+  pub reads_path : (x.end.path.generation ≡ (end_at side w).path.generation) × (x.end.path.remote ≡ (end_at side w).path.remote)
   reads_path = reads_either (λ (e : End). (e.path.generation ≡ (end_at side w).path.generation) × (e.path.remote ≡ (end_at side w).path.remote)) (control_at side w) (heard_at side w) call (end_at side w) (refl, refl) (refl, refl)
 
-  open_there : (end_at side w).closing.state ≡ states.Open
+  pub open_there : (end_at side w).closing.state ≡ states.Open
   open_there = sym (reads_state (control_at side w) (heard_at side w) call (end_at side w)) ∙ opened
 
   asks : AsksSo (asking r side i).latest (asking r side i).renewed (standing x.end)
   asks = subst (λ (s : Standing). AsksSo (asking r side i).latest (asking r side i).renewed s) (sym reads) (asks_at r end honest run side i w (stands_within r end run side i side call a w next m) (served_before r.answers i m.served) m.leads open_there)
 
   -- the path changes where the lists say so
-  changes : path_changes r side i ≡ has_moved x.end behind.end
+  pub changes : path_changes r side i ≡ has_moved x.end behind.end
   changes =
       changes_at r end honest run side i w next m.served m.leads leads
       ∙ ap (λ (e : End). has_moved (end_at side w) e) left
       ∙ ap (λ (g : ℕ). not (behind.end.path.generation == g)) (sym reads_path.0)
 
   -- what came by the run's lists is what came to it
-  news_are : news (watch r side i).intake (watch r side (suc i)).intake ≡ news (came_to x y) (came_to behind y)
+  pub news_are : news (watch r side i).intake (watch r side (suc i)).intake ≡ news (came_to x y) (came_to behind y)
   news_are =
       ap (λ (j : Intake). news j (watch r side (suc i)).intake) (ap (λ (v : Watch). v.intake) h.seen ∙ watched_intake (lens x y) x.told (first_watch x.final x.began x.made.path.remote x.first_rtt x.initial_delay))
       ∙ ap (λ (j : Intake). news (came_to x y) j) (ap (λ (v : Watch). v.intake) h.seen_behind ∙ watched_intake (lens x y) behind.told (first_watch x.final x.began x.made.path.remote x.first_rtt x.initial_delay))
@@ -339,11 +343,21 @@ module _ (r : Run) (end : World) (honest : IsHonest r) (run : IsRun r end) (side
   pub stays_validated : path_changes r side i ≡ false → (end_at side w).path.validated ≡ true → (end_at side next).path.validated ≡ true
   stays_validated stays validated = sym left_validated ∙ call_validated x.policy x.end y.given call a (ap (λ (s : Standing). s.validated) reads ∙ validated) (sym changes ∙ stays)
 
+  -- by a word that the end may have drawn, where the path changes
+  answered_own : has_moved x.end behind.end ≡ true → behind.end.path.validated ≡ true → AnswersOwn (IsOwn x) (came_to x y) (came_to behind y)
+  answered_own = by_coming_by x y a h.joined (made_served r i side call a w next m) (meets y x h.takes.0.0.0) (λ (b : Answer) (e : End) (j : Intake). e.closing.state ≡ states.Open → has_moved x.end e ≡ true → e.path.validated ≡ true → AnswersOwn (IsOwn x) (came_to x y) j) call m.step.answer (record {
+    apart = λ apart opened moved. absurd (both_ways (has_moved x.end (after_call x.policy x.end y.given call a)) (same_path x.end (after_call x.policy x.end y.given call a) (apart_stays x.policy x.end y.given call a apart)) moved);
+    none = λ delivery is opened moved. absurd (both_ways (has_moved x.end x.end) (same_path x.end x.end refl) moved);
+    comes = λ delivery is s among. arrivals_answer (IsOwn x) x.policy (words_own x) delivery.remote delivery.ecn x.end delivery.now s.number s.frames (came_to x y);
+  }) open_behind
+
   -- where the address becomes validated, the peer answered
   pub was_answered : (end_at side w).path.validated ≡ false → (end_at side next).path.validated ≡ true → WasAnswered r side i
   was_answered unvalidated validated = elim answered_behind [
     | inl same ↦ right_so (same.1.by unvalidated_here (left_validated ∙ validated)) (asks unvalidated_here)
-    | inr moved ↦ (let found = came_so (moved.1.came (left_validated ∙ validated)) in record { token = found.0; came = found.1; right = inr (inr (changes ∙ moved.0)) })
+    | inr moved ↦ (
+        let found = answered_own moved.0 (left_validated ∙ validated) in
+        record { token = found.0; came = record { packet = found.1; came = subst (λ (ps : List Packet). In found.1 ps) (sym news_are) found.2; answers = found.3 }; right = inr (inr (changes ∙ moved.0), found.4) })
   ]
     where
       unvalidated_here : x.end.path.validated ≡ false
@@ -354,7 +368,7 @@ module _ (r : Run) (end : World) (honest : IsHonest r) (run : IsRun r end) (side
         token = found.token;
         came = record { packet = found.packet; came = subst (λ (ps : List Packet). In found.packet ps) (sym news_are) found.came; answers = found.answers };
         right = elim asked.either [
-          | inl waits ↦ inr (inl waits.1)
+          | inl waits ↦ inr (inl waits.1, subst (IsOwnWord r side) same (h.gives.1.own opened asked.word (inl asked.asked)))
           | inr went ↦ inl (subst (λ (latest : Option (List ℕ)). IsLatest latest found.token) (sym went.1) (sym same ∙ sym (word_whole asked.word (subst (λ (n : ℕ). n < 2 ^ 64) (sym same) found.fits))))
         ];
       }
@@ -452,7 +466,11 @@ asks_words : (r : Run) (end : World) → IsHonest r → IsRun r end → AreWords
 asks_words r end honest run words side i w served leads opened =
     let at : Placed All r end side i = placed All all r end honest run side i served in
     let same : w ≡ at.world = one_behind r i w at.world served leads at.leads in
-    subst (λ (v : World). (end_at side v).closing.state ≡ states.Open → IsSmall (end_at side v).validation.challenge) (sym same) (at.gives.1.small (record { drawn = words.drawn side; asked = words.asked side })) opened
+    subst (λ (v : World). (end_at side v).closing.state ≡ states.Open → IsSmall (end_at side v).validation.challenge) (sym same) (λ there word is. fits word (at.gives.1.own there word (inl is))) opened
+  where
+    fits : (word : ℕ) → IsOwnWord r side word → word < 2 ^ 64
+    fits word (inl drawn) = subst (λ (n : ℕ). n < 2 ^ 64) drawn.1 (words.drawn side drawn.0)
+    fits word (inr asked) = words.asked side word asked
 
 pub answers_validate : (r : Run) (end : World) → IsHonest r → IsRun r end → AnswersValidate r
 answers_validate r end honest run words side i token served opened from renewed came right =

@@ -1,5 +1,5 @@
 -- What a poll leaves of what is asked: PATH_CHALLENGE goes with the word that waits, which waits no
--- more, or none goes.
+-- more, or none goes; and so it is with the answer to the peer.
 use Rattle.std.proofs.Common.{◌≡◌, ◌⊎◌, ℕ, zero, suc, Bool, true, false, ◌||◌, List, [], ◌∷◌, ◌++◌, replicate, Option, Some, None, refl, sym, ap, ◌∙◌, inl, inr}
 use Rattle.std.specs.List.{list_any}
 use Rattle.std.proofs.lemmas.Bool.{or_from, or_left}
@@ -19,11 +19,12 @@ use Rattle.quic_machine.specs.DraftLaws.{Writing, MayLeave, by_leave}
 use Rattle.quic_machine.specs.Puts as puts
 use Rattle.quic_machine.specs.Machine.{gave}
 use Rattle.quic_headline.specs.Observer.{Sent}
-use Rattle.quic_headline.specs.Waited.{stands, is_path_challenge}
+use Rattle.quic_headline.specs.Waited.{stands, is_path_challenge, is_path_response}
 use Rattle.quic_headline.specs.Validated.{asked_in, asked_by}
 use Rattle.quic_headline.proofs.Packets.Probes.{by_ready, by_going}
 use Rattle.quic_headline.proofs.Packets.Sends.{by_sends}
 use Rattle.quic_headline.proofs.Places.Parties.{sent_as, sent_by, sent_if}
+use Rattle.quic_headline.proofs.Responses.Drafts.{Says, draft_says, padded_says, Replied, replied}
 
 -- ---- what went
 
@@ -109,7 +110,7 @@ module _ (waited : Option ℕ) where
   writing (puts.control kind f) d is i = one_more d f (control_other f kind is.of_kind) i
   writing p d may i = one_more d _ refl i
 
-  draft_went : (leaving : Leaving) (e : End) → MayLeave leaving e → e.waiting.signals.challenge ≡ waited → OfDraft (draft_as leaving e)
+  pub draft_went : (leaving : Leaving) (e : End) → MayLeave leaving e → e.waiting.signals.challenge ≡ waited → OfDraft (draft_as leaving e)
   draft_went leaving e may is = by_leave OfDraft writing leaving e may (none leaving)
     where
       none : (l : Leaving) → OfDraft (no_frames (lazied_as l e))
@@ -128,11 +129,20 @@ sent_went waited waits s (inr i) = inr (record { word = i.word; some = ap (λ (b
 -- ---- a poll
 
 -- What a poll leaves with which these datagrams went: whether the address is validated, which word
--- is the latest, and whether that waits.
+-- is the latest, whether that waits, and which answer to the peer does.
 pub record LeftSo (e f : End) (ss : List Sent) : Type 0 where
   pub validated : f.path.validated ≡ e.path.validated
   pub validation : f.validation ≡ e.validation
   pub went : Went e.waiting.signals.challenge f.waiting.signals.challenge (stands is_path_challenge ss) (asked_by ss)
+  pub replied : Replied e.waiting.signals.response f.waiting.signals.response (stands is_path_response ss)
+
+-- an end that is ready to give asks as before
+pub ready_waits : (e : End) (now : ℕ) → (ready_at e now).end.waiting.signals.challenge ≡ e.waiting.signals.challenge
+ready_waits e now = by_ready (λ (x : End). x.waiting.signals.challenge ≡ e.waiting.signals.challenge) e now refl (λ ping immediate x i. i) (λ waits x i. i) (λ q i. refl) (λ moment pacing discovery x i. i)
+
+-- and answers as before
+pub ready_replies : (e : End) (now : ℕ) → (ready_at e now).end.waiting.signals.response ≡ e.waiting.signals.response
+ready_replies e now = by_ready (λ (x : End). x.waiting.signals.response ≡ e.waiting.signals.response) e now refl (λ ping immediate x i. i) (λ waits x i. i) (λ q i. refl) (λ moment pacing discovery x i. i)
 
 module _ (p : Policy) (e : End) (now : ℕ) where
   abbrev z : End
@@ -145,34 +155,35 @@ module _ (p : Policy) (e : End) (now : ℕ) where
   ready_validation : z.validation ≡ e.validation
   ready_validation = ap (λ (x : End). x.validation) (ready_leaves e now)
 
-  ready_waits : z.waiting.signals.challenge ≡ e.waiting.signals.challenge
-  ready_waits = by_ready (λ (x : End). x.waiting.signals.challenge ≡ e.waiting.signals.challenge) e now refl (λ ping immediate x i. i) (λ waits x i. i) (λ q i. refl) (λ moment pacing discovery x i. i)
-
   abbrev d : Draft
   d = draft_at e now
 
   composed : Composes z d.end
   composed = composes (ready_at e now).leaving z (may_leave_at e now)
 
-  given : Went e.waiting.signals.challenge d.end.waiting.signals.challenge (stands is_path_challenge (sent_as e now d ∷ [])) (asked_by (sent_as e now d ∷ []))
+  pub given : Went e.waiting.signals.challenge d.end.waiting.signals.challenge (stands is_path_challenge (sent_as e now d ∷ [])) (asked_by (sent_as e now d ∷ []))
   given = sent_went e.waiting.signals.challenge d.end.waiting.signals.challenge (sent_as e now d)
       (more_went e.waiting.signals.challenge d.end.waiting.signals.challenge d.frames (replicate (zeros_behind d) padding) (none_padded (zeros_behind d))
-      (draft_went e.waiting.signals.challenge (ready_at e now).leaving z (may_leave_at e now) ready_waits))
+      (draft_went e.waiting.signals.challenge (ready_at e now).leaving z (may_leave_at e now) (ready_waits e now)))
+
+  pub replies : Says e.waiting.signals.response d.end.waiting.signals.response (sent_as e now d).frames
+  replies = padded_says e.waiting.signals.response d.end.waiting.signals.response d.frames (zeros_behind d) (draft_says e.waiting.signals.response (ready_at e now).leaving z (may_leave_at e now) (ready_replies e now))
 
   -- nothing went
   none_left : LeftSo e e []
-  none_left = record { validated = refl; validation = refl; went = inl (record { none = refl; same = refl; before = λ known. refl }) }
+  none_left = record { validated = refl; validation = refl; went = inl (record { none = refl; same = refl; before = λ known. refl }); replied = inl (refl, refl) }
 
   pub polled_left : (polled p e now).end.closing.state ≡ states.Open → LeftSo e (polled p e now).end (sent_if (gave (answers.Poll (polled p e now).answer)) (sent_by p e now))
   polled_left = by_sends p e now (λ (q : Polled) (ss : List Sent). q.end.closing.state ≡ states.Open → LeftSo e q.end ss) (record {
     silent = λ opened. none_left;
     failed = λ opened. none_left;
-    nothing = λ is none opened. record { validated = ready_validated; validation = ready_validation; went = inl (record { none = refl; same = ready_waits; before = λ known. refl }) };
+    nothing = λ is none opened. record { validated = ready_validated; validation = ready_validation; went = inl (record { none = refl; same = ready_waits e now; before = λ known. refl }); replied = inl (refl, ready_replies e now) };
     repeats = λ is. ((λ opened. let clash : states.Closing ≡ states.Open = sym is ∙ opened in cc), λ f goes opened. let clash : states.Closing ≡ states.Open = sym is ∙ opened in cc);
     closes = λ reason is bound. ((λ opened. cc), λ f goes opened. cc);
     gives = λ is may some. by_going (λ (x : End). x.closing.state ≡ states.Open → LeftSo e x (sent_as e now d ∷ [])) p d (λ going opened. record {
       validated = ap (λ (u : Path). u.validated) composed.path ∙ ready_validated;
       validation = composed.validation ∙ ready_validation;
       went = given;
+      replied = replied e.waiting.signals.response d.end.waiting.signals.response (sent_as e now d).frames replies;
     });
   })

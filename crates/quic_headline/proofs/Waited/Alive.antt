@@ -1,7 +1,8 @@
 -- How long an end is without a packet, where PING keeps it alive (RFC 9000, section 10.1.2): each
 -- packet sets its timer anew, and PING waits once that has expired.
-use Rattle.std.proofs.Common.{◌≡◌, ℕ, ◌+◌, Bool, true, false, ◌||◌, List, length, map, Option, Some, None, Ok, refl, sym, ap, ◌∙◌, subst}
+use Rattle.std.proofs.Common.{◌≡◌, ℕ, ◌+◌, Bool, true, false, ◌||◌, List, length, map, Option, Some, None, Ok, refl, sym, ap, ◌∙◌, subst, ◌⊎◌, inl, inr}
 use Rattle.std.specs.Prelude.{if◌then◌else◌, nat_lt}
+use Rattle.std.specs.Option.{is_some}
 use Rattle.quic_wire_core.specs.declared.shared.EcnCodepoint.{EcnCodepoint}
 use Rattle.quic_wire.specs.Value.{FrameValue}
 use Rattle.quic_time.specs.Clocks.{saturated}
@@ -133,58 +134,76 @@ polled_alive p e now = by_sends p e now (λ (q : Polled) (ss : List Sent). q.end
 -- ---- a timeout
 
 -- What a moment that an end takes over leaves of it: its clock, when it is to be kept alive,
--- whether PING waits, and IMMEDIATE_ACK, and which PATH_RESPONSE does.
+-- whether PING waits, and IMMEDIATE_ACK, and which PATH_RESPONSE does; PATH_CHALLENGE waits anew
+-- only where the timer of path validation expires.
 pub record Timed (e f : End) (now : ℕ) : Type 0 where
   pub closing : f.closing ≡ ticked e.closing now
   pub alive : f.timers.keep_alive ≡ (if has_come e.timers.keep_alive (ticked e.closing now).clock then None else e.timers.keep_alive)
   pub pinged : f.waiting.signals.ping ≡ (has_come e.timers.keep_alive (ticked e.closing now).clock || e.waiting.signals.ping)
   pub response : f.waiting.signals.response ≡ e.waiting.signals.response
   pub immediate : f.waiting.signals.immediate ≡ e.waiting.signals.immediate
+  pub challenged : is_some f.waiting.signals.challenge ≡ true → (is_some e.waiting.signals.challenge ≡ true) ⊎ (has_come e.timers.path_validation (ticked e.closing now).clock ≡ true)
 
--- these stay
-record Same (e f : End) : Type 0 where
+-- these stay, and PATH_CHALLENGE waits anew only where this is so
+record Same (asks : Bool) (e f : End) : Type 0 where
   closing : f.closing ≡ e.closing
   alive : f.timers.keep_alive ≡ e.timers.keep_alive
   pinged : f.waiting.signals.ping ≡ e.waiting.signals.ping
   response : f.waiting.signals.response ≡ e.waiting.signals.response
   immediate : f.waiting.signals.immediate ≡ e.waiting.signals.immediate
+  challenged : is_some f.waiting.signals.challenge ≡ true → (is_some e.waiting.signals.challenge ≡ true) ⊎ (asks ≡ true)
 
-same_self : (e : End) → Same e e
-same_self e = record { closing = refl; alive = refl; pinged = refl; response = refl; immediate = refl }
+same_self : (asks : Bool) (e : End) → Same asks e e
+same_self asks e = record { closing = refl; alive = refl; pinged = refl; response = refl; immediate = refl; challenged = λ set. inl set }
 
-settles : (e : End) → Settling (Same e)
-settles e (steps.known n) f i = record { closing = i.closing; alive = i.alive; pinged = i.pinged; response = i.response; immediate = i.immediate }
-settles e s f i = record { closing = i.closing; alive = i.alive; pinged = i.pinged; response = i.response; immediate = i.immediate }
+settles : (asks : Bool) (e : End) → Settling (Same asks e)
+settles asks e (steps.known n) f i = record { closing = i.closing; alive = i.alive; pinged = i.pinged; response = i.response; immediate = i.immediate; challenged = i.challenged }
+settles asks e s f i = record { closing = i.closing; alive = i.alive; pinged = i.pinged; response = i.response; immediate = i.immediate; challenged = i.challenged }
 
-lost_same : (b : Bool) (e : End) → Same e (loss_expired b e)
-lost_same false e = same_self e
-lost_same true e = go e.tracking.loss_time
+lost_same : (asks b : Bool) (e : End) → Same asks e (loss_expired b e)
+lost_same asks false e = same_self asks e
+lost_same asks true e = go e.tracking.loss_time
   where
-    go : (o : Option ℕ) → Same e (loss_judged o e)
-    go None = record { closing = refl; alive = refl; pinged = refl; response = refl; immediate = refl }
-    go (Some moment) = losses_keep (Same e) (settles e) e (same_self e)
+    go : (o : Option ℕ) → Same asks e (loss_judged o e)
+    go None = record { closing = refl; alive = refl; pinged = refl; response = refl; immediate = refl; challenged = λ set. inl set }
+    go (Some moment) = losses_keep (Same asks e) (settles asks e) e (same_self asks e)
 
--- what the timers beside that of losses leave
-busy_timed : (words : ℕ → ℕ) (x : Expiry) (e f : End) → Same e f → (let g : End = after_busy words x f in (g.closing ≡ e.closing) × (g.timers.keep_alive ≡ (if x.keep_alive then None else e.timers.keep_alive)) × (g.waiting.signals.ping ≡ (x.keep_alive || e.waiting.signals.ping)) × (g.waiting.signals.response ≡ e.waiting.signals.response) × (g.waiting.signals.immediate ≡ e.waiting.signals.immediate))
-busy_timed words x e f same = go x.acks x.pacing x.keep_alive (path_expired words x.path f) (path x.path)
+-- What the timers beside that of losses leave.
+record BusyLeaves (x : Expiry) (e g : End) : Type 0 where
+  closing : g.closing ≡ e.closing
+  alive : g.timers.keep_alive ≡ (if x.keep_alive then None else e.timers.keep_alive)
+  pinged : g.waiting.signals.ping ≡ (x.keep_alive || e.waiting.signals.ping)
+  response : g.waiting.signals.response ≡ e.waiting.signals.response
+  immediate : g.waiting.signals.immediate ≡ e.waiting.signals.immediate
+  challenged : is_some g.waiting.signals.challenge ≡ true → (is_some e.waiting.signals.challenge ≡ true) ⊎ (x.path ≡ true)
+
+busy_timed : (words : ℕ → ℕ) (x : Expiry) (e f : End) → Same x.path e f → BusyLeaves x e (after_busy words x f)
+busy_timed words x e f same = (let left = go x.acks x.pacing x.keep_alive (path_expired words x.path f) (path x.path same) in record {
+  closing = left.0;
+  alive = left.1;
+  pinged = left.2;
+  response = left.3;
+  immediate = left.4;
+  challenged = left.5;
+})
   where
-    anew : (b : Bool) → Same e (challenged_anew words b f)
-    anew true = record { closing = same.closing; alive = same.alive; pinged = same.pinged; response = same.response; immediate = same.immediate }
-    anew false = record { closing = same.closing; alive = same.alive; pinged = same.pinged; response = same.response; immediate = same.immediate }
+    anew : (b : Bool) → Same true e f → Same true e (challenged_anew words b f)
+    anew true i = record { closing = i.closing; alive = i.alive; pinged = i.pinged; response = i.response; immediate = i.immediate; challenged = λ set. inr refl }
+    anew false i = record { closing = i.closing; alive = i.alive; pinged = i.pinged; response = i.response; immediate = i.immediate; challenged = i.challenged }
 
-    path : (b : Bool) → Same e (path_expired words b f)
-    path true = anew (nat_lt f.validation.drawn most_challenges)
-    path false = same
+    path : (b : Bool) → Same b e f → Same b e (path_expired words b f)
+    path true i = anew (nat_lt f.validation.drawn most_challenges) i
+    path false i = i
 
-    go : (acks pacing keeps : Bool) (h : End) → Same e h → (let g : End = with_loss_timer (acks_expired acks (pacing_expired pacing (keep_alive_expired keeps h))) in (g.closing ≡ e.closing) × (g.timers.keep_alive ≡ (if keeps then None else e.timers.keep_alive)) × (g.waiting.signals.ping ≡ (keeps || e.waiting.signals.ping)) × (g.waiting.signals.response ≡ e.waiting.signals.response) × (g.waiting.signals.immediate ≡ e.waiting.signals.immediate))
-    go true true true h i = (i.closing, refl, refl, i.response, i.immediate)
-    go true true false h i = (i.closing, i.alive, i.pinged, i.response, i.immediate)
-    go true false true h i = (i.closing, refl, refl, i.response, i.immediate)
-    go true false false h i = (i.closing, i.alive, i.pinged, i.response, i.immediate)
-    go false true true h i = (i.closing, refl, refl, i.response, i.immediate)
-    go false true false h i = (i.closing, i.alive, i.pinged, i.response, i.immediate)
-    go false false true h i = (i.closing, refl, refl, i.response, i.immediate)
-    go false false false h i = (i.closing, i.alive, i.pinged, i.response, i.immediate)
+    go : (acks pacing keeps : Bool) (h : End) → Same x.path e h → (let g : End = with_loss_timer (acks_expired acks (pacing_expired pacing (keep_alive_expired keeps h))) in (g.closing ≡ e.closing) × (g.timers.keep_alive ≡ (if keeps then None else e.timers.keep_alive)) × (g.waiting.signals.ping ≡ (keeps || e.waiting.signals.ping)) × (g.waiting.signals.response ≡ e.waiting.signals.response) × (g.waiting.signals.immediate ≡ e.waiting.signals.immediate) × (is_some g.waiting.signals.challenge ≡ true → (is_some e.waiting.signals.challenge ≡ true) ⊎ (x.path ≡ true)))
+    go true true true h i = (i.closing, refl, refl, i.response, i.immediate, i.challenged)
+    go true true false h i = (i.closing, i.alive, i.pinged, i.response, i.immediate, i.challenged)
+    go true false true h i = (i.closing, refl, refl, i.response, i.immediate, i.challenged)
+    go true false false h i = (i.closing, i.alive, i.pinged, i.response, i.immediate, i.challenged)
+    go false true true h i = (i.closing, refl, refl, i.response, i.immediate, i.challenged)
+    go false true false h i = (i.closing, i.alive, i.pinged, i.response, i.immediate, i.challenged)
+    go false false true h i = (i.closing, refl, refl, i.response, i.immediate, i.challenged)
+    go false false false h i = (i.closing, i.alive, i.pinged, i.response, i.immediate, i.challenged)
 
 -- an end that is open still wasn't idle
 pub timed : (p : Policy) (e : End) (now : ℕ) → e.closing.state ≡ states.Open → (timed_out p e now).end.closing.state ≡ states.Open → Timed e (timed_out p e now).end now
@@ -198,7 +217,7 @@ timed p e now opened = subst (λ (s : State). (timed_out_in s p e now).end.closi
 
     idle : (b : Bool) → (unless_idle b p.words x (loss_expired x.loss begins)).closing.state ≡ states.Open → Timed e (unless_idle b p.words x (loss_expired x.loss begins)) now
     idle true still = cc
-    idle false still = (let left = busy_timed p.words x begins (loss_expired x.loss begins) (lost_same x.loss begins) in record { closing = left.0; alive = left.1; pinged = left.2; response = left.3; immediate = left.4 })
+    idle false still = (let left = busy_timed p.words x begins (loss_expired x.loss begins) (lost_same x.path x.loss begins) in record { closing = left.closing; alive = left.alive; pinged = left.pinged; response = left.response; immediate = left.immediate; challenged = left.challenged })
 
 -- whether PING is to keep an end alive at the moment of a call
 abbrev pub wakes_at : End → Call → Bool

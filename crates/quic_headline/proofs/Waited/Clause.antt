@@ -64,7 +64,7 @@ use Rattle.quic_headline.proofs.Requests.Group.{Counted, counted_group}
 -- ---- frames
 
 -- PADDING alone
-in_padding : (f : FrameValue) (count : ℕ) → In f (replicate count padding) → f ≡ padding
+pub in_padding : (f : FrameValue) (count : ℕ) → In f (replicate count padding) → f ≡ padding
 in_padding f zero i = absurd i
 in_padding f (suc count) (inl is) = is
 in_padding f (suc count) (inr more) = in_padding f count more
@@ -91,7 +91,8 @@ module _ (q : Asking) (w : Wants) (e : End) (i : IsWanted w e) where
       go true is = inr (sym known ∙ i.asked is waits)
       go false is = inl is
 
-  -- so a frame waited that brings something, and says what waits, HANDSHAKE_DONE where it was said so
+  -- so a frame waited that brings something, and says what waits, HANDSHAKE_DONE where it was said
+  -- so
   frame_waited : (f : FrameValue) → Brings w.watch.flight.acked e f → ((k : Flag) → says k f ≡ true → flag k e.waiting ≡ true) → (is_ack_frequency f ≡ true → Asked) → (e.waiting.frames.handshake_done ≡ true → w.done ≡ true) → FrameWaited q w f
   frame_waited ping brings waits asks done = i.pinged brings
   frame_waited immediate_ack brings waits asks done = i.hastened brings

@@ -6,6 +6,7 @@ use Rattle.quic_headline.proofs.Allowed.Over.{reads_are_over}
 use Rattle.quic_headline.proofs.Allowed.Reads.{reads_are_allowed}
 use Rattle.quic_headline.proofs.Allowed.Writes.{resets_are_allowed, writes_are_allowed}
 use Rattle.quic_headline.proofs.Amounts.Clause.{writes_take_what_limits_allow}
+use Rattle.quic_headline.proofs.Amounts.Opening.{opening_is_exact}
 use Rattle.quic_headline.proofs.Amounts.PeerLimits.{limits_are_the_peers}
 use Rattle.quic_headline.proofs.AppLimited.Clause.{controllers_are_told}
 use Rattle.quic_headline.proofs.Begins.Clause.{waiting_begins}
@@ -16,20 +17,28 @@ use Rattle.quic_headline.proofs.Causes.Limited.{key_limited}
 use Rattle.quic_headline.proofs.Causes.Owed.{closes_are_owed, drained_are_silent, owed_closes_go}
 use Rattle.quic_headline.proofs.Causes.Pieces.{too_many_came}
 use Rattle.quic_headline.proofs.Causes.Reasons.{closed_has_a_reason}
+use Rattle.quic_headline.proofs.Causes.Refusals.{refusals_close}
 use Rattle.quic_headline.proofs.Causes.Said.{closes_say_why, peer_closes_come}
+use Rattle.quic_headline.proofs.Causes.Shut.{closes_for_application, closes_for_peer, idles_out}
 use Rattle.quic_headline.proofs.Causes.Taken.{taken_exactly}
 use Rattle.quic_headline.proofs.Causes.Unfailed.{never_fails}
 use Rattle.quic_headline.proofs.Channel.Clauses.{no_blame, taken_or_too_many}
+use Rattle.quic_headline.proofs.Channel.Codes.{resets_say, stops_say}
+use Rattle.quic_headline.proofs.Channel.Unreset.{nothing_behind_resets}
 use Rattle.quic_headline.proofs.Confirmed.Clause.{confirmation_is_told, done_is_exact}
 use Rattle.quic_headline.proofs.Credit.Clause.{credit_is_bounded}
 use Rattle.quic_headline.proofs.Credit.Counts.{counts_are_bounded}
 use Rattle.quic_headline.proofs.Destined.InUse.{ids_are_in_use}
 use Rattle.quic_headline.proofs.Duties.Clause.{duties_stand}
+use Rattle.quic_headline.proofs.Events.Available.{available_is_told}
+use Rattle.quic_headline.proofs.Events.Lost.{loss_is_told}
 use Rattle.quic_headline.proofs.Events.Mail.{messages_are_told}
 use Rattle.quic_headline.proofs.Events.Openings.{openings_are_told}
 use Rattle.quic_headline.proofs.Events.Readables.{readables_are_told}
 use Rattle.quic_headline.proofs.Events.Writables.{writables_are_told}
 use Rattle.quic_headline.proofs.Held.Clause.{polls_send_messages, polls_send_what_waits}
+use Rattle.quic_headline.proofs.Held.Control.{control_goes, retirements_go}
+use Rattle.quic_headline.proofs.Held.Limits.{limits_go}
 use Rattle.quic_headline.proofs.Held.Threefold.{threefold}
 use Rattle.quic_headline.proofs.Marking.Clause.{marks_go}
 use Rattle.quic_headline.proofs.Messages.Lists.{messages_go}
@@ -39,15 +48,19 @@ use Rattle.quic_headline.proofs.Moves.Clause.{drops_other_addresses, goes_to_pat
 use Rattle.quic_headline.proofs.NextIds.Clause.{no_id_is_exact, too_many_is_exact}
 use Rattle.quic_headline.proofs.NextIds.Stays.{stays_for_a_reason}
 use Rattle.quic_headline.proofs.Packets.Quiet.{heard_nothing}
+use Rattle.quic_headline.proofs.Places.Drawn.{numbers_are_drawn}
 use Rattle.quic_headline.proofs.Places.Theorems.{accepted_were_opened, accepts_all, ack_moments, acknowledged_were_taken, asking_goes_where_let, blocked_only_without_bytes, datagrams_are_sized, end_after_all, finished_means_arrived, grown_limits_wait, ids_are_issued, ids_are_new, keys_last, loss_moments, loss_timer_quiet, messages_at_most_once, names_were_taken, newest_opens, newest_opens_at_end, number_limit, numbers_rise, once, opens_exactly, ordered_prefix, pacer_sets_its_timer, resets_are_told, size_is_of_history, sizes_move, slices, told_ids_are_known, tracks_in_flight, unknown_only_where_retired, window_is_of_history}
 use Rattle.quic_headline.proofs.Requests.Clause.{requests_say}
+use Rattle.quic_headline.proofs.Responses.Clause.{challenges_answered, path_frames_fill, responses_answer}
 use Rattle.quic_headline.proofs.Rest.Delivered.{delivered_at_rest, done_at_rest}
+use Rattle.quic_headline.proofs.Rest.Control.{resets_at_rest, stops_at_rest, retirements_at_rest, limits_at_rest, stream_limits_at_rest}
 use Rattle.quic_headline.proofs.Rest.Owed.{nothing_owed_at_rest}
 use Rattle.quic_headline.proofs.Settled.Clause.{finished_is_told}
 use Rattle.quic_headline.proofs.Spread.Clause.{pacer_is_of_history}
 use Rattle.quic_headline.proofs.Spread.Hastens.{probes_hasten}
 use Rattle.quic_headline.proofs.Spread.PingsGo.{pings_go}
 use Rattle.quic_headline.proofs.Spread.RequestsGo.{requests_go}
+use Rattle.quic_headline.proofs.Tellings.Reno.{reno_windows}
 use Rattle.quic_headline.proofs.Steps.Passing.{probes_pass}
 use Rattle.quic_headline.proofs.Timers.AliveMoments.{alive_moments}
 use Rattle.quic_headline.proofs.Timers.CloseMoments.{close_moments, drains_in_time}
@@ -58,6 +71,7 @@ use Rattle.quic_headline.proofs.Timers.Shown.{views_tell}
 use Rattle.quic_headline.proofs.Unread.Clause.{blocked_only_for_unread}
 use Rattle.quic_headline.proofs.Unread.OpeningClause.{none_opened_only_for_undone}
 use Rattle.quic_headline.proofs.Validated.Clause.{answers_validate, validated_by_answer}
+use Rattle.quic_headline.proofs.Validated.Own.{challenges_are_own}
 use Rattle.quic_headline.proofs.Waited.Clause.{each_waited}
 use Rattle.quic_headline.proofs.Waited.Timers.{ack_timers_are_set}
 use Rattle.quic_headline.proofs.headline.honest_runs_keep_promises.Goals as goal
@@ -85,6 +99,7 @@ returns c = λ r end honest is. (let heard = heard_nothing r honest in record {
   };
   limits = record {
     limits_are_the_peers = limits_are_the_peers r end honest is;
+    opening_is_exact = opening_is_exact r end honest is;
     writes_take_what_limits_allow = writes_take_what_limits_allow r end honest is;
     grown_limits_wait = grown_limits_wait r end honest is;
     credit_is_bounded = credit_is_bounded r end honest is;
@@ -95,7 +110,13 @@ returns c = λ r end honest is. (let heard = heard_nothing r honest in record {
     polls_send_what_waits = polls_send_what_waits r end honest is heard;
     each_waited = each_waited r end honest is;
     pings_go = pings_go r end honest is;
+    control_goes = control_goes r end honest is;
+    retirements_go = retirements_go r end honest is;
+    limits_go = limits_go r end honest is;
     waiting_begins = waiting_begins r end honest is;
+    stops_say = stops_say r end honest is;
+    resets_say = resets_say r end honest is;
+    nothing_behind_resets = nothing_behind_resets r end honest is;
   };
   messages = record {
     messages_at_most_once = messages_at_most_once r end honest is;
@@ -108,6 +129,8 @@ returns c = λ r end honest is. (let heard = heard_nothing r honest in record {
     openings_are_told = openings_are_told r end honest is;
     readables_are_told = readables_are_told r end honest is;
     writables_are_told = writables_are_told r end honest is;
+    available_is_told = available_is_told r end honest is;
+    loss_is_told = loss_is_told r end honest is;
     done_is_exact = done_is_exact r end honest is;
     confirmation_is_told = confirmation_is_told r end honest is;
     views_tell = views_tell r end honest is;
@@ -131,6 +154,7 @@ returns c = λ r end honest is. (let heard = heard_nothing r honest in record {
     probes_hasten = probes_hasten r end honest is;
     marks_go = marks_go r end honest is;
     controllers_are_told = controllers_are_told r end honest is heard;
+    reno_windows = reno_windows r (controllers_are_told r end honest is heard);
     window_is_of_history = window_is_of_history r end honest is;
   };
   paces = record {
@@ -145,6 +169,7 @@ returns c = λ r end honest is. (let heard = heard_nothing r honest in record {
   };
   numbers = record {
     numbers_rise = numbers_rise r end honest is;
+    numbers_are_drawn = numbers_are_drawn r end honest is;
     opens_exactly = opens_exactly r end honest is;
     newest_opens = newest_opens r end honest is;
     newest_opens_at_end = newest_opens_at_end r end honest is;
@@ -160,8 +185,12 @@ returns c = λ r end honest is. (let heard = heard_nothing r honest in record {
   };
   validates = record {
     threefold = threefold r end honest is;
+    challenges_are_own = challenges_are_own r end honest is;
     validated_by_answer = validated_by_answer r end honest is;
     answers_validate = answers_validate r end honest is;
+    responses_answer = responses_answer r end honest is;
+    challenges_answered = challenges_answered r end honest is;
+    path_frames_fill = path_frames_fill r end honest is;
     goes_to_path = goes_to_path r end honest is;
     path_changes_exactly = path_changes_exactly r end honest is;
     drops_other_addresses = drops_other_addresses r end honest is;
@@ -179,6 +208,10 @@ returns c = λ r end honest is. (let heard = heard_nothing r honest in record {
     number_limit = number_limit r end honest is;
     key_limited = key_limited r end honest is;
     keys_last = keys_last r end honest is;
+    idles_out = idles_out r end honest is;
+    closes_for_peer = closes_for_peer r end honest is;
+    closes_for_application = closes_for_application r end honest is;
+    refusals_close = refusals_close r end honest is;
   };
   closes = record {
     closes_say_why = closes_say_why r end honest is;
@@ -199,6 +232,11 @@ returns c = λ r end honest is. (let heard = heard_nothing r honest in record {
   rests = record {
     delivered_at_rest = delivered_at_rest r end honest is;
     done_at_rest = done_at_rest r end honest is;
+    resets_at_rest = resets_at_rest r end honest is;
+    stops_at_rest = stops_at_rest r end honest is;
+    retirements_at_rest = retirements_at_rest r end honest is;
+    limits_at_rest = limits_at_rest r end honest is;
+    stream_limits_at_rest = stream_limits_at_rest r end honest is;
     nothing_owed_at_rest = nothing_owed_at_rest r end honest is;
     blocked_only_for_unread = blocked_only_for_unread r end honest is;
     none_opened_only_for_undone = none_opened_only_for_undone r end honest is;

@@ -1,0 +1,5 @@
+use Rattle.quic_worked.proofs.ArrivedRun.{forgotten_stop, stop_is_honest, stop_is_none}
+use Rattle.quic_worked.proofs.arrived.forgotten_stop_shows.Goals as goal
+
+pub returns : goal.returns
+returns c = record { rest = forgotten_stop; premises = stop_is_honest; machine = stop_is_none }
