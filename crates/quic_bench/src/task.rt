@@ -20,6 +20,44 @@ const FOUND_MTU: u16 = 1452;
 /// How many nanoseconds a millisecond has.
 const MILLISECOND: u64 = 1_000_000;
 
+/// The name of a workload.
+#[derive(Clone, Copy)]
+enum Kind {
+    Bulk,
+    Unread,
+    Duplex,
+    Growth,
+    Shrink,
+    Streams,
+    Idle,
+    Requests,
+    Messages,
+    Connections,
+    Hostile,
+    Floor,
+}
+
+impl Kind {
+    /// The one that a word says, if there is one.
+    fn read(word: &str) -> Option<Self> {
+        Some(match word {
+            "bulk" => Kind::Bulk,
+            "unread" => Kind::Unread,
+            "duplex" => Kind::Duplex,
+            "growth" => Kind::Growth,
+            "shrink" => Kind::Shrink,
+            "streams" => Kind::Streams,
+            "idle" => Kind::Idle,
+            "requests" => Kind::Requests,
+            "messages" => Kind::Messages,
+            "connections" => Kind::Connections,
+            "hostile" => Kind::Hostile,
+            "floor" => Kind::Floor,
+            _ => return None,
+        })
+    }
+}
+
 /// A workload, with its values.
 #[derive(Clone, Copy)]
 pub enum Workload {
@@ -197,41 +235,40 @@ impl Values {
         }
     }
 
-    /// The workload of this name with its values, if there is one; of `hostile` with this attack.
-    fn workload(&mut self, name: &str, attack: Option<Attack>) -> Option<Workload> {
-        Some(match name {
-            "bulk" => Workload::Bulk {
+    /// The workload of this kind, as they say; of `hostile` with this attack, and none without one.
+    fn workload(&mut self, kind: Kind, attack: Option<Attack>) -> Option<Workload> {
+        Some(match kind {
+            Kind::Bulk => Workload::Bulk {
                 plan: self.plan(64 << 20, false),
             },
-            "unread" => Workload::Bulk {
+            Kind::Unread => Workload::Bulk {
                 plan: self.plan(1_200_000, true),
             },
-            "requests" => self.requests(),
-            "duplex" => Workload::Duplex {
+            Kind::Requests => self.requests(),
+            Kind::Duplex => Workload::Duplex {
                 bytes: self.take("bytes", 64 << 20),
             },
-            "idle" => Workload::Idle {
+            Kind::Idle => Workload::Idle {
                 count: self.take("count", 10_000),
             },
-            "connections" => Workload::Connections {
+            Kind::Connections => Workload::Connections {
                 count: self.take("count", 1000),
             },
-            "growth" => Workload::Growth {
+            Kind::Growth => Workload::Growth {
                 bytes: self.take("bytes", 16 << 20),
                 times: self.take("times", 4),
             },
-            "shrink" => self.shrink(),
-            "streams" => self.streams(),
-            "messages" => Workload::Messages {
+            Kind::Shrink => self.shrink(),
+            Kind::Streams => self.streams(),
+            Kind::Messages => Workload::Messages {
                 count: self.take("count", 1_000_000),
                 size: self.take("size", 100),
                 ahead: self.take("ahead", 10_000),
             },
-            "floor" => Workload::Floor {
+            Kind::Floor => Workload::Floor {
                 count: self.take("count", 1_000_000),
             },
-            "hostile" => self.hostile(attack?),
-            _ => return None,
+            Kind::Hostile => self.hostile(attack?),
         })
     }
 
@@ -257,14 +294,37 @@ impl Values {
             delay: delay.saturating_mul(MILLISECOND),
         }
     }
+
+    /// What is asked for of this kind, of `hostile` with this attack; none where they have a name
+    /// that isn't known, or the work can't be done.
+    fn task(&mut self, kind: Kind, attack: Option<Attack>) -> Option<Task> {
+        let workload = self.workload(kind, attack)?;
+        let task = Task {
+            workload,
+            network: self.network(),
+            link: self.link(workload.mtu()),
+            window: self.take("window", DEFAULT_WINDOW),
+            threshold: self.given.remove("threshold"),
+        };
+        if self.given.is_empty() && task.can_be_done() {
+            Some(task)
+        } else {
+            None
+        }
+    }
 }
 
-/// The attack that the word behind the name `hostile` says.
-fn attack_in(name: &str, words: &mut SplitWhitespace<'_>) -> Option<Attack> {
-    if name != "hostile" {
-        return None;
+/// The kind of workload that the next word says.
+fn kind_in(words: &mut SplitWhitespace<'_>) -> Option<Kind> {
+    Kind::read(words.next()?)
+}
+
+/// The attack that the next word says, for a workload that is one.
+fn attack_in(kind: Kind, words: &mut SplitWhitespace<'_>) -> Option<Attack> {
+    match kind {
+        Kind::Hostile => Attack::read(words.next()?),
+        _ => None,
     }
-    Attack::read(words.next()?)
 }
 
 impl Task {
@@ -276,28 +336,14 @@ impl Task {
     /// - [`AllocError`]: an allocation fails.
     pub fn read(alloc: Global, line: &str) -> Result<Option<Self>, AllocError> {
         let mut words = line.split_whitespace();
-        let Some(name) = words.next() else {
+        let Some(kind) = kind_in(&mut words) else {
             return Ok(None);
         };
-        let attack = attack_in(name, &mut words);
+        let attack = attack_in(kind, &mut words);
         let Some(mut values) = Values::read(alloc, words)? else {
             return Ok(None);
         };
-        let Some(workload) = values.workload(name, attack) else {
-            return Ok(None);
-        };
-        let task = Task {
-            workload,
-            network: values.network(),
-            link: values.link(workload.mtu()),
-            window: values.take("window", DEFAULT_WINDOW),
-            threshold: values.given.remove("threshold"),
-        };
-        if values.given.is_empty() && task.can_be_done() {
-            Ok(Some(task))
-        } else {
-            Ok(None)
-        }
+        Ok(values.task(kind, attack))
     }
 
     /// Whether the work can be done as it is asked for: it has an end (lost messages don't come
