@@ -5,7 +5,8 @@
     python3 examples/bars.py --check    says whether the picture is that of the table
     python3 examples/bars.py --help     prints this
 
-A bar is what this takes for each instruction of quinn-proto's, and the line is where both are alike.
+A bar is what this takes for each instruction of the better of quinn-proto and ngtcp2, and the line
+is where both are alike.
 """
 import re
 import sys
@@ -19,7 +20,7 @@ STYLE = (
     "text{font:12px sans-serif;fill:#222}.t{font-size:15px;font-weight:bold}.e{text-anchor:end}"
     ".v{paint-order:stroke;stroke:#fff;stroke-width:3px}.m{text-anchor:middle;fill:#555}"
 )
-ROW_OF = r"(?m)^\| (.+?) \| [\d.,]+ \| [\d.,]+ \| ([\d.]+) \|$"
+ROW_OF = r"(?m)^\| (.+?) \| [\d.,]+ \| [\d.,-]+ \| [\d.,]+ \| ([\d.]+) \|$"
 
 
 def rows():
@@ -38,9 +39,9 @@ def drawn(table):
     size = f'viewBox="0 0 {WIDE} {bottom + 12}" width="{WIDE}" height="{bottom + 12}"'
     yield f'<svg xmlns="http://www.w3.org/2000/svg" {size}>'
     yield f'<style>{STYLE}</style><rect width="100%" height="100%" fill="#fff"/>'
-    title = "Processor instructions for each one of quinn-proto&#8217;s"
+    title = "Processor instructions for each one of the better of quinn-proto and ngtcp2"
     yield f'<text class="t" x="12" y="22">{title}</text>'
-    yield f'<text class="m" x="{one:.0f}" y="{HEAD - 8}">quinn-proto</text>'
+    yield f'<text class="m" x="{one:.0f}" y="{HEAD - 8}">the better</text>'
     yield f'<path d="M{one:.0f} {HEAD - 2}V{bottom}" stroke="#222" stroke-dasharray="4 3"/>'
     for at, (work, ratio) in enumerate(table):
         y = HEAD + ROW * at

@@ -53,8 +53,9 @@ pub struct Assembler {
     picked: BTreeMap<u64, u64>,
     // Offsets from `read` on that are known to have arrived: they wait, or were picked. An insert
     // skips them a run at a time, and needn't look each part up. Those lack that came while nothing
-    // waited: most come in order and are read at once, and noting them would be for nothing. Some
-    // lack where memory did, or once parts were cleared. That costs time, and nothing else.
+    // waited, or where the last part ended: most come in order, and noting them would be for
+    // nothing. Some lack where memory did, or once parts were cleared. That costs time, and nothing
+    // else.
     arrived: OffsetSet,
     // The number of bytes that were read, kept so that none has to be counted.
     total: u64,
@@ -72,13 +73,13 @@ impl Model for Assembler {
     ghost invariant = { Arranged };
 }
 
-// Notes the offsets of a range as arrived, if something waited before they came. Without memory for
-// it, later inserts are as right.
-fn note(arrived: &mut OffsetSet, waited: bool, start: u64, end: u64)
+// Notes the offsets of a range as arrived, if parts waited apart from it before it came. Without
+// memory for it, later inserts are as right.
+fn note(arrived: &mut OffsetSet, apart: bool, start: u64, end: u64)
     requires { end < 2 ^ 62 }
     ensures { (o : ℕ) → Has arrived.new o → (Has arrived.old o ⊎ ((start ≤ o) × (o < end))) }
 {
-    if waited {
+    if apart {
         let _ = arrived.insert(start..end);
     }
 }
@@ -128,8 +129,8 @@ impl Assembler {
         self.parts.runs()
     }
 
-    // Whether an unordered read was made.
-    fn is_unordered(&self) -> bool
+    /// Whether an unordered read was made.
+    pub fn is_unordered(&self) -> bool
         ensures value { result ≡ self.now.unordered }
         ensures lawful { IsLawful self.now }
     {
@@ -195,11 +196,11 @@ impl Assembler {
     /// insert that joins looks each part up, and holds both maps until it ends. Each other takes a
     /// few look-ups for each gap that it fills: what has arrived is skipped a run at a time, in
     /// however many parts it waits or was given. Bytes behind all that wait need only the last part
-    /// looked up, where no unordered read gave any. A range that comes while nothing waits isn't
-    /// noted as arrived: the next insert that has offsets of it while something waits looks up each
-    /// part and each run that was given there, and notes its own range. Bytes behind all that wait
-    /// are copied by `copies`, where copies of many streams may share memory. quinn-proto's
-    /// `Assembler::insert`.
+    /// looked up, where no unordered read gave any. A range that comes while nothing waits, or
+    /// where the last part ends, isn't noted as arrived: the next insert that has offsets of it
+    /// while something waits looks up each part and each run that was given there, and notes its
+    /// own range. Bytes behind all that wait are copied by `copies`, where copies of many streams
+    /// may share memory. quinn-proto's `Assembler::insert`.
     ///
     /// # Errors
     ///
@@ -220,11 +221,11 @@ impl Assembler {
     {
         let known = self.read.saturating_sub(offset).min(bytes.len() as u64);
         let at = offset + known;
-        let waited = self.parts.is_some();
+        let apart = self.parts.wait_apart(at);
         let new = &bytes[known as usize..];
         self.parts
             .insert(&self.picked, &self.arrived, at, new, copies)?;
-        note(&mut self.arrived, waited, at, offset + bytes.len() as u64);
+        note(&mut self.arrived, apart, at, offset + bytes.len() as u64);
         Ok(())
     }
 

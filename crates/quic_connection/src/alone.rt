@@ -11,6 +11,7 @@ ghost use Rattle.quic_headline.specs.LoneCloses.{ClosedForCause, DrainedForCause
 ghost use Rattle.quic_headline.specs.FewCloses.{IsClosing, CloseFew};
 ghost use Rattle.quic_headline.specs.Nonces.{SealedOnce};
 ghost use Rattle.quic_headline.specs.LoneAcks.{AcksTaken, CodesAreSmall};
+ghost use Rattle.quic_headline.specs.LoneMessages.{TakesFit};
 ghost use Rattle.quic_connection_parts.specs.Telling.{windows_of};
 ghost use Rattle.quic_connection_parts.specs.Drawn.{words_of};
 ghost use Rattle.quic_connection.specs.Ends.{GoesOn};
@@ -72,7 +73,9 @@ pub struct Alone {
 /// a packet number above those before, and no more than [`PacketKey::confidentiality_limit`] lets
 /// it: no nonce is used twice (RFC 9000, section 12.3; RFC 9001, sections 5.3 and 6.6). Each number
 /// that a reader finds in an ACK frame of such a datagram is that of a packet that a call before it
-/// handed in, and that was answered `Received::Taken` (RFC 9000, section 13.1).
+/// handed in, and that was answered `Received::Taken` (RFC 9000, section 13.1). No message of such
+/// a packet is longer than the receive buffer for messages, and none comes where there is no such
+/// buffer (RFC 9221, section 3).
 pub fn run_alone<H: HeaderKey + Drop, K: PacketKey + Drop, R: Rng + Drop, C: Controller>(
     alloc: Global,
     end: &mut Connection<H, K, R, C>,
@@ -118,6 +121,9 @@ pub fn run_alone<H: HeaderKey + Drop, K: PacketKey + Drop, R: Rng + Drop, C: Con
         → AcksTaken (policy_of H.protection K.aead K.seal_limit K.refusal_limit (words_of R.stream) end.old) theirs.now []
         (take (length result.answers.items) calls.now) result.answers.items
         (drop (length given.old.items) given.new.items) }
+    ensures messages_fit { (new : IsNew end.old.end)
+        → TakesFit (policy_of H.protection K.aead K.seal_limit K.refusal_limit (words_of R.stream) end.old) theirs.now
+        new.settings.datagram_receive_buffer_size [] (take (length result.answers.items) calls.now) result.answers.items }
 {
     // What the machine keeps at one end alone: laws, which do nothing.
     headline::bytes_come();
@@ -130,6 +136,7 @@ pub fn run_alone<H: HeaderKey + Drop, K: PacketKey + Drop, R: Rng + Drop, C: Con
     headline::closes_few();
     headline::seals_once();
     headline::acks_only_taken();
+    headline::messages_fit();
     show_codes(calls);
     make_calls(alloc, end, given, theirs, calls)
 }

@@ -104,6 +104,8 @@ pub fn run<H: HeaderKey + Drop, K: PacketKey + Drop, R: Rng + Drop, C: Controlle
     headline::isolated();
     headline::isolated_by_answers();
     headline::isolated_by_lists();
+    headline::runs_agree();
+    headline::idle_runs_agree();
     show_codes(events);
     run_events(alloc, ends, events)
 }

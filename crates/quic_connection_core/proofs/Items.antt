@@ -38,6 +38,14 @@ answers_at false (Ok (path_response token)) e = refl
 answers_at false (Ok f) e = refl
 answers_at false (Err x) e = refl
 
+-- a frame that isn't of path validation is the same from everywhere
+pub same_at : (here : Bool) (i : Item) → item_elsewhere i ≡ i → item_at here i ≡ i
+same_at true i same = refl
+same_at false i same = same
+
+pub same_first : (here : Bool) (i : Item) (is all : List Item) → item_elsewhere i ≡ i → all ≡ i ∷ is → items_at here all ≡ i ∷ items_at here is
+same_first here i is all same first = first_at here i is all first ∙ ap (λ (j : Item). j ∷ items_at here is) (same_at here i same)
+
 -- ---- one after another
 
 -- one that is taken, and the others behind it
@@ -65,6 +73,10 @@ pub told_stop : {C : Type 0} (steps : Steps C) (c d : C) (i : Item) (is all : Li
     → after_calls steps c (told_items all e) ≡ whole → IfSome o (λ fault. d ≡ whole)
 told_stop steps c d i is all e f None whole first takes tells is_whole = tt
 told_stop steps c d i is all e f (Some fault) whole first takes tells is_whole = told_last steps c d i is all e f fault first takes tells ∙ is_whole
+
+pub taken_stop : (i : Item) (is all : List Item) (e f : End) (o : Option Fault) (whole : Progress) → all ≡ i ∷ is → IfSome o (λ fault. take_item i e ≡ record { end = f; fault = Some fault }) → take_items all e ≡ whole → IfSome o (λ fault. whole ≡ record { end = f; fault = Some fault })
+taken_stop i is all e f None whole first takes is_whole = tt
+taken_stop i is all e f (Some fault) whole first takes is_whole = sym is_whole ∙ ap (λ (xs : List Item). take_items xs e) first ∙ ap (λ (p : Progress). behind p (take_items is)) takes
 
 -- ---- what items ask for
 
@@ -106,6 +118,16 @@ urged_step a b whole mark asks others_ask all_ask i is all e f first all_so take
     ∙ ap (λ (x : Bool). a || (is_congested mark && (x || (item_answers i e || items_answer is (take_item i e).end)))) (sym all_so)
     ∙ ap (λ (xs : List Item). a || is_urged mark all_ask xs e) (sym first)
     ∙ before
+
+-- a frame that asks, and urges where the packet has the mark
+pub asking_asks : (a : Bool) → true ≡ (a || true)
+asking_asks true = refl
+asking_asks false = refl
+
+pub asking_urges : (a c : Bool) → (a || c) ≡ (a || (c && true))
+asking_urges true c = refl
+asking_urges false true = refl
+asking_urges false false = refl
 
 none_urge : (a c : Bool) → (a || (c && false)) ≡ a
 none_urge true c = refl

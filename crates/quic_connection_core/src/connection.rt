@@ -55,6 +55,7 @@ use quic_parameters::TransportParameters;
 use quic_paths::{Address, PathData, PathResponses};
 use quic_recovery_core::AckFrequencyState;
 use quic_send_buffer::StreamMeta;
+use quic_sent_packets::SentPacket;
 use quic_spaces::{PacketNumberFilter, PacketSpace, ack_due};
 use quic_stats::ConnectionStats;
 use quic_streams_handles::{EndStreams, RecvStream, SendStream, Streams};
@@ -118,6 +119,8 @@ pub struct Connection<H, K, R, C: Controller> {
     random: R,
     // Memory that is kept for the STREAM frames of the next packets. Contracts don't see it.
     spare_frames: Vec<Vec<StreamMeta>>,
+    // And for the packets that the next ACK frame acknowledges: kept while packets are in flight.
+    spare_acked: Vec<(u64, SentPacket)>,
     alloc: Global,
 }
 
@@ -319,6 +322,7 @@ impl<H: HeaderKey + Drop, K: PacketKey + Drop, R: Rng + Drop, C: Controller> Con
             keys,
             random,
             spare_frames: Vec::new(alloc),
+            spare_acked: Vec::new(alloc),
             alloc,
         };
         Ok(connection.validating())
@@ -562,14 +566,15 @@ impl<H: HeaderKey + Drop, K: PacketKey + Drop, R: Rng + Drop, C: Controller> Con
     fn frames_wait(&self) -> bool
         ensures { result ≡ (not (is_empty self.now.end.waiting.frames self.now.end.streams) || (message_waits self.now.end || can_send_stream_data self.now.end.streams)) }
     {
-        !self.streams.pending.is_empty(&self.streams.state) || self.bytes_wait()
+        // Mostly stream data is, and what else is pending needn't be looked for.
+        self.bytes_wait() || !self.streams.pending.is_empty(&self.streams.state)
     }
 
     /// Whether a message that fits a datagram is pending, or stream data.
     fn bytes_wait(&self) -> bool
         ensures { result ≡ (message_waits self.now.end || can_send_stream_data self.now.end.streams) }
     {
-        self.message_waits() || self.streams.state.can_send_stream_data()
+        self.streams.state.can_send_stream_data() || self.message_waits()
     }
 
     /// Takes the pending PING, if there is one: whether there was.

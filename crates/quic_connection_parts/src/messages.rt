@@ -6,7 +6,11 @@ ghost use Rattle.quic_connection_parts.specs.Frames.{message_part, messages_left
 
 use quic_messages::DatagramState;
 use quic_stats::FrameStats;
-use quic_wire::frame::{Frame, put_frame};
+use quic_wire_core::VarInt;
+use quic_wire_core::reserved::{append, put_varint};
+
+/// The type of a DATAGRAM frame that has its length (RFC 9221, section 4).
+const DATAGRAM_WITH_LENGTH: u8 = 0x31;
 
 /// Appends messages that wait, the oldest first, up to the first that doesn't fit, behind the
 /// frames of a packet whose payload begins at `body` and may have `most` bytes, for which there is
@@ -43,5 +47,7 @@ fn put_message(out: &mut Vec<u8>, message: &[u8])
     ensures len { vec_len out.new ≡ vec_len out.old + frame_size (datagram message.now) }
     ensures capacity { vec_capacity out.old ≤ vec_capacity out.new }
 {
-    put_frame(out, &Frame::Datagram { data: message });
+    append(out, &[DATAGRAM_WITH_LENGTH]);
+    put_varint(out, VarInt::from_u64_unchecked(message.len() as u64));
+    append(out, message);
 }

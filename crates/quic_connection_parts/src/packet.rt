@@ -99,6 +99,31 @@ fn put_control_frames(
     if streams.pending.is_idle() {
         return kept_request(alloc, requests);
     }
+    put_waiting_frames(streams, stats, alloc, requests, body, most, out)
+}
+
+/// The same, where some of these frames wait.
+fn put_waiting_frames(
+    streams: &mut EndStreams,
+    stats: &mut FrameStats,
+    alloc: Global,
+    requests: bool,
+    body: usize,
+    most: usize,
+    out: &mut Vec<u8>,
+) -> Result<ThinRetransmits, AllocError>
+    requires body { body ≤ vec_len out.old }
+    requires within { vec_len out.old ≤ body + most }
+    requires room { body + most ≤ vec_capacity out.old }
+    ensures items { OnOk result (out.new.items ≡ out.old.items ++ spelled_all (control_part most (vec_len out.old - body) streams.old.state streams.old.pending).frames) }
+    ensures within { vec_len out.new ≤ body + most }
+    ensures grows { vec_len out.old ≤ vec_len out.new }
+    ensures capacity { vec_capacity out.old ≤ vec_capacity out.new }
+    ensures state { OnOk result (streams.new.state ≡ (control_part most (vec_len out.old - body) streams.old.state streams.old.pending).state) }
+    ensures pending { OnOk result (streams.new.pending ≡ (control_part most (vec_len out.old - body) streams.old.state streams.old.pending).pending) }
+    ensures carried { IfOk result (λ kept. made kept ≡ record (retransmits_in (control_part most (vec_len out.old - body) streams.old.state streams.old.pending).frames) { ack_frequency = requests }) }
+    ensures front { take (vec_len out.old) out.new.items ≡ out.old.items }
+{
     let before = out.len();
     let mut sent = Retransmits::new(alloc);
     streams

@@ -39,6 +39,22 @@ pub struct AckDemand {
     pub urged: bool,
 }
 
+impl AckDemand {
+    ghost use Rattle.std.specs.Prelude.{◌≡◌, ◌||◌, true};
+
+    /// The same with one more frame, which is ack-eliciting, of a packet that came with this ECN
+    /// codepoint.
+    pub fn with_asking(self, ecn: Option<EcnCodepoint>) -> Self
+        ensures asks { result.asks ≡ true }
+        ensures urged { result.urged ≡ (self.urged || is_congested ecn) }
+    {
+        AckDemand {
+            asks: true,
+            urged: self.urged || is_congested(ecn),
+        }
+    }
+}
+
 impl From<AllocError> for Trouble {
     ghost use Rattle.std.specs.Prelude.{◌≡◌};
     ghost use Rattle.quic_connection_parts.specs.declared.receiving.Trouble.TheVariants as troubles;

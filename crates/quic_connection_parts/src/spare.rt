@@ -2,12 +2,16 @@
 ghost use Rattle.std.specs.Prelude.{◌≡◌, []};
 
 use std::alloc::Global;
+use std::mem;
 
 /// How many places a list has at most whose memory is kept.
 const MOST_PLACES: usize = 16;
 
 /// How many lists are kept at most.
 const MOST_LISTS: usize = 32;
+
+/// How many places a list has at most whose memory is kept alone.
+const MOST_PLACES_ALONE: usize = 128;
 
 /// An empty list, in memory that was kept, if some was.
 pub fn spare_list<T: Drop>(spare: &mut Vec<Vec<T>>, alloc: Global) -> Vec<T>
@@ -28,4 +32,20 @@ pub fn keep_list<T: Drop>(spare: &mut Vec<Vec<T>>, list: Vec<T>) {
     }
     // Where there is no room for it either, it goes.
     let _ = spare.push(list);
+}
+
+/// An empty list, in the memory that was kept, if some was.
+pub fn take_spare<T: Drop>(spare: &mut Vec<T>, alloc: Global) -> Vec<T>
+    ensures { result.items ≡ [] }
+{
+    let mut list = mem::replace(spare, Vec::new(alloc));
+    list.clear();
+    list
+}
+
+/// Keeps the memory of a list for the next one, unless it has much.
+pub fn keep_spare<T: Drop>(spare: &mut Vec<T>, list: Vec<T>) {
+    if list.capacity() <= MOST_PLACES_ALONE {
+        *spare = list;
+    }
 }

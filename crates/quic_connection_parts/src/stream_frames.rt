@@ -46,7 +46,14 @@ pub fn take_other(streams: &mut EndStreams, frame: &Frame<'_>) -> Result<(), Tro
 }
 
 /// Takes a STREAM frame.
-fn take_stream(streams: &mut EndStreams, frame: &Stream<'_>) -> Result<(), Trouble>
+///
+/// # Errors
+///
+/// - [`Trouble::Broke`]: the frame breaks a rule. Nothing changes.
+/// - [`Trouble::Memory`]: an allocation fails. The frame's stream may be open by then, and nothing
+///   else changed.
+/// - [`Trouble::TooManyPieces`]: more ranges of the stream wait than may. The frame is kept.
+pub fn take_stream(streams: &mut EndStreams, frame: &Stream<'_>) -> Result<(), Trouble>
     ensures { TakesOn result (stream (stream_view frame.now)) streams.old streams.new }
 {
     let EndStreams { state, pending } = streams;

@@ -7,3 +7,5 @@ pub mod Clause
 pub mod Counted
 pub mod Marks
 pub mod Marked
+pub mod Newest
+pub mod Delays

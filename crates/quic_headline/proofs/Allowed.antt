@@ -4,3 +4,4 @@ pub mod Halves
 pub mod Reads
 pub mod Writes
 pub mod Over
+pub mod Lacking

@@ -34,3 +34,4 @@ pub mod Taken
 pub mod Routed
 pub mod Amplified
 pub mod Acked
+pub mod Fitting

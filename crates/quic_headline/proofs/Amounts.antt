@@ -9,5 +9,8 @@ pub mod Kept
 pub mod Opens
 pub mod NewIds
 pub mod Clause
+pub mod Blocked
 pub mod PeerLimits
 pub mod Opening
+pub mod InOrder
+pub mod Stopped

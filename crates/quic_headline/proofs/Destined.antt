@@ -6,3 +6,5 @@ pub mod Known
 pub mod Used
 pub mod Issued
 pub mod InUse
+pub mod Fresh
+pub mod Drawn

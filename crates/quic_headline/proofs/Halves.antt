@@ -35,3 +35,4 @@ pub mod Writer
 pub mod Finishing
 pub mod Joined
 pub mod Ready
+pub mod Spelled

@@ -7,3 +7,4 @@ pub mod Idle
 pub mod Erasing
 pub mod Recalling
 pub mod Lists
+pub mod Agreeing

@@ -5,3 +5,5 @@ pub mod Group
 pub mod Asking
 pub mod Clause
 pub mod Own
+pub mod Due
+pub mod Goes

@@ -18,10 +18,15 @@ use Rattle.quic_headline.specs.AcksDue.{AcksAreDue}
 use Rattle.quic_headline.specs.Resets.{ResetsAreTold}
 use Rattle.quic_headline.specs.Ids.{IdsAreNew, AcceptedWereOpened}
 use Rattle.quic_headline.specs.ConnectionIds.{NewestOpensAtEnd, IdsAreIssued, IdsAreInUse, UnknownOnlyWhereRetired, ToldIdsAreKnown, NoIdIsExact, TooManyIsExact, StaysForAReason}
+use Rattle.quic_headline.specs.DrawnIds.{IdsAreDrawn}
 use Rattle.quic_headline.specs.Taken.{TakenExactly}
 use Rattle.quic_headline.specs.Reasons.{ClosedHasAReason, NeverFails}
 use Rattle.quic_headline.specs.Views.{ViewsTell}
 use Rattle.quic_headline.specs.Isolated.{Isolated, IsolatedByAnswers, IsolatedByLists}
+use Rattle.quic_headline.specs.Lacking.{LacksWhereTaken}
+use Rattle.quic_headline.specs.InOrder.{OpensInOrder}
+use Rattle.quic_headline.specs.Stopped.{StoppedTakeNothing}
+use Rattle.quic_headline.specs.TwoRuns.{RunsAgree, IdleRunsAgree}
 use Rattle.quic_headline.specs.Sizes.{DatagramsAreSized, SizeIsOfHistory, SizesMove}
 use Rattle.quic_headline.specs.Unread.{BlockedOnlyForUnread}
 use Rattle.quic_headline.specs.Undone.{NoneOpenedOnlyForUndone}
@@ -34,16 +39,20 @@ use Rattle.quic_headline.specs.Marking.{MarksGo}
 use Rattle.quic_headline.specs.Telling.{ControllersAreTold}
 use Rattle.quic_headline.specs.Reno.{RenoWindows}
 use Rattle.quic_headline.specs.AckFrames.{AcksCountMarks, AcksNameAll}
+use Rattle.quic_headline.specs.AckDelays.{AcksSayDelay}
 use Rattle.quic_headline.specs.Requests.{RequestsSay, RequestsGo}
 use Rattle.quic_headline.specs.Pings.{PingsGo, ProbesHasten}
 use Rattle.quic_headline.specs.Going.{ControlGoes, RetirementsGo, LimitsGo}
 use Rattle.quic_headline.specs.Waited.{AckTimersAreSet, EachWaited}
 use Rattle.quic_headline.specs.Begins.{WaitingBegins}
+use Rattle.quic_headline.specs.Spelled.{StreamsSay}
 use Rattle.quic_headline.specs.Codes.{StopsSay, ResetsSay, NothingBehindResets}
 use Rattle.quic_headline.specs.Spread.{PacerIsOfHistory}
 use Rattle.quic_headline.specs.Threefold.{Threefold}
+use Rattle.quic_headline.specs.Blocking.{BlockedSay}
 use Rattle.quic_headline.specs.PeerLimits.{LimitsAreThePeers, OpeningIsExact}
 use Rattle.quic_headline.specs.Validated.{ChallengesAreOwn, ValidatedByAnswer, AnswersValidate}
+use Rattle.quic_headline.specs.Challenges.{ChallengesGo}
 use Rattle.quic_headline.specs.Responses.{ResponsesAnswer, ChallengesAnswered, PathFramesFill}
 use Rattle.quic_headline.specs.LeftOut.{NumbersAreDrawn}
 use Rattle.quic_headline.specs.Moves.{GoesToPath, PathChangesExactly, DropsOtherAddresses}
@@ -82,6 +91,8 @@ pub record Streams (r : Run) : Type 0 where
   pub accepts_all : AcceptsAll r
   -- a stream that a call opens or accepts at an end, no call before did there (section 2.1)
   pub ids_are_new : IdsAreNew r
+  -- a call opens the stream of its kind behind those that calls opened before (section 2.1)
+  pub opens_in_order : OpensInOrder r
   -- a stream is accepted only where a frame opened it, or one of its kind above it (section 3.2)
   pub accepted_were_opened : AcceptedWereOpened r
   -- calls that read or stop one find it closed only where nothing more is to be read (section 3.2)
@@ -91,6 +102,8 @@ pub record Streams (r : Run) : Type 0 where
   -- calls that write or finish find it closed only where it was finished or reset, or only receives
   -- (section 3.1)
   pub writes_are_allowed : WritesAreAllowed r
+  -- no call writes a byte on a stream that the peer stopped (sections 2.4 and 3.5)
+  pub stopped_take_nothing : StoppedTakeNothing r
   -- calls that reset it find it closed only where it was reset, all of it came, or it only receives
   -- (section 3.1)
   pub resets_are_allowed : ResetsAreAllowed r
@@ -104,6 +117,9 @@ pub record Limits (r : Run) : Type 0 where
   pub opening_is_exact : OpeningIsExact r
   -- a write takes as much as the peer's limits and the send window leave (section 4.1)
   pub writes_take_what_limits_allow : WritesTakeWhatLimitsAllow r
+  -- DATA_BLOCKED and STREAM_DATA_BLOCKED say the greatest limit that the peer told, at which the end
+  -- is blocked (sections 4.1, 19.12 and 19.13)
+  pub blocked_say : BlockedSay r
   -- a limit that grew waits to be told (sections 4.1, 4.2 and 4.6)
   pub grown_limits_wait : GrownLimitsWait r
   -- a limit that an end says lies at most a window past what was consumed (sections 4.1, 19.9 and
@@ -137,6 +153,9 @@ pub record Waits (r : Run) : Type 0 where
   -- what waits behind a call waited before it, or has one of the causes for which such goes
   -- (section 13.3)
   pub waiting_begins : WaitingBegins r
+  -- a STREAM frame has the bytes that were written there, as often as they go, and FIN behind the
+  -- last (sections 2.2 and 19.8)
+  pub streams_say : StreamsSay r
   -- STOP_SENDING has the code with which the application stopped its stream (sections 3.5 and 19.5)
   pub stops_say : StopsSay r
   -- RESET_STREAM has that with which it reset one, and says how many bytes were written (section
@@ -192,6 +211,9 @@ pub record Acknowledges (r : Run) : Type 0 where
   pub acks_name_all : AcksNameAll r
   -- it counts what came with each ECN mark (section 13.4.1)
   pub acks_count_marks : AcksCountMarks r
+  -- it says how long before it goes the packet came with the greatest number (sections 13.2.5 and
+  -- 19.3)
+  pub acks_say_delay : AcksSayDelay r
   -- a poll gives the ACK frame that is due (sections 13.2.1 and 13.2.2)
   pub acks_are_due : AcksAreDue r
   -- the timer of acknowledgements, where set, is set for the first packet that waits (section
@@ -287,6 +309,9 @@ pub record Identifies (r : Run) : Type 0 where
   -- as the path changes the next id comes into use, unless there is none, or too many retirements
   -- would wait (sections 5.1.2 and 9.5)
   pub stays_for_a_reason : StaysForAReason r
+  -- each id that an end tells, and its token, are drawn from the random source, of words of their
+  -- own (sections 5.1 and 10.3.2)
+  pub ids_are_drawn : IdsAreDrawn r
 
 -- What goes to an address, and when that becomes validated (RFC 9000, section 8).
 pub record Validates (r : Run) : Type 0 where
@@ -294,6 +319,9 @@ pub record Validates (r : Run) : Type 0 where
   pub threefold : Threefold r
   -- a PATH_CHALLENGE has data that were drawn from the random source (section 8.2.1)
   pub challenges_are_own : ChallengesAreOwn r
+  -- one goes to an address that isn't validated, and once more in time, but for window, pacer and
+  -- address (sections 8.2.1 and 8.2.4)
+  pub challenges_go : ChallengesGo r
   -- it becomes validated only by the answer to the challenge that went (section 8.2.2)
   pub validated_by_answer : ValidatedByAnswer r
   -- it becomes validated by that answer (section 8.2.3)
@@ -331,6 +359,8 @@ pub record Causes (r : Run) : Type 0 where
   pub closed_has_a_reason : ClosedHasAReason r
   -- an end fails only where a delivery, a poll or a timeout finds no memory
   pub never_fails : NeverFails r
+  -- a call finds no memory, and an end fails for that, only where the call takes some, by the lists
+  pub lacks_where_taken : LacksWhereTaken r
   -- an end closes for its application only where that closed it while it was open (section 10.2)
   pub application_closed : ApplicationClosed r
   -- for its peer only where a view shows why that had closed (section 10.2)
@@ -445,3 +475,7 @@ pub record Isolates (r : Run) (end : World) : Type 0 where
   -- so it is less those that don't open, or came before, by the lists, of ends that were made for
   -- one another
   pub isolated_by_lists : AreStarted r.start → IsolatedByLists r
+  -- any run of the same ends over the same events comes to the same, where memory lacks in neither
+  pub runs_agree : RunsAgree r end
+  -- so does any over these less some injections, and deliveries that were dropped
+  pub idle_runs_agree : IdleRunsAgree r end

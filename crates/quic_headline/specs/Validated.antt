@@ -93,13 +93,22 @@ ChallengesAreOwn r = (side : Side) (i now : ℕ) (gave : GaveOne r side i now) (
 abbrev pub MayAskOther : Run → Side → ℕ → Type 0
 MayAskOther r side i = ((asking r side i).renewed ≡ true) ⊎ (path_changes r side i ≡ true)
 
+-- A datagram came to an end from where it takes its peer to be, with the call at a place.
+pub record CameFromPeer (r : Run) (side : Side) (i : ℕ) : Type 0 where
+  pub delivery : Delivery
+  pub answer : Answer
+  pub at : IsAt r i side (calls.Deliver delivery) answer
+  pub from : delivery.remote ≡ peer_address r side i
+
 -- The peer answered, before the end was called at a place, what it was asked last, or, where other
 -- data may be asked for, told a word that the end may have drawn. An honest peer tells none that it
--- wasn't asked.
+-- wasn't asked. It did so from where the end takes it to be, or is by that packet: an answer that
+-- comes from where the peer was before says nothing of where it is.
 pub record WasAnswered (r : Run) (side : Side) (i : ℕ) : Type 0 where
   pub token : List ℕ
   pub came : AnswerCame r side i token
   pub right : IsLatest (asking r side i).latest token ⊎ (MayAskOther r side i × IsOwnWord r side (word_of token))
+  pub from : CameFromPeer r side i ⊎ (path_changes r side i ≡ true)
 
 -- the address of an end's peer becomes validated only so, as views of an end that stays open show
 -- it
@@ -112,13 +121,6 @@ ValidatedByAnswer r = (side : Side) (i : ℕ) → AreServed r (suc i) → state_
 pub record AreWords (r : Run) : Type 0 where
   pub drawn : (side : Side) (n : ℕ) → (policy_at side r.keys).words n < 2 ^ 64
   pub asked : (side : Side) (word : ℕ) → (end_at side r.start).validation.challenge ≡ Some word → word < 2 ^ 64
-
--- A datagram came to an end from where it takes its peer to be, with the call at a place.
-pub record CameFromPeer (r : Run) (side : Side) (i : ℕ) : Type 0 where
-  pub delivery : Delivery
-  pub answer : Answer
-  pub at : IsAt r i side (calls.Deliver delivery) answer
-  pub from : delivery.remote ≡ peer_address r side i
 
 -- and it is validated then, where the answer came from where the end takes its peer to be, no other
 -- data may be asked for, and all words fit

@@ -10,11 +10,13 @@ ghost use Rattle.quic_machine.specs.Machine.{World, Policies, Follows};
 ghost use Rattle.quic_headline.specs.Runs.{Run};
 ghost use Rattle.quic_headline.specs.Promises.{Promises};
 ghost use Rattle.quic_headline.specs.Isolated.{Isolated, IsolatedByAnswers, IsolatedByLists};
+ghost use Rattle.quic_headline.specs.TwoRuns.{RunsAgree, IdleRunsAgree};
 ghost use Rattle.quic_headline.specs.Alone.{Lone, IsNew, FollowsAlone, BytesCame, MessagesCame};
 ghost use Rattle.quic_headline.specs.Keeping.{StaysWithin};
 ghost use Rattle.quic_headline.specs.FewEvents.{TellsFew};
 ghost use Rattle.quic_headline.specs.Nonces.{SealsOnce};
 ghost use Rattle.quic_headline.specs.LoneAcks.{AcksOnlyTaken};
+ghost use Rattle.quic_headline.specs.LoneMessages.{MessagesFit};
 ghost use Rattle.quic_headline.specs.Amplification.{StaysThreefold};
 ghost use Rattle.quic_headline.specs.LoneCloses.{ClosedForCause, DrainedForCause};
 ghost use Rattle.quic_headline.specs.FewCloses.{IsClosing, CloseFew};
@@ -88,6 +90,13 @@ pub fn acks_only_taken()
     ensures { (p : Policy) (theirs : List (List ℕ)) (x left : Lone) (calls : List Call) (told : List Answer) (given : List (List ℕ)) → AcksOnlyTaken p theirs x calls told given left }
 {}
 
+/// Whatever datagrams are handed to an end, and where memory lacks too, each message of a packet
+/// that it takes has room in its receive buffer, and none comes where it has no such buffer: but
+/// for what stands behind a close, which isn't read (RFC 9221, section 3).
+pub fn messages_fit()
+    ensures { (p : Policy) (theirs : List (List ℕ)) (x left : Lone) (calls : List Call) (told : List Answer) → MessagesFit p theirs x calls told left }
+{}
+
 /// While an end shows the address of its peer as one that isn't validated, it gave there no more
 /// than three times the bytes that were handed to it from there, since it takes its peer to be
 /// there, whatever these are, as long as it doesn't fail (RFC 9000, section 8.1). It wants that
@@ -148,6 +157,20 @@ pub fn isolated_by_answers()
 /// their keys, at each place up to which memory served.
 pub fn isolated_by_lists()
     ensures { (r : Run) (end : World) → AreStarted r.start → IsRun r end → IsolatedByLists r }
+{}
+
+/// Two runs that began with the same ends, keys and random sources, over the same events, of which
+/// as many were answered, come to the same answers, views, datagrams and ends, where no call lacked
+/// memory in either.
+pub fn runs_agree()
+    ensures { (r : Run) (end : World) → IsRun r end → RunsAgree r end }
+{}
+
+/// So do a run and any that began with the same ends, over its events less any choice of idle ones:
+/// what is computed without them is what was computed with them, while keys last, addresses are
+/// validated, and no call lacked memory in either (RFC 9000, sections 5.2, 12.2 and 12.3).
+pub fn idle_runs_agree()
+    ensures { (r : Run) (end : World) → IsRun r end → IdleRunsAgree r end }
 {}
 
 /// A run of two honest ends keeps all that is promised of one: each law that stands on the honesty

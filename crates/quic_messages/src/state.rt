@@ -12,7 +12,8 @@ use crate::limits::DatagramLimits;
 use crate::message_queue::{MessageQueue, fits};
 use bytes::Bytes;
 use quic_copies::Copies;
-use quic_wire::frame::{Frame, size_of_frame};
+use quic_wire_core::VarInt;
+use quic_wire_core::reserved::varint_size;
 use std::alloc::Global;
 use std::marker::Model;
 
@@ -42,7 +43,8 @@ fn has_fitting_frame(message: &Bytes, room: usize) -> bool
     requires { room < 2 ^ 62 }
     ensures { result ≡ nat_le (frame_bytes message.now) room }
 {
-    message.len() <= room && size_of_frame(&Frame::Datagram { data: message }) <= room
+    let len = message.len();
+    len <= room && 1 + varint_size(VarInt::from_u64_unchecked(len as u64)) + len <= room
 }
 
 impl DatagramState {
@@ -199,8 +201,8 @@ impl DatagramState {
     }
 
     /// Takes off the oldest message that waits to be sent, where its frame has at most `room`
-    /// bytes: type, length and message (RFC 9221, section 4). It is to be written as
-    /// [`Frame::Datagram`]. `None` where it doesn't fit, or none waits: no other goes before it.
+    /// bytes: type, length and message (RFC 9221, section 4). It is to be written with its length.
+    /// `None` where it doesn't fit, or none waits: no other goes before it.
     pub fn next_frame(&mut self, room: usize) -> Option<Bytes>
         requires { room < 2 ^ 62 }
         ensures answer { result ≡ fitting room self.old.outgoing }

@@ -120,7 +120,13 @@ impl PacketNumber {
         ensures len { vec_len out.new ≡ vec_len out.old + self.width }
         ensures capacity { vec_capacity out.old ≤ vec_capacity out.new }
     {
-        self.encode(out).unwrap()
+        let bytes = self.residue.to_be_bytes();
+        match self.width {
+            1 => append(out, &bytes[3..]),
+            2 => append(out, &bytes[2..]),
+            3 => append(out, &bytes[1..]),
+            _ => append(out, &bytes),
+        }
     }
 
     /// The number that 1 to 4 bytes of a header say.
@@ -131,7 +137,12 @@ impl PacketNumber {
         ensures residue { result.residue ≡ residue_of bytes.now }
     {
         let mut whole = [0u8; 4];
-        whole[4 - bytes.len()..].copy_from_slice(bytes);
+        match bytes.len() {
+            1 => whole[3..].copy_from_slice(bytes),
+            2 => whole[2..].copy_from_slice(bytes),
+            3 => whole[1..].copy_from_slice(bytes),
+            _ => whole.copy_from_slice(bytes),
+        }
         PacketNumber {
             width: bytes.len() as u8,
             residue: u32::from_be_bytes(whole),

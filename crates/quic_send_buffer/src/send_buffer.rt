@@ -1,6 +1,7 @@
 // What was written to a stream and may have to be sent.
 ghost use Rattle.std.specs.Prelude.{◌≡◌, ℕ, ◌+◌, ◌-◌, ◌≤◌, ◌<◌, ◌^◌, ◌++◌, [], length, min, max, slice_get, slice_range, OnOk, OnErr, vec_len, vec_capacity};
 ghost use Rattle.quic_sets.specs.Offsets.{without_offsets};
+ghost use Rattle.quic_sets.specs.Runs.{AreRuns, Drops, Has};
 ghost use Rattle.quic_send_buffer.specs.Buffered.{Buffered, IsBuffered, HasUnacked, HasInFlight, nothing_written, written, kept_byte, is_fully_acked, has_unsent, after_write, after_writes, after_ack, after_loss, after_poll, offset_width, next_range, next_start, writes_length, sent_end, piece_end};
 ghost use Rattle.quic_send_buffer.specs.Source.{cut_to};
 
@@ -55,6 +56,19 @@ fn offset_size(offset: u64) -> usize
         0
     } else {
         VarInt::from_u64_unchecked(offset).size()
+    }
+}
+
+// Takes the front of the least lost run out, as it goes again. This costs nothing where none is
+// lost.
+fn resend(lost: &mut OffsetSet, range: Range<u64>)
+    requires least { (k : ℕ) → Has lost.old k → range.start ≤ k }
+    requires small { range.start < 2 ^ 62 }
+    ensures ok { Drops lost.old lost.new range.start range.end }
+    ensures runs { AreRuns lost.new }
+{
+    if !lost.is_empty() {
+        lost.remove_first(range);
     }
 }
 
@@ -201,7 +215,7 @@ impl SendBuffer {
         ensures { self.new ≡ record self.old { unsent = max self.old.unsent range.end; lost = without_offsets range.start range.end self.old.lost } }
     {
         self.unsent = self.unsent.max(range.end);
-        self.lost.remove_first(range);
+        resend(&mut self.lost, range);
     }
 
     /// What `poll_transmit` would take with so much room: the offsets of the bytes, and whether the

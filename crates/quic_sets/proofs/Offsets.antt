@@ -8,3 +8,4 @@ pub mod OffsetCalls
 pub mod Edits
 pub mod Undone
 pub mod Prefix
+pub mod Latest

@@ -8,3 +8,4 @@ pub mod Loose
 pub mod Offsets
 pub mod Spans
 pub mod Parts
+pub mod Latest

@@ -6,12 +6,14 @@
 #![tactic(auto)]
 
 pub mod by_end;
+mod index_set;
 pub mod laws;
 mod offset_set;
 mod prefix_set;
 mod range_set;
 pub mod spans;
 
+pub use index_set::IndexSet;
 pub use offset_set::OffsetSet;
 pub use prefix_set::PrefixSet;
 pub use range_set::{ArrayRangeSet, EltIter, Iter, RangeSet, Replace};

@@ -144,7 +144,13 @@ impl Tracking {
         if !self.has_asking() {
             return None;
         }
-        Some(self.last_asking + timeout.saturating_mul(backoff(self.timeouts)))
+        // Mostly it never expired since.
+        let wait = if self.timeouts == 0 {
+            timeout
+        } else {
+            timeout.saturating_mul(backoff(self.timeouts))
+        };
+        Some(self.last_asking + wait)
     }
 
     /// When the first of the packets that ask and lie below the greatest acknowledged number counts

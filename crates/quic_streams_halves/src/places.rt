@@ -1,11 +1,12 @@
 //! Which streams were ever in use, by their places.
-ghost use Rattle.std.specs.Prelude.{◌≡◌, ◌<◌, ◌+◌, ◌^◌, [], OnOk, OnErr};
+ghost use Rattle.std.specs.Prelude.{◌≡◌, ℕ, ◌<◌, ◌+◌, ◌^◌, [], OnOk, OnErr};
+ghost use Rattle.quic_sets.specs.Runs.{Has};
 ghost use Rattle.quic_sets.specs.Offsets.{has, with_offsets};
 ghost use Rattle.quic_wire_core.specs.StreamId.{index_of, dir_of};
 ghost use Rattle.quic_streams_parts.specs.Dirs.{of, is_own};
-ghost use Rattle.quic_streams_halves.specs.Halves.{no_places, has_place, with_place, with_index};
+ghost use Rattle.quic_streams_halves.specs.Halves.{no_places, places_of, has_place, with_place, with_index};
 
-use quic_sets::PrefixSet;
+use quic_sets::IndexSet;
 use quic_streams_parts::ByDir;
 use quic_wire_core::{Dir, Side, StreamId};
 use std::alloc::{AllocError, Global};
@@ -14,7 +15,7 @@ use std::marker::Model;
 /// Places of streams among those of their kind and opener: a set of runs, which contracts see as
 /// the list of them.
 #[derive(Drop)]
-pub struct Indices(PrefixSet);
+pub struct Indices(IndexSet);
 
 impl Model for Indices {
     ghost use Rattle.std.specs.Prelude.{List};
@@ -32,7 +33,7 @@ impl Indices {
     fn new(alloc: Global) -> Self
         ensures { result ≡ [] }
     {
-        Indices(PrefixSet::new(alloc))
+        Indices(IndexSet::new(alloc))
     }
 
     // Whether an index is among them.
@@ -43,13 +44,20 @@ impl Indices {
         self.0.has(index)
     }
 
+    // An index below which all are among them.
+    fn first_lacking(&self) -> u64
+        ensures { (k : ℕ) → k < result → Has self.now k }
+    {
+        self.0.first_lacking()
+    }
+
     // An index comes among them.
     fn add(&mut self, index: u64) -> Result<(), AllocError>
         requires { index < 2 ^ 60 }
         ensures ok { OnOk result (self.new ≡ with_offsets index (index + 1) self.old) }
         ensures err { OnErr result (self.new ≡ self.old) }
     {
-        self.0.insert(index..index + 1)
+        self.0.insert(index)
     }
 }
 
@@ -120,6 +128,18 @@ impl Places {
             of(&self.own, id.dir()).has(id.index())
         } else {
             of(&self.remote, id.dir()).has(id.index())
+        }
+    }
+
+    /// An index below which all streams of the same direction and opener are among them: the least
+    /// of one that isn't, mostly.
+    pub fn first_lacking(&self, side: Side, id: StreamId) -> u64
+        ensures { (k : ℕ) → k < result → Has (places_of side self.now id) k }
+    {
+        if is_own(side, id) {
+            of(&self.own, id.dir()).first_lacking()
+        } else {
+            of(&self.remote, id.dir()).first_lacking()
         }
     }
 

@@ -129,7 +129,8 @@ impl RecvHalves {
         ensures err { OnErr result (self.new ≡ self.old) }
     {
         let (seen, consumed) = (half.end(), half.credit());
-        let _ = self.live.insert(u64::from(id), half)?;
+        let low = self.places.first_lacking(side, id);
+        let _ = self.live.insert(u64::from(id), half, low)?;
         if self.places.add(side, id).is_err() {
             let _ = self.live.remove(u64::from(id));
             return Err(AllocError);

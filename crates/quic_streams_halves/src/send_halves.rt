@@ -107,7 +107,8 @@ impl SendHalves {
         ensures err { OnErr result (self.new ≡ self.old) }
     {
         let kept = half.buffered();
-        let _ = self.live.insert(u64::from(id), half)?;
+        let low = self.places.first_lacking(side, id);
+        let _ = self.live.insert(u64::from(id), half, low)?;
         if self.places.add(side, id).is_err() {
             let _ = self.live.remove(u64::from(id));
             return Err(AllocError);

@@ -185,6 +185,7 @@ impl Chunks<'_> {
 
     /// Ends the read (quinn-proto's `Chunks::finalize`): raised limits are pending until they are
     /// advertised. The answer is whether there are any, so that something is to be sent.
+    #[inline(always)]
     pub fn finalize(self) -> ShouldTransmit
         ensures answer { result ≡ record { 0 = finalize_answer self.entry.streams.now.state self.entry.id } }
         ensures state { self.exit.1.0.now.state ≡ self.entry.streams.now.state }

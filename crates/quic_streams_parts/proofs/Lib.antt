@@ -9,3 +9,4 @@ mod Looked
 mod Lent
 mod Parted
 mod Behind
+mod Woven

@@ -2,7 +2,7 @@
 use Rattle.std.proofs.Common.{◌≡◌, ℕ, suc, zero, ◌+◌, ◌-◌, ◌<◌, List, [], ◌∷◌, ◌++◌, length, get_or, set, Option, Some, None, refl, sym, ap, ◌∙◌, subst, append_assoc, append-nil, arith}
 use Rattle.quic_streams_parts.specs.Table.{Table, at, put, without, added}
 use Rattle.quic_streams_parts.specs.TableLaws.{nat_cmp-same}
-use Rattle.quic_streams_parts.specs.Slots.{in_slot, numbered, AllBelow, AllFrom, IsTrimmed}
+use Rattle.quic_streams_parts.specs.Slots.{in_slot, numbered, AllBelow, AllFrom}
 use Rattle.quic_streams_parts.proofs.Joined.{at_below, at_from, without_below, without_from, put_below, put_from, added_below, added_from, from_less, below_more, below_append}
 
 module _ {A : Type 0} where
@@ -123,24 +123,3 @@ module _ {A : Type 0} where
   -- an empty slot more at the end
   pub numbered_widen : (b : ℕ) (os : List (Option A)) → numbered b (os ++ None ∷ []) ≡ numbered b os
   numbered_widen b os = numbered_push b os None ∙ append-nil (numbered b os)
-
-  -- ---- the first slot
-
-  -- a slot more at the end
-  pub trimmed_push : (os : List (Option A)) (o : Option A) → 0 < length os → IsTrimmed os → IsTrimmed (os ++ o ∷ [])
-  trimmed_push [] o l t = absurd (omega arith)
-  trimmed_push (q ∷ os) o l t = t
-
-  -- a slot gets a value
-  pub trimmed_set : (os new : List (Option A)) (i : ℕ) (p : A) → new ≡ set os i (Some p) → (0 < i → IsTrimmed os) → IsTrimmed new
-  trimmed_set os new i p is t = subst IsTrimmed (sym is) (go os i t)
-    where
-      go : (qs : List (Option A)) (j : ℕ) → (0 < j → IsTrimmed qs) → IsTrimmed (set qs j (Some p))
-      go [] j h = tt
-      go (q ∷ qs) zero h = refl
-      go (q ∷ qs) (suc j) h = h (omega arith)
-
--- there is a slot where a number comes after the first, which it would be if there were none
-pub some_slot : (n b k : ℕ) → (n ≡ 0 → b ≡ k) → 0 < k - b → 0 < n
-some_slot zero b k f l = let e = f refl in absurd (omega arith)
-some_slot (suc n) b k f l = omega arith

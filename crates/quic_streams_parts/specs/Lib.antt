@@ -10,3 +10,4 @@ pub mod Lacking
 pub mod Queue
 pub mod Events
 pub mod Answered
+pub mod Woven

@@ -1,6 +1,5 @@
 -- Values in slots, one for each number from a first one on.
-use Rattle.std.specs.Prelude.{ℕ, ◌+◌, ◌^◌, ◌<◌, ◌≤◌, List, [], ◌∷◌, length, Option, Some, None, ⊤}
-use Rattle.std.specs.Option.{IsSome}
+use Rattle.std.specs.Prelude.{ℕ, ◌+◌, ◌^◌, ◌<◌, ◌≤◌, List, [], ◌∷◌, length, Option, Some, None}
 use Rattle.std.specs.List.{AllByRecursion}
 use Rattle.std.specs.List.Sorted.{IsStrictlySortedBy}
 use Rattle.std.specs.Map.{keys_of}
@@ -37,11 +36,6 @@ module _ {A : Type 0} where
     pub numbers : p.base + length p.slots ≤ 2 ^ 64
     pub span : length p.slots ≤ 65536
 
-  -- the first slot, if there is one, holds a value
-  abbrev pub IsTrimmed : List (Option A) → Type 0
-  IsTrimmed [] = ⊤
-  IsTrimmed (o ∷ slots) = IsSome o
-
   -- all numbers of some values lie below one
   abbrev pub AllBelow : ℕ → Table A → Type 0
   AllBelow n entries = AllByRecursion (λ k. k < n) (keys_of entries)
@@ -50,8 +44,7 @@ module _ {A : Type 0} where
   abbrev pub AllFrom : ℕ → Table A → Type 0
   AllFrom n entries = AllByRecursion (λ k. n ≤ k) (keys_of entries)
 
-  -- some values by number, in order, and the slots of those behind all of them, trimmed
+  -- some values by number, in order, and the slots of those behind all of them
   pub record IsSplit (earlier : Table A) (s : Slots A) : Type 0 where
     pub below : AllBelow s.base earlier
     pub ordered : IsStrictlySortedBy nat_cmp (keys_of earlier)
-    pub trimmed : IsTrimmed s.slots

@@ -103,12 +103,18 @@ impl<T> ByNumber<T> {
         }
     }
 
-    /// Keeps a value: the one that had its number, if any.
+    /// Keeps a value: the one that had its number, if any. The ring keeps slots for numbers from
+    /// `low` on that were skipped, as far as it goes; any `low` will do.
     ///
     /// # Errors
     ///
     /// - [`AllocError`]: an allocation fails. Nothing changes.
-    pub(crate) fn insert(&mut self, number: u64, value: T) -> Result<Option<T>, AllocError>
+    pub(crate) fn insert(
+        &mut self,
+        number: u64,
+        value: T,
+        low: u64,
+    ) -> Result<Option<T>, AllocError>
     where
         T: Drop,
         ensures replaced { IfOk result (λ replaced. replaced ≡ at self.old number) }
@@ -120,6 +126,7 @@ impl<T> ByNumber<T> {
             return Ok(self.earlier.insert(number, value)?);
         }
         self.ring.reach(number, &mut self.earlier)?;
+        self.ring.start_at(number, low);
         self.ring.insert(number, value)
     }
 
@@ -129,6 +136,7 @@ impl<T> ByNumber<T> {
         T: Drop,
         ensures taken { result ≡ at self.old number }
         ensures left { self.new ≡ without self.old number }
+        ensures gone { at self.new number ≡ None }
     {
         if number < self.ring.base() {
             return self.earlier.remove(&number);

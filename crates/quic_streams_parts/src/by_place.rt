@@ -108,7 +108,7 @@ impl ByPlace {
     {
         let (rank, turn) = place;
         if rank == self.rank {
-            let _ = self.usual.insert(turn, id)?;
+            let _ = self.usual.insert(turn, id, u64::MAX)?;
         } else if rank < self.rank {
             let _ = self.low.insert(place, id)?;
         } else {

@@ -55,6 +55,8 @@ impl Events {
     /// # Errors
     ///
     /// - [`AllocError`]: an allocation fails. Nothing changes.
+    // Inline, so that the event isn't made in memory first.
+    #[inline(always)]
     pub fn push(&mut self, event: StreamEvent) -> Result<(), AllocError>
         ensures ok { OnOk result (self.new ≡ with_event event self.old) }
         ensures err { OnErr result (self.new ≡ self.old) }

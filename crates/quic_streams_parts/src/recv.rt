@@ -185,6 +185,8 @@ impl Recv {
     ///
     /// - [`AllocError`]: an allocation fails, where the frame brings a byte that is new or segments
     ///   are to be joined. Nothing changes.
+    // Inline, as each STREAM frame that comes goes here.
+    #[inline(always)]
     pub fn insert(&mut self, frame: &Stream<'_>, copies: &mut Copies) -> Result<(), AllocError>
         requires end { end_of (stream_view frame.now) < 2 ^ 62 }
         requires size { breaks_final self.old.final self.old.seen (end_of (stream_view frame.now)) frame.now.fin ≡ false }
@@ -246,6 +248,13 @@ impl Recv {
         ensures { result ≡ has_too_many stream_receive_window self.now }
     {
         self.assembler.runs() as u64 > most_pieces(stream_receive_window)
+    }
+
+    /// Whether a read may not begin, in order or not: one in order, behind one that wasn't.
+    pub fn refuses_read(&self, ordered: bool) -> bool
+        ensures { result ≡ is_illegal self.now ordered }
+    {
+        ordered && self.assembler.is_unordered()
     }
 
     /// A read begins, in order or not.

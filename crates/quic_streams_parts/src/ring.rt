@@ -4,14 +4,14 @@ ghost use Rattle.std.specs.Option.{option_copied, option_copied_mut};
 ghost use Rattle.std.specs.Borrow.{sem};
 ghost use Rattle.quic_streams_parts.specs.Table.{at, added, without};
 ghost use Rattle.quic_streams_parts.specs.Lends.{lends_slot};
-ghost use Rattle.quic_streams_parts.specs.Slots.{held, in_slot, numbered, first_value, AllBelow, IsTrimmed};
+ghost use Rattle.quic_streams_parts.specs.Slots.{held, in_slot, numbered, first_value, AllBelow};
 
 use std::alloc::{AllocError, Global};
 use std::collections::{BTreeMap, VecDeque};
 use std::marker::Model;
 use std::mem;
 
-/// How many numbers the ring goes over at most.
+/// How many numbers a ring goes over at most.
 const SPAN: u64 = 65_536;
 
 /// The latest values in slots, one for each number from `base` on. A slot is empty where its number
@@ -19,6 +19,8 @@ const SPAN: u64 = 65_536;
 #[derive(Drop)]
 pub(crate) struct Ring<T> {
     base: u64,
+    // Empty slots of numbers below this one are given up before the first value, and others wait.
+    low: u64,
     slots: VecDeque<Option<T>>,
 }
 
@@ -58,7 +60,6 @@ fn widen<T>(slots: &mut VecDeque<Option<T>>, len: usize) -> Result<(), AllocErro
     ensures held { (n : ℕ) → numbered n slots.new.items ≡ numbered n slots.old.items }
     ensures ok { OnOk result (length slots.new.items ≡ max len (length slots.old.items)) }
     ensures err { OnErr result (slots.new.items ≡ slots.old.items) }
-    ensures trimmed { 0 < length slots.old.items → IsTrimmed slots.old.items → IsTrimmed slots.new.items }
 {
     slots.reserve(len.saturating_sub(slots.len()))?;
     while slots.len() < len {
@@ -100,6 +101,7 @@ impl<T> Ring<T> {
     {
         Ring {
             base: 0,
+            low: 0,
             slots: VecDeque::new(alloc),
         }
     }
@@ -136,30 +138,32 @@ impl<T> Ring<T> {
         }
     }
 
-    /// The first value. The first slot holds it.
+    /// The first value. The first slot holds it, unless slots of skipped numbers wait before it.
     pub(crate) fn first(&self) -> Option<&T>
-        requires { IsTrimmed self.now.slots }
         ensures { option_copied result ≡ first_value (held self.now) }
     {
-        match self.slots.front() {
-            Some(slot) => value_in(slot),
-            None => None,
+        for index in 0..self.slots.len() {
+            if let Some(value) = &self.slots[index] {
+                return Some(value);
+            }
         }
+        None
     }
 
-    /// The first slot gets this number where there is none yet.
-    fn start_at(&mut self, number: u64)
+    /// From now on slots of skipped numbers wait from `low` on. Where there is no slot yet the
+    /// first gets that number, or a later one from which on `number` is near.
+    pub(crate) fn start_at(&mut self, number: u64, low: u64)
         requires from { self.old.base ≤ number }
         requires near { 0 < length self.old.slots → number < self.old.base + 65536 }
         ensures held { held self.new ≡ held self.old }
         ensures base { self.old.base ≤ self.new.base }
         ensures from { self.new.base ≤ number }
         ensures near { number < self.new.base + 65536 }
-        ensures slots { self.new.slots ≡ self.old.slots }
-        ensures first { length self.old.slots ≡ 0 → self.new.base ≡ number }
     {
+        self.low = low;
         if self.slots.is_empty() {
-            self.base = number;
+            let near = number.saturating_sub(SPAN - 1);
+            self.base = low.max(near).max(self.base).min(number);
         }
     }
 }
@@ -172,14 +176,12 @@ impl<T: Drop> Ring<T> {
     /// - [`AllocError`]: an allocation fails. No value changes.
     pub(crate) fn insert(&mut self, number: u64, value: T) -> Result<Option<T>, AllocError>
         requires from { self.old.base ≤ number }
-        requires near { 0 < length self.old.slots → number < self.old.base + 65536 }
+        requires near { number < self.old.base + 65536 }
         ensures replaced { IfOk result (λ replaced. replaced ≡ at (held self.old) number) }
         ensures ok { OnOk result (held self.new ≡ added (held self.old) number value) }
         ensures err { OnErr result (held self.new ≡ held self.old) }
-        ensures base { self.old.base ≤ self.new.base }
-        ensures trimmed { IsTrimmed self.old.slots → IsTrimmed self.new.slots }
+        ensures base { self.new.base ≡ self.old.base }
     {
-        self.start_at(number);
         let index = (number - self.base) as usize;
         widen(&mut self.slots, index + 1)?;
         Ok(mem::replace(&mut self.slots[index], Some(value)))
@@ -191,7 +193,6 @@ impl<T: Drop> Ring<T> {
         ensures taken { result ≡ at (held self.old) number }
         ensures left { held self.new ≡ without (held self.old) number }
         ensures base { self.old.base ≤ self.new.base }
-        ensures trimmed { IsTrimmed self.old.slots → IsTrimmed self.new.slots }
     {
         let index = (number - self.base) as usize;
         let Some(slot) = self.slots.get_mut(index) else {
@@ -202,15 +203,17 @@ impl<T: Drop> Ring<T> {
         value
     }
 
-    /// Gives up empty slots before the first value.
+    /// Gives up empty slots before the first value, where they don't wait.
     fn trim(&mut self)
         ensures held { held self.new ≡ held self.old }
         ensures base { self.old.base ≤ self.new.base }
         ensures fewer { length self.new.slots ≤ length self.old.slots }
         ensures end { self.new.base ≤ self.old.base + length self.old.slots }
-        ensures trimmed { IsTrimmed self.new.slots }
     {
-        while let Some(None) = self.slots.front() {
+        while self.base < self.low {
+            let Some(None) = self.slots.front() else {
+                return;
+            };
             let _ = self.slots.pop_front();
             if self.slots.is_empty() {
                 return;
@@ -235,7 +238,6 @@ impl<T: Drop> Ring<T> {
         ensures below { AllBelow self.new.base earlier.new.entries }
         ensures from { self.new.base ≤ number }
         ensures near { OnOk result (0 < length self.new.slots → number < self.new.base + 65536) }
-        ensures trimmed { IsTrimmed self.old.slots → IsTrimmed self.new.slots }
     {
         while !self.slots.is_empty() && number - self.base >= SPAN {
             self.retire(earlier)?;
@@ -243,8 +245,7 @@ impl<T: Drop> Ring<T> {
         Ok(())
     }
 
-    /// Moves the value in the first slot to `earlier`, if there is one, and gives up the slot, with
-    /// empty ones behind it.
+    /// Moves the value in the first slot to `earlier`, if there is one, and gives up the slot.
     ///
     /// # Errors
     ///
@@ -257,7 +258,6 @@ impl<T: Drop> Ring<T> {
         ensures below { AllBelow self.new.base earlier.new.entries }
         ensures end { self.new.base ≤ self.old.base + length self.old.slots }
         ensures fewer { OnOk result (length self.new.slots < length self.old.slots) }
-        ensures trimmed { IsTrimmed self.old.slots → IsTrimmed self.new.slots }
     {
         let Some(slot) = self.slots.pop_front() else {
             return Ok(());
@@ -267,7 +267,6 @@ impl<T: Drop> Ring<T> {
             return Err(AllocError);
         }
         self.base += 1;
-        self.trim();
         Ok(())
     }
 }

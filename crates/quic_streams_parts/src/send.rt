@@ -237,6 +237,8 @@ impl Send {
     /// # Errors
     ///
     /// - [`AllocError`]: an allocation fails, where `len` isn't 0. Nothing changes.
+    // Inline, so that a new half needn't lie in memory for it.
+    #[inline(always)]
     pub fn write_all(&mut self, chunks: &[Bytes], len: usize) -> Result<(), AllocError>
         requires reset { self.old.reset ≡ None }
         requires room { len ≤ room_on self.old }
@@ -272,6 +274,8 @@ impl Send {
     /// # Errors
     ///
     /// - [`AllocError`]: an allocation fails, where some of the frame was sent. Nothing changes.
+    // Inline, as each STREAM frame that is acknowledged comes here.
+    #[inline(always)]
     pub fn ack(&mut self, frame: &StreamMeta) -> Result<(), AllocError>
         ensures ok { OnOk result (self.new ≡ half_acked self.old frame.now) }
         ensures err { OnErr result (self.new ≡ self.old) }

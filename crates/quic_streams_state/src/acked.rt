@@ -29,6 +29,7 @@ impl StreamsState {
 
     // Nothing is left to do on the sending half of a stream: where the peer opened it, and it is
     // done both ways, the peer may open one more.
+    #[inline(always)]
     fn send_done(&mut self, id: StreamId)
         ensures { self.new ≡ send_done self.old id }
     {

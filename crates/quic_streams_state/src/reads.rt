@@ -3,7 +3,7 @@ ghost use Rattle.std.specs.Prelude.{◌≡◌, ◌≢◌, not, false, true, Some
 ghost use Rattle.quic_streams_parts.specs.declared.answers.ReadableError.TheVariants as readable_errors;
 ghost use Rattle.quic_streams_parts.specs.declared.answers.ReadError.TheVariants as read_errors;
 ghost use Rattle.quic_streams_parts.specs.Table.{at};
-ghost use Rattle.quic_streams_parts.specs.RecvHalf.{new_recv_half};
+ghost use Rattle.quic_streams_parts.specs.RecvHalf.{is_illegal, new_recv_half};
 ghost use Rattle.quic_streams_parts.specs.Lacking.{read_may_lack};
 ghost use Rattle.quic_retransmits.specs.Retransmits.{Retransmits as Waiting, has_id};
 ghost use Rattle.quic_streams_state.specs.State.{first_window, receiving_half};
@@ -17,14 +17,15 @@ use quic_streams_parts::{ReadError, ReadableError, Recv};
 use quic_wire_core::{Dir, StreamId};
 
 impl StreamsState {
-    // A read of a half that is in use, and that this end didn't stop, begins.
+    // A read of a half that is in use, that this end didn't stop, and that doesn't refuse it,
+    // begins.
     fn begin_used(
         &mut self,
         id: StreamId,
         ordered: bool,
         pending: &mut Retransmits,
     ) -> Result<bool, ReadableError>
-        requires { IsSomeAnd (at self.old.receiving.halves.live id) (λ h. h.stopped ≡ false) }
+        requires { IsSomeAnd (at self.old.receiving.halves.live id) (λ h. (h.stopped ≡ false) × (is_illegal h ordered ≡ false)) }
         ensures answer { result ≢ Err readable_errors.Memory → result ≡ begin_answer self.old pending.old id ordered }
         ensures ok { OnOk result (self.new ≡ after_read_begun self.old id ordered) }
         ensures reserved { OnOk result (pending.new ≡ with_reserved pending.old id) }
@@ -33,20 +34,12 @@ impl StreamsState {
         ensures allowed { result ≡ Err readable_errors.Memory → read_answer self.old id ordered ≡ Ok tt }
         ensures lacking { result ≡ Err readable_errors.Memory → has_id id pending.old.max_stream_data ≡ false }
     {
-        if ordered {
-            // It changes nothing.
-            if self.receiving.begin(id, true).is_err() {
-                return Err(ReadableError::IllegalOrderedRead);
-            }
-            return match pending.insert_max_stream_data(id) {
-                Ok(is_new) => Ok(is_new),
-                Err(_) => Err(ReadableError::Memory),
-            };
-        }
         let Ok(is_new) = pending.insert_max_stream_data(id) else {
             return Err(ReadableError::Memory);
         };
-        let _ = self.receiving.begin(id, false);
+        if !ordered {
+            let _ = self.receiving.begin(id, false);
+        }
         Ok(is_new)
     }
 
@@ -120,6 +113,9 @@ impl StreamsState {
         };
         if half.is_stopped() {
             return Err(ReadableError::ClosedStream);
+        }
+        if half.refuses_read(ordered) {
+            return Err(ReadableError::IllegalOrderedRead);
         }
         self.begin_used(id, ordered, pending)
     }

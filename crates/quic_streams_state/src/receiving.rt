@@ -169,6 +169,8 @@ impl Receiving {
     /// # Errors
     ///
     /// - [`AllocError`]: an allocation fails. Nothing changes, and the half is dropped.
+    // Inline, so that the half is moved once less.
+    #[inline(always)]
     pub fn add(&mut self, side: Side, id: StreamId, half: Recv) -> Result<(), AllocError>
         requires none { at self.old.halves.live id ≡ None }
         requires room { seen self.old + half.seen ≤ greatest_offset }

@@ -200,7 +200,9 @@ impl StreamsState {
     }
 
     // A sending half that isn't in use: one on which nothing was done, unless its stream isn't
-    // opened, only the peer sends on it, or it is done.
+    // opened, only the peer sends on it, or it is done. Inline, so that the half is moved once
+    // less.
+    #[inline(always)]
     pub(crate) fn fresh_send(&self, id: StreamId) -> Option<Send>
         requires { at self.now.sending.halves.live id ≡ None }
         ensures { result ≡ sending_half self.now id }

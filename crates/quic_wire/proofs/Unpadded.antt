@@ -1,17 +1,18 @@
 -- The items but for PADDING: what stands behind a type that isn't 0 is none, and the type 0 is passed.
-use Rattle.std.proofs.Common.{◌≡◌, ℕ, ◌<◌, ◌%◌, inl, inr, false, List, [], ◌∷◌, ◌++◌, length, get_or, Option, Some, None, Result, Ok, Err, refl, sym, ap, ◌∙◌, subst, arith}
+use Rattle.std.proofs.Common.{◌≡◌, ℕ, ◌<◌, ◌≤◌, ◌%◌, ◌==◌, inl, inr, true, false, List, [], ◌∷◌, ◌++◌, length, get_or, Option, Some, None, Result, Ok, Err, refl, sym, ap, ◌∙◌, subst, arith}
+use Rattle.std.proofs.lemmas.Bool.{cases_eq}
 use Rattle.std.proofs.lemmas.List.{nil_from_length}
 use Rattle.quic_wire_core.specs.Coding.{IsBytes}
 use Rattle.quic_wire_core.specs.Varint.{Spells, varint_at}
-use Rattle.quic_wire_core.specs.Law.{varint_found}
+use Rattle.quic_wire_core.specs.Law.{varint_found, spells_again}
 use Rattle.quic_wire.specs.declared.frame.FrameError.{FrameError}
 use Rattle.quic_wire.specs.declared.frame.InvalidFrame.{InvalidFrame}
-use Rattle.quic_wire.specs.Value.{FrameValue, padding, ack, reset_stream, stop_sending, crypto, new_token, stream, max_data, max_stream_data, max_streams, data_blocked, stream_data_blocked, streams_blocked, new_connection_id, retire_connection_id, path_challenge, path_response, connection_close, application_close, datagram, ack_frequency}
-use Rattle.quic_wire.specs.FrameTypes.{Kind, is_padding, is_ping, is_ack, is_reset_stream, is_stop_sending, is_crypto, is_new_token, is_stream, is_max_data, is_max_stream_data, is_max_streams, is_data_blocked, is_stream_data_blocked, is_streams_blocked, is_new_connection_id, is_retire_connection_id, is_path_challenge, is_path_response, is_connection_close, is_application_close, is_handshake_done, is_immediate_ack, is_datagram, is_ack_frequency, is_unknown, kind_of, type_of}
+use Rattle.quic_wire.specs.Value.{FrameValue, StreamValue, padding, ack, reset_stream, stop_sending, crypto, new_token, stream, max_data, max_stream_data, max_streams, data_blocked, stream_data_blocked, streams_blocked, new_connection_id, retire_connection_id, path_challenge, path_response, connection_close, application_close, datagram, ack_frequency}
+use Rattle.quic_wire.specs.FrameTypes.{Kind, is_padding, is_ping, is_ack, is_reset_stream, is_stop_sending, is_crypto, is_new_token, is_stream, is_max_data, is_max_stream_data, is_max_streams, is_data_blocked, is_stream_data_blocked, is_streams_blocked, is_new_connection_id, is_retire_connection_id, is_path_challenge, is_path_response, is_connection_close, is_application_close, is_handshake_done, is_immediate_ack, is_datagram, is_ack_frequency, is_unknown, kind_of, type_of, has_bit}
 use Rattle.quic_wire.specs.Reading.{field, var_at, block_at, sized_at, reset_stream_at, stop_sending_at, crypto_at, data_at, stream_at, stream_limit_at, new_connection_id_at, connection_close_at, application_close_at, ack_frequency_at, counted, as_frame, of_kind_at, body_at}
 use Rattle.quic_wire.specs.AckReading.{ack_at}
 use Rattle.quic_wire.specs.Items.{frame_at, behind_type, refused, first_and, items, pads, without_padding, BeginsUnpadded}
-use Rattle.quic_wire.proofs.FrameKinds.{type_of_kind}
+use Rattle.quic_wire.proofs.FrameKinds.{type_of_kind, of_type, of_stream_type}
 use Rattle.quic_wire.proofs.FrameShrinks.{frame_fewer}
 use Rattle.quic_wire.proofs.FrameItems.{items_nil, items_step, items_ok, items_err}
 use Rattle.quic_wire.proofs.FrameWhole.{form_items}
@@ -155,3 +156,34 @@ module _ (bytes rest : List ℕ) (same : without_padding (items bytes) ≡ witho
     pub next_err : (e : InvalidFrame) → frame_at rest ≡ Err e → without_padding (items bytes) ≡ Err e ∷ []
     unfolding without_padding
     next_err e read = same ∙ ap without_padding (items_err rest e some read)
+
+-- ---- a frame in front whose type is one byte
+
+byte_type : (b : ℕ) (behind : List ℕ) → b < 64 → var_at (b ∷ behind) ≡ Ok (b, behind)
+byte_type b behind small = ap field (spells_again b (b ∷ []) behind (inl (small, refl)))
+
+byte_frame : (b : ℕ) (behind rest : List ℕ) (f : FrameValue) → b < 64 → body_at b behind ≡ Ok (f, rest) → frame_at (b ∷ behind) ≡ Ok (f, rest)
+unfolding frame_at
+byte_frame b behind rest f small read = ap behind_type (byte_type b behind small) ∙ ap (refused (Some b)) read
+
+byte_next : (b : ℕ) (bytes behind rest : List ℕ) (f : FrameValue) → b < 64 → ¬ (b ≡ 0) → bytes ≡ b ∷ behind → body_at b behind ≡ Ok (f, rest) → without_padding (items bytes) ≡ Ok f ∷ without_padding (items rest)
+byte_next b bytes behind rest f small other parts read =
+    ap (λ (x : List ℕ). without_padding (items x)) parts
+    ∙ next_ok (b ∷ behind) (b ∷ behind) refl (omega arith) (typed_begins (b ∷ behind) behind b (byte_type b behind small) other) f rest (byte_frame b behind rest f small read)
+
+-- of a STREAM frame
+pub stream_next : (b : ℕ) (bytes behind rest : List ℕ) (s : StreamValue) → 8 ≤ b → b < 16 → bytes ≡ b ∷ behind → stream_at (has_bit b 4) (has_bit b 2) (has_bit b 1) behind ≡ Ok (s, rest)
+    → without_padding (items bytes) ≡ Ok (stream s) ∷ without_padding (items rest)
+stream_next b bytes behind rest s least most parts read =
+    byte_next b bytes behind rest (stream s) (omega arith) (λ e. omega arith) parts
+    (of_stream_type (λ (f : FrameValue). f) b behind rest (Ok (stream s)) least most (ap (as_frame stream) read))
+
+-- of a DATAGRAM frame
+message_body : (b : ℕ) (behind rest m : List ℕ) → 48 ≤ b → b < 50 → data_at (b == 49) behind ≡ Ok (m, rest) → body_at b behind ≡ Ok (datagram m, rest)
+message_body b behind rest m least most read = elim (cases_eq b 49) [
+  | inl e ↦ of_type (λ (f : FrameValue). f) (is_datagram true) b behind rest (Ok (datagram m)) tt e (ap (as_frame datagram) (rw e at read))
+  | inr n ↦ let e : b ≡ 48 = omega (arith, n, least, most) in of_type (λ (f : FrameValue). f) (is_datagram false) b behind rest (Ok (datagram m)) tt e (ap (as_frame datagram) (rw e at read))
+]
+
+pub message_next : (b : ℕ) (bytes behind rest m : List ℕ) → 48 ≤ b → b < 50 → bytes ≡ b ∷ behind → data_at (b == 49) behind ≡ Ok (m, rest) → without_padding (items bytes) ≡ Ok (datagram m) ∷ without_padding (items rest)
+message_next b bytes behind rest m least most parts read = byte_next b bytes behind rest (datagram m) (omega arith) (λ e. omega arith) parts (message_body b behind rest m least most read)

@@ -137,7 +137,7 @@ came_from_peer : (validated : Bool) (seen : EndView) → CameFromPeer (answered_
 came_from_peer validated seen = record { delivery = record { now = 0; remote = 0; ecn = None; index = 1 }; answer = answers.Deliver receives.Taken; at = record { event = refl; answer = refl }; from = sym (peer_there validated seen) }
 
 pub was_answered : WasAnswered answered_run Server 7
-was_answered = record { token = id_word; came = answer_came true waiting_view; right = inl (is_latest true waiting_view) }
+was_answered = record { token = id_word; came = answer_came true waiting_view; right = inl (is_latest true waiting_view); from = inl (came_from_peer true waiting_view) }
 
 pub not_before : (seen_at answered_run Server 7).validated ≡ false
 not_before = refl

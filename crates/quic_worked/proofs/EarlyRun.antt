@@ -7,10 +7,10 @@ use Rattle.quic_machine.specs.declared.answers.Received.TheVariants as receives
 use Rattle.quic_machine.specs.declared.run.Answer.TheVariants as answers
 use Rattle.quic_machine.specs.Machine.{IsStep, Follows, view_of}
 use Rattle.quic_headline.specs.Runs.{Packet, In}
-use Rattle.quic_headline.specs.Observer.{watch, news, path_changes}
+use Rattle.quic_headline.specs.Observer.{watch, news, peer_address, path_changes}
 use Rattle.quic_headline.specs.Polls.{seen_at}
 use Rattle.quic_headline.specs.Headline.{IsHonest, IsRun}
-use Rattle.quic_headline.specs.Validated.{asking, AnswerCame, WasAnswered}
+use Rattle.quic_headline.specs.Validated.{asking, AnswerCame, CameFromPeer, WasAnswered}
 use Rattle.quic_worked.specs.Worked.{worked_policies, id_word, opens_stream, asks_datagram, delivers, gives_bytes, gives_unmarked, open_view, sent_view, view_with, waiting_view}
 use Rattle.quic_worked.specs.Acknowledged.{client_acked}
 use Rattle.quic_worked.specs.Losses.{asks_ping}
@@ -25,103 +25,103 @@ use Rattle.quic_worked.proofs.WorkedKeys.{are_keys}
 use Rattle.quic_worked.proofs.UnvalidatedRun.{far_started}
 use Rattle.quic_worked.proofs.Steps.{StepsSo, steps_at}
 
-early_0 : IsStep worked_policies (once_early 0) opens_stream (answers.Open (Some 0)) (once_early 1)
+pub early_0 : IsStep worked_policies (once_early 0) opens_stream (answers.Open (Some 0)) (once_early 1)
 unfolding client_acked
 early_0 =
     let s : StepsSo worked_policies (once_early 0) opens_stream (answers.Open (Some 0)) (once_early 1) = steps_at worked_policies far_start early_events early_answers 0 opens_stream (answers.Open (Some 0)) _ _ refl refl refl in
     record { answer = refl; end = s.end; control = s.control; heard = s.heard; openings = tt; others = s.others; lacking = tt }
 
-early_seen_0 : record { client = open_view; server = far_view None None } ≡ view_of (once_early 1)
+pub early_seen_0 : record { client = open_view; server = far_view None None } ≡ view_of (once_early 1)
 unfolding client_acked
 early_seen_0 = refl
 
-early_1 : IsStep worked_policies (once_early 1) (writes_bytes (replicate 976 0x61)) (answers.Write (Ok 976)) (once_early 2)
+pub early_1 : IsStep worked_policies (once_early 1) (writes_bytes (replicate 976 0x61)) (answers.Write (Ok 976)) (once_early 2)
 unfolding client_acked
 early_1 =
     let s : StepsSo worked_policies (once_early 1) (writes_bytes (replicate 976 0x61)) (answers.Write (Ok 976)) (once_early 2) = steps_at worked_policies far_start early_events early_answers 1 (writes_bytes (replicate 976 0x61)) (answers.Write (Ok 976)) _ _ refl refl refl in
     record { answer = inl refl; end = s.end; control = s.control; heard = s.heard; openings = tt; others = s.others; lacking = λ lacks. cc }
 
-early_seen_1 : record { client = open_view; server = far_view None None } ≡ view_of (once_early 2)
+pub early_seen_1 : record { client = open_view; server = far_view None None } ≡ view_of (once_early 2)
 unfolding client_acked
 early_seen_1 = refl
 
-early_2 : IsStep worked_policies (once_early 2) asks_datagram (gives_bytes 1200) (once_early 3)
+pub early_2 : IsStep worked_policies (once_early 2) asks_datagram (gives_bytes 1200) (once_early 3)
 unfolding client_acked
 early_2 =
     let s : StepsSo worked_policies (once_early 2) asks_datagram (gives_bytes 1200) (once_early 3) = steps_at worked_policies far_start early_events early_answers 2 asks_datagram (gives_bytes 1200) _ _ refl refl refl in
     record { answer = inl refl; end = s.end; control = s.control; heard = s.heard; openings = tt; others = s.others; lacking = tt }
 
-early_seen_2 : record { client = sent_view; server = far_view None None } ≡ view_of (once_early 3)
+pub early_seen_2 : record { client = sent_view; server = far_view None None } ≡ view_of (once_early 3)
 unfolding client_acked
 early_seen_2 = refl
 
-early_3 : IsStep worked_policies (once_early 3) delivers (answers.Deliver receives.Taken) (once_early 4)
+pub early_3 : IsStep worked_policies (once_early 3) delivers (answers.Deliver receives.Taken) (once_early 4)
 unfolding client_acked
 early_3 =
     let s : StepsSo worked_policies (once_early 3) delivers (answers.Deliver receives.Taken) (once_early 4) = steps_at worked_policies far_start early_events early_answers 3 delivers (answers.Deliver receives.Taken) _ _ refl refl refl in
     record { answer = inl refl; end = s.end; control = s.control; heard = s.heard; openings = tt; others = s.others; lacking = tt }
 
-early_seen_3 : record { client = sent_view; server = far_view None (Some 25000000) } ≡ view_of (once_early 4)
+pub early_seen_3 : record { client = sent_view; server = far_view None (Some 25000000) } ≡ view_of (once_early 4)
 unfolding client_acked
 early_seen_3 = refl
 
-early_4 : IsStep worked_policies (once_early 4) asks_server (gives_bytes 1200) (once_early 5)
+pub early_4 : IsStep worked_policies (once_early 4) asks_server (gives_bytes 1200) (once_early 5)
 unfolding client_acked
 early_4 =
     let s : StepsSo worked_policies (once_early 4) asks_server (gives_bytes 1200) (once_early 5) = steps_at worked_policies far_start early_events early_answers 4 asks_server (gives_bytes 1200) _ _ refl refl refl in
     record { answer = inl refl; end = s.end; control = s.control; heard = s.heard; openings = tt; others = s.others; lacking = tt }
 
-early_seen_4 : record { client = sent_view; server = far_view (Some 1024000000) None } ≡ view_of (once_early 5)
+pub early_seen_4 : record { client = sent_view; server = far_view (Some 1024000000) None } ≡ view_of (once_early 5)
 unfolding client_acked
 early_seen_4 = refl
 
-early_5 : IsStep worked_policies (once_early 5) client_hears (answers.Deliver receives.Taken) (once_early 6)
+pub early_5 : IsStep worked_policies (once_early 5) client_hears (answers.Deliver receives.Taken) (once_early 6)
 unfolding client_acked
 early_5 =
     let s : StepsSo worked_policies (once_early 5) client_hears (answers.Deliver receives.Taken) (once_early 6) = steps_at worked_policies far_start early_events early_answers 5 client_hears (answers.Deliver receives.Taken) _ _ refl refl refl in
     record { answer = inl refl; end = s.end; control = s.control; heard = s.heard; openings = tt; others = s.others; lacking = tt }
 
-early_seen_5 : record { client = waiting_view; server = far_view (Some 1024000000) None } ≡ view_of (once_early 6)
+pub early_seen_5 : record { client = waiting_view; server = far_view (Some 1024000000) None } ≡ view_of (once_early 6)
 unfolding client_acked
 early_seen_5 = refl
 
-early_6 : IsStep worked_policies (once_early 6) asks_datagram (gives_unmarked 1200) (once_early 7)
+pub early_6 : IsStep worked_policies (once_early 6) asks_datagram (gives_unmarked 1200) (once_early 7)
 unfolding client_acked
 early_6 =
     let s : StepsSo worked_policies (once_early 6) asks_datagram (gives_unmarked 1200) (once_early 7) = steps_at worked_policies far_start early_events early_answers 6 asks_datagram (gives_unmarked 1200) _ _ refl refl refl in
     record { answer = inl refl; end = s.end; control = s.control; heard = s.heard; openings = tt; others = s.others; lacking = tt }
 
-early_seen_6 : record { client = view_with (Some 26000000) None; server = far_view (Some 1024000000) None } ≡ view_of (once_early 7)
+pub early_seen_6 : record { client = view_with (Some 26000000) None; server = far_view (Some 1024000000) None } ≡ view_of (once_early 7)
 unfolding client_acked
 early_seen_6 = refl
 
-early_7 : IsStep worked_policies (once_early 7) asks_ping answers.Ping (once_early 8)
+pub early_7 : IsStep worked_policies (once_early 7) asks_ping answers.Ping (once_early 8)
 unfolding client_acked
 early_7 =
     let s : StepsSo worked_policies (once_early 7) asks_ping answers.Ping (once_early 8) = steps_at worked_policies far_start early_events early_answers 7 asks_ping answers.Ping _ _ refl refl refl in
     record { answer = refl; end = s.end; control = s.control; heard = s.heard; openings = tt; others = s.others; lacking = tt }
 
-early_seen_7 : record { client = view_with (Some 26000000) None; server = far_view (Some 1024000000) None } ≡ view_of (once_early 8)
+pub early_seen_7 : record { client = view_with (Some 26000000) None; server = far_view (Some 1024000000) None } ≡ view_of (once_early 8)
 unfolding client_acked
 early_seen_7 = refl
 
-early_8 : IsStep worked_policies (once_early 8) asks_datagram (gives_unmarked 32) (once_early 9)
+pub early_8 : IsStep worked_policies (once_early 8) asks_datagram (gives_unmarked 32) (once_early 9)
 unfolding client_acked
 early_8 =
     let s : StepsSo worked_policies (once_early 8) asks_datagram (gives_unmarked 32) (once_early 9) = steps_at worked_policies far_start early_events early_answers 8 asks_datagram (gives_unmarked 32) _ _ refl refl refl in
     record { answer = inl refl; end = s.end; control = s.control; heard = s.heard; openings = tt; others = s.others; lacking = tt }
 
-early_seen_8 : record { client = view_with (Some 26000000) None; server = far_view (Some 1024000000) None } ≡ view_of (once_early 9)
+pub early_seen_8 : record { client = view_with (Some 26000000) None; server = far_view (Some 1024000000) None } ≡ view_of (once_early 9)
 unfolding client_acked
 early_seen_8 = refl
 
-early_9 : IsStep worked_policies (once_early 9) (comes_from 9 2) (answers.Deliver receives.Taken) (once_early 10)
+pub early_9 : IsStep worked_policies (once_early 9) (comes_from 9 2) (answers.Deliver receives.Taken) (once_early 10)
 unfolding client_acked
 early_9 =
     let s : StepsSo worked_policies (once_early 9) (comes_from 9 2) (answers.Deliver receives.Taken) (once_early 10) = steps_at worked_policies far_start early_events early_answers 9 (comes_from 9 2) (answers.Deliver receives.Taken) _ _ refl refl refl in
     record { answer = inl refl; end = s.end; control = s.control; heard = s.heard; openings = tt; others = s.others; lacking = tt }
 
-early_seen_9 : record { client = view_with (Some 26000000) None; server = late_view None } ≡ view_of (once_early 10)
+pub early_seen_9 : record { client = view_with (Some 26000000) None; server = late_view None } ≡ view_of (once_early 10)
 unfolding client_acked
 early_seen_9 = refl
 
@@ -149,7 +149,7 @@ gave_one = refl
 pub early_is_run : IsRun early_run (once_early 11)
 early_is_run = record { codes = no_codes early_run.events refl; follows = follows; from_client = gave_three; from_server = gave_one }
 
-early_own : (side : Side) → AreOwn side [] early_run.events early_run.answers early_run.views
+pub early_own : (side : Side) → AreOwn side [] early_run.events early_run.answers early_run.views
 early_own Client = (tt, (inl refl, (tt, (tt, (tt, (tt, (tt, (tt, (tt, (tt, (tt, tt)))))))))))
 early_own Server = (tt, (tt, (tt, (tt, (tt, (tt, (tt, (tt, (tt, (tt, (tt, tt)))))))))))
 
@@ -175,8 +175,16 @@ asked_before = refl
 answer_came : AnswerCame early_run Server 10 id_word
 answer_came = record { packet = response_packet; came = subst (λ (ps : List Packet). In response_packet ps) (sym came_alone) (inl refl); answers = inl refl }
 
+-- it came from where the server takes its peer to be
+peer_there : peer_address early_run Server 10 ≡ 9
+unfolding client_acked
+peer_there = refl
+
+came_from_peer : CameFromPeer early_run Server 10
+came_from_peer = record { delivery = record { now = 0; remote = 9; ecn = None; index = 1 }; answer = answers.Deliver receives.Taken; at = record { event = refl; answer = refl }; from = sym peer_there }
+
 pub was_answered : WasAnswered early_run Server 10
-was_answered = record { token = id_word; came = answer_came; right = inr (inl may_ask, inl (0, refl)) }
+was_answered = record { token = id_word; came = answer_came; right = inr (inl may_ask, inl (0, refl)); from = inl came_from_peer }
 
 pub not_before : (seen_at early_run Server 10).validated ≡ false
 not_before = refl

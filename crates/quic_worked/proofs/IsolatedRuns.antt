@@ -156,7 +156,7 @@ fifth (suc (suc (suc (suc zero)))) = true
 fifth i = false
 
 -- where no answer of a list says that the last packet came that may not open, none of them does
-none_last : (answers : List Answer) → list_any says_last answers ≡ false → (i : ℕ) (a : Answer) → slice_get answers i ≡ Some a → says_last a ≡ false
+pub none_last : (answers : List Answer) → list_any says_last answers ≡ false → (i : ℕ) (a : Answer) → slice_get answers i ≡ Some a → says_last a ≡ false
 none_last [] none i a at = cc
 none_last (b ∷ bs) none zero a at = let same : b ≡ a = cc in subst (λ (c : Answer). says_last c ≡ false) same (or_parts (says_last b) (list_any says_last bs) none).0
 none_last (b ∷ bs) none (suc i) a at = none_last bs (or_parts (says_last b) (list_any says_last bs) none).1 i a at

@@ -58,6 +58,9 @@ mod MarkedRun
 mod BleachedRun
 mod CountedRuns
 mod IsolatedRuns
+mod AgreeingRuns
+mod LackingRuns
+mod HeededRuns
 mod BlockedRun
 mod UndoneRun
 mod ToldRuns
@@ -75,6 +78,8 @@ mod EndingMachines
 mod RenamedRuns
 mod KeptEnds
 mod UntakenRuns
+mod FittingRuns
+mod DrawnRun
 mod KnownRuns
 mod UnvalidatedRun
 mod AnsweredRun
@@ -105,5 +110,10 @@ mod CodedRuns
 mod AvailableRun
 mod OpeningRuns
 mod SmoothedRun
+mod DelayedRun
+mod ElsewhereRun
+mod MisstatedRun
+mod RespelledRun
+mod ChallengedRun
 mod CollapsedRun
 mod QuestionedRun

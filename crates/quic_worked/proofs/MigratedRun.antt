@@ -12,7 +12,7 @@ use Rattle.quic_headline.specs.InUse.{in_use}
 use Rattle.quic_headline.specs.Spread.{pacer_at, pacer_anew}
 use Rattle.quic_headline.specs.Polls.{seen_at, bytes_flying}
 use Rattle.quic_headline.specs.Headline.{IsHonest, IsRun}
-use Rattle.quic_headline.specs.Validated.{asking, IsLatest, AnswerCame, WasAnswered}
+use Rattle.quic_headline.specs.Validated.{asking, IsLatest, AnswerCame, CameFromPeer, WasAnswered}
 use Rattle.quic_worked.specs.Worked.{worked_policies, both_steady, id_word, opens_stream, writes_hello, asks_datagram, delivers, gives_bytes, gives_unmarked, open_view, sent_view, view_with, waiting_view}
 use Rattle.quic_worked.specs.Acknowledged.{client_acked}
 use Rattle.quic_worked.specs.Losses.{asks_ping}
@@ -313,5 +313,13 @@ not_renewed = refl
 answer_came : AnswerCame migrated_run Server 15 id_word
 answer_came = record { packet = back_packet; came = subst (λ (ps : List Packet). In back_packet ps) (sym came_alone) (inl refl); answers = inl refl }
 
+-- it came from where the server takes its peer to be
+peer_there : peer_address migrated_run Server 15 ≡ 9
+unfolding client_acked
+peer_there = refl
+
+came_from_peer : CameFromPeer migrated_run Server 15
+came_from_peer = record { delivery = record { now = 0; remote = 9; ecn = None; index = 2 }; answer = answers.Deliver receives.Taken; at = record { event = refl; answer = refl }; from = sym peer_there }
+
 pub was_answered : WasAnswered migrated_run Server 15
-was_answered = record { token = id_word; came = answer_came; right = inl (subst (λ (o : Option (List ℕ)). IsLatest o id_word) (sym asked_last) refl) }
+was_answered = record { token = id_word; came = answer_came; right = inl (subst (λ (o : Option (List ℕ)). IsLatest o id_word) (sym asked_last) refl); from = inl came_from_peer }

@@ -80,7 +80,7 @@ h_reset_of_second read e = honest_steady (reset_of_second read) (record { start 
 -- ---- where the run goes
 
 -- behind the client's datagram
-behind_given : {events : List RunEvent} {told : List Answer} → NeverAnswers pair_sent events told → NeverAnswers both_steady (giving_events ++ events) (giving_answers ++ told)
+pub behind_given : {events : List RunEvent} {told : List Answer} → NeverAnswers pair_sent events told → NeverAnswers both_steady (giving_events ++ events) (giving_answers ++ told)
 behind_given not_so = behind refl paired.opens_first (behind refl paired.opens_both (behind refl paired.writes_first (behind refl paired.writes_both (behind refl paired.resets (behind refl paired.gives not_so)))))
 
 -- ---- a stream that was reset is told to be finished

@@ -140,7 +140,7 @@ all_took = refl
 pub all_is_run : IsRun said_run (once_said 10)
 all_is_run = record { codes = no_codes said_run.events refl; follows = all_follows; from_client = all_gave; from_server = all_took }
 
-all_own : (side : Side) → AreOwn side [] said_run.events said_run.answers said_run.views
+pub all_own : (side : Side) → AreOwn side [] said_run.events said_run.answers said_run.views
 all_own Client = (tt, (inl refl, (tt, (inl refl, (tt, (inl refl, (inl refl, (inl refl, (inl refl, (tt, tt))))))))))
 all_own Server = (tt, (tt, (tt, (tt, (tt, (tt, (tt, (tt, (tt, (tt, tt))))))))))
 
@@ -295,7 +295,7 @@ one_took = refl
 pub one_is_run : IsRun said_on_run (once_said_on 10)
 one_is_run = record { codes = no_codes said_on_run.events refl; follows = one_follows; from_client = one_gave; from_server = one_took }
 
-one_own : (side : Side) → AreOwn side [] said_on_run.events said_on_run.answers said_on_run.views
+pub one_own : (side : Side) → AreOwn side [] said_on_run.events said_on_run.answers said_on_run.views
 one_own Client = (tt, (inl refl, (tt, (inl refl, (tt, (inl refl, (inl refl, (inl refl, (inl refl, (tt, tt))))))))))
 one_own Server = (tt, (tt, (tt, (tt, (tt, (tt, (tt, (tt, (tt, (tt, tt))))))))))
 

@@ -32,7 +32,7 @@ smoothed_range : IsInRange smoothed_settings
 smoothed_range = record { receive_window = lit< tt; stream_receive_window = lit< tt; bounds = record { bidi = lit≤ tt; uni = lit≤ tt; divides = lit< tt; initial = lit≤ tt; least = lit≤ tt }; search = tt }
 
 -- the client's parameters say nothing of what it assumes
-smoothed_started : AreStarted smoothed_start
+pub smoothed_started : AreStarted smoothed_start
 smoothed_started = record {
   client_making = record (making client_id) { settings = smoothed_settings };
   server_making = record (making server_id) { windows = shut };
@@ -51,53 +51,53 @@ smoothed_is_honest second third = honest_from smoothed_start smoothed_started (s
 
 -- ---- the machine's run
 
-step_0 : IsStep worked_policies smoothed_start asks_ping answers.Ping (once_smoothed 1)
+pub step_0 : IsStep worked_policies smoothed_start asks_ping answers.Ping (once_smoothed 1)
 unfolding once_smoothed
 step_0 =
     let s : StepsSo worked_policies smoothed_start asks_ping answers.Ping (once_smoothed 1) = steps_at worked_policies smoothed_start smoothed_events smoothed_answers 0 asks_ping answers.Ping _ _ refl refl refl in
     record { answer = refl; end = s.end; control = s.control; heard = s.heard; openings = tt; others = s.others; lacking = tt }
 
-seen_0 : seen_with None None ≡ view_of (once_smoothed 1)
+pub seen_0 : seen_with None None ≡ view_of (once_smoothed 1)
 unfolding once_smoothed
 seen_0 = refl
 
-step_1 : IsStep worked_policies (once_smoothed 1) (asks_at Client 0) (gives_bytes 223) (once_smoothed 2)
+pub step_1 : IsStep worked_policies (once_smoothed 1) (asks_at Client 0) (gives_bytes 223) (once_smoothed 2)
 unfolding once_smoothed
 step_1 =
     let s : StepsSo worked_policies (once_smoothed 1) (asks_at Client 0) (gives_bytes 223) (once_smoothed 2) = steps_at worked_policies smoothed_start smoothed_events smoothed_answers 1 (asks_at Client 0) (gives_bytes 223) _ _ refl refl refl in
     record { answer = inl refl; end = s.end; control = s.control; heard = s.heard; openings = tt; others = s.others; lacking = tt }
 
-seen_1 : seen_with (Some 325000000) None ≡ view_of (once_smoothed 2)
+pub seen_1 : seen_with (Some 325000000) None ≡ view_of (once_smoothed 2)
 unfolding once_smoothed
 seen_1 = refl
 
-step_2 : IsStep worked_policies (once_smoothed 2) (brings 0 Server 10000000) (answers.Deliver receives.Taken) (once_smoothed 3)
+pub step_2 : IsStep worked_policies (once_smoothed 2) (brings 0 Server 10000000) (answers.Deliver receives.Taken) (once_smoothed 3)
 unfolding once_smoothed
 step_2 =
     let s : StepsSo worked_policies (once_smoothed 2) (brings 0 Server 10000000) (answers.Deliver receives.Taken) (once_smoothed 3) = steps_at worked_policies smoothed_start smoothed_events smoothed_answers 2 (brings 0 Server 10000000) (answers.Deliver receives.Taken) _ _ refl refl refl in
     record { answer = inl refl; end = s.end; control = s.control; heard = s.heard; openings = tt; others = s.others; lacking = tt }
 
-seen_2 : seen_with (Some 325000000) (Some 35000000) ≡ view_of (once_smoothed 3)
+pub seen_2 : seen_with (Some 325000000) (Some 35000000) ≡ view_of (once_smoothed 3)
 unfolding once_smoothed
 seen_2 = refl
 
-step_3 : IsStep worked_policies (once_smoothed 3) (serves Server 35000000) (answers.Timeout (Ok tt)) (once_smoothed 4)
+pub step_3 : IsStep worked_policies (once_smoothed 3) (serves Server 35000000) (answers.Timeout (Ok tt)) (once_smoothed 4)
 unfolding once_smoothed
 step_3 =
     let s : StepsSo worked_policies (once_smoothed 3) (serves Server 35000000) (answers.Timeout (Ok tt)) (once_smoothed 4) = steps_at worked_policies smoothed_start smoothed_events smoothed_answers 3 (serves Server 35000000) (answers.Timeout (Ok tt)) _ _ refl refl refl in
     record { answer = inl refl; end = s.end; control = s.control; heard = s.heard; openings = tt; others = s.others; lacking = tt }
 
-seen_3 : seen_with (Some 325000000) None ≡ view_of (once_smoothed 4)
+pub seen_3 : seen_with (Some 325000000) None ≡ view_of (once_smoothed 4)
 unfolding once_smoothed
 seen_3 = refl
 
-step_4 : IsStep worked_policies (once_smoothed 4) (asks_at Server 35000000) (gives_bytes 32) (once_smoothed 5)
+pub step_4 : IsStep worked_policies (once_smoothed 4) (asks_at Server 35000000) (gives_bytes 32) (once_smoothed 5)
 unfolding once_smoothed
 step_4 =
     let s : StepsSo worked_policies (once_smoothed 4) (asks_at Server 35000000) (gives_bytes 32) (once_smoothed 5) = steps_at worked_policies smoothed_start smoothed_events smoothed_answers 4 (asks_at Server 35000000) (gives_bytes 32) _ _ refl refl refl in
     record { answer = inl refl; end = s.end; control = s.control; heard = s.heard; openings = tt; others = s.others; lacking = tt }
 
-seen_4 : seen_with (Some 325000000) None ≡ view_of (once_smoothed 5)
+pub seen_4 : seen_with (Some 325000000) None ≡ view_of (once_smoothed 5)
 unfolding once_smoothed
 seen_4 = refl
 

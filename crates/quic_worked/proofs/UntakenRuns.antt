@@ -53,7 +53,7 @@ payload_shown n reference id payload = ap shown (sym (append_assoc (_ ∷ id) _ 
 -- ---- what a reader finds
 
 -- a frame, and then what is spelled behind it
-before : (f : FrameValue) (fs : List FrameValue) (rest : List ℕ) → Fits f → Payload fs rest → Payload (f ∷ fs) (spelling f ++ rest)
+pub before : (f : FrameValue) (fs : List FrameValue) (rest : List ℕ) → Fits f → Payload fs rest → Payload (f ∷ fs) (spelling f ++ rest)
 before f fs rest fits spells = (spelling f, rest, spelling_form f rest fits, spells, refl)
 
 -- ACK of number 0 alone

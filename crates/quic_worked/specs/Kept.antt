@@ -208,3 +208,24 @@ taken_and_gave t = answers.Deliver receives.Taken ∷ gave_one t
 -- or is dropped
 abbrev pub dropped_and_gave : Transmit → List Answer
 dropped_and_gave t = answers.Deliver (receives.Dropped drops.KeyPhase) ∷ gave_one t
+
+-- ---- which messages an end takes
+
+-- one datagram is handed in, and is taken
+abbrev pub one_taken : List Answer
+one_taken = answers.Deliver receives.Taken ∷ []
+
+-- a DATAGRAM frame with a message of two bytes (RFC 9221, section 4)
+abbrev pub message_of_two : List ℕ
+message_of_two = 0x31 ∷ 0x02 ∷ 0x07 ∷ 0x07 ∷ []
+
+-- CONNECTION_CLOSE without an error, and behind it that frame
+abbrev pub closed_before_message : List ℕ
+closed_before_message = 0x1c ∷ 0x00 ∷ 0x00 ∷ 0x00 ∷ message_of_two
+
+-- the client's first datagram, with such a payload
+abbrev pub with_message : List ℕ
+with_message = client_datagram 0 0 message_of_two
+
+abbrev pub with_message_behind : List ℕ
+with_message_behind = client_datagram 0 0 closed_before_message

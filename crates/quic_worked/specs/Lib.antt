@@ -26,6 +26,9 @@ pub mod Rested
 pub mod Hasty
 pub mod Counted
 pub mod Isolated
+pub mod Agreeing
+pub mod Lacking
+pub mod Heeded
 pub mod Paced
 pub mod Faults
 pub mod Settings
@@ -43,6 +46,7 @@ pub mod Ended
 pub mod Renamed
 pub mod Kept
 pub mod Known
+pub mod Drawn
 pub mod Unvalidated
 pub mod Migrated
 pub mod Moved
@@ -67,3 +71,8 @@ pub mod Coded
 pub mod Available
 pub mod Smoothed
 pub mod Collapsed
+pub mod Delayed
+pub mod Elsewhere
+pub mod Misstated
+pub mod Respelled
+pub mod Challenged

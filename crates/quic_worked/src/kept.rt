@@ -1,7 +1,7 @@
 //! What an end may keep of what its peer sends, what it may tell of it, and what it may seal and
 //! acknowledge; and ends that keep, tell, seal or acknowledge more. Each function does nothing: its
 //! contract is the law.
-ghost use Rattle.std.specs.Prelude.{ℕ, List, [], ◌∷◌, ◌≡◌, ◌<◌, ◌≤◌, Some};
+ghost use Rattle.std.specs.Prelude.{ℕ, List, [], ◌∷◌, ◌≡◌, ◌<◌, ◌≤◌, Some, None};
 ghost use Rattle.quic_wire_core.specs.TransportError.{ErrorValue};
 ghost use Rattle.quic_machine.specs.declared.answers.State.TheVariants.{Open, Closing, Drained};
 ghost use Rattle.quic_machine.specs.declared.answers.LostReason.TheVariants.{Application, Transport};
@@ -15,10 +15,11 @@ ghost use Rattle.quic_headline.specs.Keeping.{KeepsWithin};
 ghost use Rattle.quic_headline.specs.FewEvents.{TellFew, EventsAreFew};
 ghost use Rattle.quic_headline.specs.Nonces.{SealedOnce};
 ghost use Rattle.quic_headline.specs.LoneAcks.{AcksTaken};
+ghost use Rattle.quic_headline.specs.LoneMessages.{TakesFit};
 ghost use Rattle.quic_worked.specs.Worked.{worked_policies, hello_datagram};
 ghost use Rattle.quic_worked.specs.Acknowledged.{ack_at_once, ack_of_third, ack_behind_challenge};
 ghost use Rattle.quic_worked.specs.Settings.{plain_settings};
-ghost use Rattle.quic_worked.specs.Kept.{took_five, four_on_a_stream, four_on_all, one_at_once, two_opened, came_apart, four_mebibytes, room_of_one, two_bytes, two_empty, too_many_runs, too_many_known, asks_once, told_once, hands_in_before, taken_before, dropped_before, asks_twice, finished_twice, lost_twice, sealed_in_turn, sealed_under_one, sealed_falling, two_seals, handles, handled, polls_once, gave_none, hands_one, one_dropped, closes_it, was_closed, polls_twice, gave_twice, polls_between, gave_between, shows_payload, shows_it, gave_one, hands_and_polls, taken_and_gave, dropped_and_gave};
+ghost use Rattle.quic_worked.specs.Kept.{took_five, four_on_a_stream, four_on_all, one_at_once, two_opened, came_apart, four_mebibytes, room_of_one, two_bytes, two_empty, too_many_runs, too_many_known, asks_once, told_once, hands_in_before, taken_before, dropped_before, asks_twice, finished_twice, lost_twice, sealed_in_turn, sealed_under_one, sealed_falling, two_seals, handles, handled, polls_once, gave_none, hands_one, one_dropped, closes_it, was_closed, polls_twice, gave_twice, polls_between, gave_between, shows_payload, shows_it, gave_one, hands_and_polls, taken_and_gave, dropped_and_gave, one_taken, with_message, with_message_behind};
 
 /// An end that took five bytes keeps more than it may where four may come, of a stream or of all;
 /// so does one whose peer has two streams open of which one may be (RFC 9000, sections 4.1 and
@@ -108,4 +109,15 @@ pub fn acknowledged_untaken_shows()
     ensures untaken { (now : ℕ) (t : Transmit) → AcksTaken shows_payload [] [] (polls_once now) (gave_one t) (shows_it ack_of_third) → ⊥ }
     ensures behind { (now : ℕ) (t : Transmit) → AcksTaken shows_payload [] [] (polls_once now) (gave_one t) (shows_it ack_behind_challenge) → ⊥ }
     ensures dropped { (now : ℕ) (t : Transmit) → AcksTaken shows_payload (hello_datagram ∷ []) [] (hands_and_polls now) (dropped_and_gave t) (shows_it ack_at_once) → ⊥ }
+{}
+
+/// An end with room for two bytes of messages may take one of two. One with room for a byte that
+/// takes it shows, and so does one that has no such buffer. Behind a close nothing is read, so one
+/// may stand there (RFC 9221, section 3).
+pub fn taken_message_shows()
+    ensures fits { TakesFit worked_policies.server (with_message ∷ []) (Some 2) [] hands_one one_taken }
+    ensures long { TakesFit worked_policies.server (with_message ∷ []) (Some 1) [] hands_one one_taken → ⊥ }
+    ensures unasked { TakesFit worked_policies.server (with_message ∷ []) None [] hands_one one_taken → ⊥ }
+    ensures behind { TakesFit worked_policies.server (with_message_behind ∷ []) None [] hands_one one_taken }
+    ensures dropped { TakesFit worked_policies.server (with_message ∷ []) None [] hands_one one_dropped }
 {}

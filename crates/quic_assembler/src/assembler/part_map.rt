@@ -119,6 +119,20 @@ impl PartMap {
         ensures ok { OnOk result (self.new ≡ insert_entry nat_cmp self.old end part) }
         ensures err { OnErr result (self.new ≡ self.old) }
     {
+        if self.first.is_none() {
+            self.first = Some((end, part));
+            return Ok(());
+        }
+        self.keep_beside(end, part)
+    }
+
+    // The same where there may be others. It stands apart so that a lone part, as most are, is kept
+    // without a call.
+    #[inline(never)]
+    fn keep_beside(&mut self, end: u64, part: Bytes) -> Result<(), AllocError>
+        ensures ok { OnOk result (self.new ≡ insert_entry nat_cmp self.old end part) }
+        ensures err { OnErr result (self.new ≡ self.old) }
+    {
         let Some(first) = &mut self.first else {
             self.first = Some((end, part));
             return Ok(());

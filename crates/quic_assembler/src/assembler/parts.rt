@@ -296,6 +296,14 @@ impl Parts {
         starts_at(&self.map, at)
     }
 
+    /// Whether there is a part, and the last ends elsewhere than at an offset.
+    pub(crate) fn wait_apart(&self, at: u64) -> bool {
+        match self.map.last() {
+            Some((end, _)) => end != at,
+            None => false,
+        }
+    }
+
     // Puts a part into a gap, where `touched` parts touch it.
     fn fill_gap(&mut self, at: u64, part: Bytes, touched: usize) -> Result<(), AllocError>
         requires some { 0 < length part }
@@ -478,6 +486,7 @@ impl Parts {
     }
 
     // Joins the parts that touch. All memory is taken before anything changes.
+    #[cold]
     fn join(&mut self) -> Result<(), AllocError>
         ensures ok { OnOk result (self.new ≡ joined self.old) }
         ensures err { OnErr result (self.new ≡ self.old) }
@@ -520,7 +529,8 @@ impl Parts {
     }
 
     // Fills the gaps of a frame, wherever they are, and takes the new parts out again where memory
-    // lacks.
+    // lacks. It stands apart so that a frame in order costs less.
+    #[inline(never)]
     fn fill_or_undo(
         &mut self,
         given: &BTreeMap<u64, u64>,
@@ -630,6 +640,7 @@ impl Parts {
     }
 
     // Takes out the first part.
+    #[inline(always)]
     fn pop(&mut self) -> Option<Bytes>
         ensures part { result ≡ first_bytes self.old }
         ensures rest { self.new ≡ rest_of self.old }

@@ -21,7 +21,7 @@ use quic_connection_parts::acked::{
     on_carried_lost, saturated, take_lost,
 };
 use quic_connection_parts::losses::Losses;
-use quic_connection_parts::spare::keep_list;
+use quic_connection_parts::spare::{keep_list, keep_spare, take_spare};
 use quic_connection_parts::telling::{tell_ack, tell_acks_ended, tell_congested};
 use quic_machine::Instant;
 use quic_packet::crypto::{HeaderKey, PacketKey};
@@ -69,6 +69,7 @@ impl<H: HeaderKey + Drop, K: PacketKey + Drop, R: Rng + Drop, C: Controller> Con
         let sent = self.sent_at(frame.largest());
         let acked = self.take_named(frame)?;
         if acked.is_empty() {
+            self.keep_acked(acked);
             return Ok(None);
         }
         let sent = if_measured(rises, sent, &acked);
@@ -123,7 +124,7 @@ impl<H: HeaderKey + Drop, K: PacketKey + Drop, R: Rng + Drop, C: Controller> Con
         ensures ok { OnOk result (self.new ≡ with_end self.old (with_tracking self.old.end (record self.old.end.tracking { packets = not_acked_by frame.now self.old.end.tracking.packets }))) }
         ensures others { self.new ≡ with_end self.old self.new.end }
     {
-        let mut acked = Vec::new(self.alloc);
+        let mut acked = take_spare(&mut self.spare_acked, self.alloc);
         if let Err(error) = self.space.tracking.take_named(frame, &mut acked) {
             // Some packets are gone, it isn't known which.
             self.space.tracking = Tracking::new(self.alloc, self.closing.clock());
@@ -153,7 +154,18 @@ impl<H: HeaderKey + Drop, K: PacketKey + Drop, R: Rng + Drop, C: Controller> Con
             self.ack_frequency.on_acked(number);
             self.on_packet_acked(packet)?;
         }
+        self.keep_acked(acked);
         Ok(())
+    }
+
+    /// Keeps the memory of a list of acknowledged packets for those of the next ACK frame, while
+    /// packets are in flight: at rest nothing is kept.
+    fn keep_acked(&mut self, acked: Vec<(u64, SentPacket)>)
+        ensures { self.new ≡ self.old }
+    {
+        if self.space.tracking.has_in_flight() {
+            keep_spare(&mut self.spare_acked, acked);
+        }
     }
 
     /// Notifies the congestion controller of an acknowledged packet, if that is ack-eliciting; but

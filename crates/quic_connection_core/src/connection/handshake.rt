@@ -70,8 +70,10 @@ impl<H: HeaderKey + Drop, K: PacketKey + Drop, R: Rng + Drop, C: Controller> Con
         ensures told { result ≡ tells_done self.old.end }
         ensures end { self.new ≡ with_end self.old (if tells_done self.old.end then confirmation_told self.old.end else self.old.end) }
     {
-        let told = self.confirmation_to_tell;
+        if !self.confirmation_to_tell {
+            return false;
+        }
         self.confirmation_to_tell = false;
-        told
+        true
     }
 }

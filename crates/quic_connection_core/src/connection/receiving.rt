@@ -1,8 +1,9 @@
 //! Taking a datagram (RFC 9000, sections 5.2, 12 and 13.1).
 ghost use Rattle.std.specs.Prelude.{◌≡◌, ◌≢◌, ◌+◌, ◌-◌, ◌≤◌, ◌<◌, ◌^◌, ◌&&◌, ◌||◌, length, slice_range, true, false, Some, None, Ok, IfSome, IfNone, IfOk, IfErr, OnOk, MatchResult};
 ghost use Rattle.quic_wire.specs.Items.{items};
+ghost use Rattle.quic_wire.specs.Value.{stream, datagram};
 ghost use Rattle.quic_time.specs.Timers.{no_timers};
-ghost use Rattle.quic_wire.specs.FrameView.{frame_view, item_view};
+ghost use Rattle.quic_wire.specs.FrameView.{frame_view, stream_view, item_view};
 ghost use Rattle.quic_machine.specs.End.{with_end, hearing, policy_of, HasFailed, drawing, words_drawn};
 ghost use Rattle.quic_machine.specs.Heard.{is_last, received_if, heard_datagram, heard_moved, heard_answer};
 ghost use Rattle.quic_machine.specs.Opens.{own_id_length, head, would_open};
@@ -23,12 +24,12 @@ use quic_connection_parts::receiving::{
     AckDemand, Trouble, drop_reason, is_above, is_congested, is_of_path, is_read, item_asks,
     violation,
 };
-use quic_connection_parts::stream_frames::take_other;
+use quic_connection_parts::stream_frames::{take_other, take_stream};
 use quic_machine::{DropReason, Instant, Received, State};
 use quic_packet::crypto::{HeaderKey, NotOpened, PacketKey};
 use quic_packet::{Opened, open_packet};
 use quic_paths::Address;
-use quic_wire::frame::{Ack, Frame, InvalidFrame, Unpadded};
+use quic_wire::frame::{Ack, Frame, InvalidFrame, Stream, Unpadded};
 use quic_wire_core::{ConnectionId, EcnCodepoint, Reason, TransportError};
 use rand_core::Rng;
 
@@ -333,11 +334,46 @@ impl<H: HeaderKey + Drop, K: PacketKey + Drop, R: Rng + Drop, C: Controller> Con
             asks: false,
             urged: false,
         };
-        for item in Unpadded::new(payload) {
+        let mut frames = Unpadded::new(payload);
+        loop {
+            if let Some(frame) = frames.next_stream() {
+                demand = demand.with_asking(ecn);
+                self.take_stream_frame(&frame)?;
+                continue;
+            }
+            if let Some(message) = frames.next_message() {
+                demand = demand.with_asking(ecn);
+                self.take_datagram_frame(message)?;
+                continue;
+            }
+            let Some(item) = frames.next() else {
+                return Ok(demand);
+            };
             demand = self.demand_with(&item, ecn, demand);
             self.take_item(here, &item)?;
         }
-        Ok(demand)
+    }
+
+    /// Takes a STREAM frame, from wherever it came.
+    #[tactic(auto, using(crate::proofs::Items::tells_nothing))]
+    fn take_stream_frame(&mut self, frame: &Stream<'_>) -> Result<(), Trouble>
+        ensures takes { TakesAs result (take_frame (stream (stream_view frame.now)) self.old.end) self.new.end }
+        ensures told { TellsAs result C.steps self.old (told_item (Ok (stream (stream_view frame.now))) self.old.end) self.new }
+        ensures others { KeepsRest self.old self.new }
+    {
+        self.count_stream();
+        take_stream(&mut self.streams, frame)
+    }
+
+    /// Takes the message of a DATAGRAM frame, from wherever it came.
+    #[tactic(auto, using(crate::proofs::Items::tells_nothing))]
+    fn take_datagram_frame(&mut self, message: &[u8]) -> Result<(), Trouble>
+        ensures takes { TakesAs result (take_frame (datagram message.now) self.old.end) self.new.end }
+        ensures told { TellsAs result C.steps self.old (told_item (Ok (datagram message.now)) self.old.end) self.new }
+        ensures others { KeepsRest self.old self.new }
+    {
+        self.count_datagram();
+        self.take_message(message)
     }
 
     /// What the frames of a packet ask for, with one more of them, which isn't taken yet.
@@ -351,9 +387,10 @@ impl<H: HeaderKey + Drop, K: PacketKey + Drop, R: Rng + Drop, C: Controller> Con
         ensures urged { result.urged ≡ (demand.urged || (is_congested ecn && (item_asks (item_view item.now) || item_answers (item_view item.now) self.now.end))) }
     {
         let asks = item_asks(item);
+        let urges = is_congested(ecn) && (asks || self.answers(item));
         AckDemand {
             asks: demand.asks || asks,
-            urged: demand.urged || (is_congested(ecn) && (asks || self.answers(item))),
+            urged: demand.urged || urges,
         }
     }
 

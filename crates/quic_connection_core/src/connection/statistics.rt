@@ -43,6 +43,22 @@ impl<H, K, R, C: Controller> Connection<H, K, R, C> {
         self.stats.frame_rx.record(frame);
     }
 
+    /// Counts a STREAM frame that came.
+    pub(crate) fn count_stream(&mut self)
+        ensures { self.new ≡ self.old }
+    {
+        let frames = &mut self.stats.frame_rx;
+        frames.stream = frames.stream.saturating_add(1);
+    }
+
+    /// Counts a DATAGRAM frame that came.
+    pub(crate) fn count_datagram(&mut self)
+        ensures { self.new ≡ self.old }
+    {
+        let frames = &mut self.stats.frame_rx;
+        frames.datagram = frames.datagram.saturating_add(1);
+    }
+
     /// Counts an ACK frame as sent.
     pub(crate) fn count_ack(&mut self)
         ensures { self.new ≡ self.old }

@@ -37,18 +37,18 @@ use Rattle.quic_headline.proofs.AckFrames.Marks.{counted, told_alike, CountsMark
 -- ---- frames
 
 -- no ACK frame is PADDING
-none_padding : (a : AckValue) (count : ℕ) → In (ack a) (replicate count padding) → ⊥
+pub none_padding : (a : AckValue) (count : ℕ) → In (ack a) (replicate count padding) → ⊥
 none_padding a zero i = i
 none_padding a (suc count) (inl is) = cc
 none_padding a (suc count) (inr more) = none_padding a count more
 
 -- nor a close with PADDING
-none_closing : (a : AckValue) (close : FrameValue) (count : ℕ) → is_close close ≡ true → In (ack a) (close ∷ replicate count padding) → ⊥
+pub none_closing : (a : AckValue) (close : FrameValue) (count : ℕ) → is_close close ≡ true → In (ack a) (close ∷ replicate count padding) → ⊥
 none_closing a close count closes (inl is) = let clash : false ≡ true = ap is_close is ∙ closes in cc
 none_closing a close count closes (inr more) = none_padding a count more
 
 -- an ACK frame stands before one that is none
-before_other : (a : AckValue) (fs : List FrameValue) (f : FrameValue) → is_ack f ≡ false → In (ack a) (fs ++ f ∷ []) → In (ack a) fs
+pub before_other : (a : AckValue) (fs : List FrameValue) (f : FrameValue) → is_ack f ≡ false → In (ack a) (fs ++ f ∷ []) → In (ack a) fs
 before_other a fs f none i = elim (in_append (ack a) fs (f ∷ []) i) [
   | inl before ↦ before
   | inr behind ↦ last behind
@@ -58,7 +58,7 @@ before_other a fs f none i = elim (in_append (ack a) fs (f ∷ []) i) [
     last (inl is) = (let clash : true ≡ false = ap is_ack is ∙ none in cc)
     last (inr more) = absurd more
 
-control_none : (f : FrameValue) → IsControl f → is_ack f ≡ false
+pub control_none : (f : FrameValue) → IsControl f → is_ack f ≡ false
 control_none (ack a) is = absurd is
 control_none f is = refl
 

@@ -29,7 +29,7 @@ use Rattle.quic_machine.specs.Policy.{Policy}
 use Rattle.quic_machine.specs.End.{End}
 use Rattle.quic_machine.specs.CallCases.{is_delivery}
 use Rattle.quic_machine.specs.Machine.{World, IsAnswer, after_call, reads_window, control_at, heard_at}
-use Rattle.quic_headline.specs.Runs.{Run, Told, Intake, until}
+use Rattle.quic_headline.specs.Runs.{Run, Told, Intake}
 use Rattle.quic_headline.specs.Headline.{IsHonest, IsRun}
 use Rattle.quic_headline.specs.Unread.{stopped_by, stopped}
 use Rattle.quic_headline.specs.Allowed.{IsReadOff, is_kept_from_reading, would_read, found_no_memory, ReadsAreOver}
@@ -162,7 +162,7 @@ module _ (B : Way) (w : IsWriting B) (x y : Party) (call : Call) (a : Answer) (c
     ];
   }
 
-halted_group : (B : Way) → IsWriting B → Group B Halted
+pub halted_group : (B : Way) → IsWriting B → Group B Halted
 halted_group B w = record {
   first = λ x y m there back. record { each = λ id never. cc };
   writer = λ x y call a c i back. halted_call B w x y call a c i;
@@ -172,13 +172,13 @@ halted_group B w = record {
 
 -- ---- all that holds
 
-abbrev All : Way
+abbrev pub All : Way
 All = everything.All Ready ready
 
-abbrev N : Way
+abbrev pub N : Way
 N = And Nothing All
 
-is_writing : IsWriting N
+pub is_writing : IsWriting N
 is_writing = record {
   packets = λ x y h. h.1.0.0;
   written = λ x y h. h.1.0.1.0.writes.keeps.holds;
@@ -192,9 +192,19 @@ Known = And All (And Heard Halted)
 known : Group Nothing Known
 known = both Nothing All (And Heard Halted) (everything.all Ready ready) (beside N Heard Halted (heard_group N is_writing) (halted_group N is_writing))
 
+-- nothing may be read of a stream of which nothing more is to be read
+pub off_closed : (x y : Party) (id : ℕ) → And Heard Halted x y → IsReadOff x.told id → is_closed x.end.streams id ≡ true
+off_closed x y id k off = over_closed x.end.streams id (over off)
+  where
+    over : IsReadOff x.told id → StaysOver id x.end.streams
+    over (inl end_read) = no_more id x.end.streams (k.0.each id (inl end_read))
+    over (inr (inl reset)) = no_more id x.end.streams (k.0.each id (inr (inl reset)))
+    over (inr (inr (inl asked))) = no_more id x.end.streams (k.0.each id (inr (inr asked)))
+    over (inr (inr (inr is))) = k.1.each id is
+
 -- ---- what is answered
 
-ok_shut : (o : Result (Unit {0}) ReadableError) → o ≡ Err readable_errors.ClosedStream → o ≡ Ok tt → ⊥
+pub ok_shut : (o : Result (Unit {0}) ReadableError) → o ≡ Err readable_errors.ClosedStream → o ≡ Ok tt → ⊥
 ok_shut (Ok x) shut is = cc
 ok_shut (Err e) shut is = cc
 
@@ -202,7 +212,7 @@ same_error : (error : ReadableError) → ◌≡◌ {A = Result (Unit {0}) Readab
 same_error error is = cc
 
 -- a half that may not be read
-closed_unreadable : (o : Option RecvHalf) (ordered : Bool) → is_closed_at o ≡ true → ◌≡◌ {A = Result (Unit {0}) ReadableError} (readable o ordered) (Err readable_errors.ClosedStream)
+pub closed_unreadable : (o : Option RecvHalf) (ordered : Bool) → is_closed_at o ≡ true → ◌≡◌ {A = Result (Unit {0}) ReadableError} (readable o ordered) (Err readable_errors.ClosedStream)
 closed_unreadable None ordered shut = refl
 closed_unreadable (Some h) ordered shut = ap (λ (t : Bool). if t then Err readable_errors.ClosedStream else (if is_illegal h ordered then Err readable_errors.IllegalOrderedRead else Ok tt)) shut
 
@@ -228,20 +238,8 @@ module _ (r : Run) (end : World) (honest : IsHonest r) (run : IsRun r end) where
       s : StreamsState
       s = x.end.streams
 
-      heard : Heard x y
-      heard = p.gives.1.0
-
-      halted : Halted x y
-      halted = p.gives.1.1
-
-      over : IsReadOff (until r side i) id → StaysOver id s
-      over (inl end_read) = no_more id s (heard.each id (inl end_read))
-      over (inr (inl reset)) = no_more id s (heard.each id (inr (inl reset)))
-      over (inr (inr (inl asked))) = no_more id s (heard.each id (inr (inr asked)))
-      over (inr (inr (inr is))) = halted.each id is
-
       shut : is_closed s id ≡ true
-      shut = over_closed s id (over off)
+      shut = off_closed x y id p.gives.1 off
 
       by_error : (rd : ReadCall) (error : ReadableError) → (rd.id == id) ≡ true → (error ≡ readable_errors.ClosedStream) ⊎ (error ≡ readable_errors.Memory) → (is_kept_from_reading id (calls.Read rd) (answers.Read (Err error)) ≡ true) ⊎ (found_no_memory (answers.Read (Err error)) ≡ true)
       by_error rd error same (inl is) = inl (subst (λ (e : ReadableError). is_kept_from_reading id (calls.Read rd) (answers.Read (Err e)) ≡ true) (sym is) same)

@@ -1,6 +1,6 @@
 -- A call opens a stream exactly while the greatest count lets it that the peer told: at each place of
 -- an honest run.
-use Rattle.std.proofs.Common.{◌≡◌, ℕ, ◌+◌, ◌<◌, ◌≤◌, Bool, true, false, List, length, Option, Some, None, refl, sym, ap, ◌∙◌, arith}
+use Rattle.std.proofs.Common.{◌≡◌, ℕ, ◌+◌, Bool, true, false, length, Option, Some, None, refl, sym, ap, ◌∙◌, arith}
 use Rattle.std.specs.Prelude.{nat_lt, if◌then◌else◌}
 use Rattle.std.proofs.lemmas.Bool.{ltb-true, ltb-false}
 use Rattle.quic_wire_core.specs.declared.stream_id.Side.{Side}
@@ -10,11 +10,10 @@ use Rattle.quic_streams_parts.specs.Dirs.{of, more}
 use Rattle.quic_streams_state.specs.State.{Opening}
 use Rattle.quic_streams_state.specs.Opening.{open_answer, opened_next}
 use Rattle.quic_machine.specs.declared.run.Call.TheVariants as calls
-use Rattle.quic_machine.specs.declared.run.Answer.{Answer}
 use Rattle.quic_machine.specs.declared.run.Answer.TheVariants as answers
 use Rattle.quic_machine.specs.Calls.{is_open}
 use Rattle.quic_machine.specs.Machine.{World, end_at}
-use Rattle.quic_headline.specs.Runs.{Run, Packet, Intake, until}
+use Rattle.quic_headline.specs.Runs.{Run, Intake, until}
 use Rattle.quic_headline.specs.Observer.{took}
 use Rattle.quic_headline.specs.Headline.{IsHonest, IsRun}
 use Rattle.quic_headline.specs.Amounts.{peer_parameters, greatest}
@@ -47,10 +46,10 @@ is_writing = record {
   grows = λ x y call a c. grows_behind (And Nothing Base) (λ x y h. h.1.0.0.0) x y call a c c.gives.1.0.0.1.0;
 }
 
-abbrev Known : Way
+abbrev pub Known : Way
 Known = And Base OpensAre
 
-known : Group Nothing Known
+pub known : Group Nothing Known
 known = both Nothing Base OpensAre base (opens_are_group (And Nothing Base) is_writing)
 
 -- what a call is answered where so many are opened

@@ -150,7 +150,7 @@ module _ (t : Tally) where
   -- ---- calls
 
   -- a half that goes on as it was
-  goes_on : (id : ℕ) (h new : SendHalf) → new.limit ≡ h.limit → new.stopped ≡ h.stopped → new.reset ≡ h.reset → new.buffer.pieces ≡ h.buffer.pieces → new.buffer.base ≡ h.buffer.base → IsTallied t id h → IsTallied t id new
+  pub goes_on : (id : ℕ) (h new : SendHalf) → new.limit ≡ h.limit → new.stopped ≡ h.stopped → new.reset ≡ h.reset → new.buffer.pieces ≡ h.buffer.pieces → new.buffer.base ≡ h.buffer.base → IsTallied t id h → IsTallied t id new
   goes_on id h new limit stopped reset pieces base i = record {
     limit = limit ∙ i.limit;
     stopped = ap is_some stopped ∙ i.stopped;

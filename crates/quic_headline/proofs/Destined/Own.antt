@@ -215,7 +215,7 @@ shortened_waiting true e = lasts_waiting (most_message e) e
 shortened_waiting false e = refl
 
 -- where the next id of the peer is used, the same ids wait to be told
-next_waits : (C : IssuedCid → Type 0) (e : End) (a : Answer) → Waits C AnyNumber e.waiting.frames → Waits C AnyNumber (end_on_next_id e a).waiting.frames
+pub next_waits : (C : IssuedCid → Type 0) (e : End) (a : Answer) → Waits C AnyNumber e.waiting.frames → Waits C AnyNumber (end_on_next_id e a).waiting.frames
 next_waits C e (answers.UseNextId (Ok done)) w = taken_next (retires_for_next e.ids)
   where
     taken_next : (o : Option (Range ℕ)) → Waits C AnyNumber (next_id_taken o e).waiting.frames
@@ -280,7 +280,7 @@ own_step x y call a c i = record {
 
 -- ---- the start
 
-drawn_number : (words : ℕ → ℕ) (ns : List ℕ) (c : IssuedCid) → In c (drawn_ids words ns) → In c.sequence ns
+pub drawn_number : (words : ℕ → ℕ) (ns : List ℕ) (c : IssuedCid) → In c (drawn_ids words ns) → In c.sequence ns
 drawn_number words [] c i = absurd i
 drawn_number words (n ∷ ns) c (inl is) = inl (ap (λ (d : IssuedCid). d.sequence) is)
 drawn_number words (n ∷ ns) c (inr i) = inr (drawn_number (words_behind words_of_id words) ns c i)

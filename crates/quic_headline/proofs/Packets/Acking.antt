@@ -125,7 +125,7 @@ abbrev pub TellsAs : End → End → Type 0
 TellsAs e f = (f.acknowledging.runs ≡ e.acknowledging.runs) × (f.marks.came ≡ e.marks.came)
 
 -- they are the same where an acknowledgement becomes due
-lazied_tells : (leaving : Leaving) (e : End) → TellsAs e (lazied_as leaving e)
+pub lazied_tells : (leaving : Leaving) (e : End) → TellsAs e (lazied_as leaving e)
 lazied_tells whole e = (refl, refl)
 lazied_tells other e = (refl, refl)
 

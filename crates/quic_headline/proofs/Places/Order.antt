@@ -38,7 +38,7 @@ drop_of [] ys = refl
 drop_of (x ∷ xs) ys = drop_of xs ys
 
 -- bytes that stand at an offset are the slice there
-stands_slice : (all : List ℕ) (offset : ℕ) (bytes : List ℕ) → StandsAt all offset bytes → take (length bytes) (drop offset all) ≡ bytes
+pub stands_slice : (all : List ℕ) (offset : ℕ) (bytes : List ℕ) → StandsAt all offset bytes → take (length bytes) (drop offset all) ≡ bytes
 stands_slice all offset bytes s = rw (← s.is, ← s.place, append_assoc s.before bytes s.behind, drop_of s.before (bytes ++ s.behind)) (take_of bytes s.behind)
 
 -- each chunk is a slice at its offset

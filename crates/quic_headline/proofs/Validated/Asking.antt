@@ -225,7 +225,7 @@ module _ (r : Run) (end : World) (honest : IsHonest r) (run : IsRun r end) (side
   same_questions [] a = refl
   same_questions (t ∷ told) a = same_questions told (asking_told l v t a)
 
-  own_questions : (i : ℕ) → (asking r side i).questions ≡ questions r side i
+  pub own_questions : (i : ℕ) → (asking r side i).questions ≡ questions r side i
   own_questions i = same_questions (until r side i) (first_asking (questions_at_first r side))
 
   -- while the end is open, it asks so
@@ -247,25 +247,25 @@ module _ (r : Run) (end : World) (honest : IsHonest r) (run : IsRun r end) (side
 
   -- a call of its own
   module _ (i : ℕ) (call : Call) (a : Answer) (w next : World) (m : IsMade r i side call a w next) (leads : LeadsTo r (suc i) next) (still : (end_at side next).closing.state ≡ states.Open) where
-    abbrev x : Party
+    abbrev pub x : Party
     x = path.x r end honest run side i call a w next m leads still
 
-    abbrev y : Party
+    abbrev pub y : Party
     y = path.y r end honest run side i call a w next m leads still
 
-    abbrev behind : End
+    abbrev pub behind : End
     behind = path.behind r end honest run side i call a w next m leads still
 
-    abbrev ss : List Sent
+    abbrev pub ss : List Sent
     ss = sents_by x.policy x.end call a
 
-    abbrev known : Asking
+    abbrev pub known : Asking
     known = asking r side i
 
-    abbrev q : Questions
+    abbrev pub q : Questions
     q = questions r side i
 
-    abbrev later : Questions
+    abbrev pub later : Questions
     later = questions r side (suc i)
 
     -- what goes at the call is what the end gives
@@ -281,7 +281,7 @@ module _ (r : Run) (end : World) (honest : IsHonest r) (run : IsRun r end) (side
         ∙ ap (λ (ts : List Sent). ts ++ ss) (sym c.gives.1.own ∙ ap (λ (u : Watch). u.own) (sym h.seen)))
 
     -- what is known behind it
-    asking_next : asking r side (suc i) ≡ asking_behind ss later known
+    pub asking_next : asking r side (suc i) ≡ asking_behind ss later known
     asking_next =
         let t : Told = told_of call a (state_at r side i) in
         ap (λ (ts : List Told). folded (asking_told l v) ts (first_asking (questions_at_first r side))) (own_told r end run side i call a w next m)
@@ -290,30 +290,34 @@ module _ (r : Run) (end : World) (honest : IsHonest r) (run : IsRun r end) (side
         ∙ ap (λ (u : Questions). asking_behind (went q.watch u.watch) u known) (sym (path.next_is r end honest run side i call a w next m leads still))
         ∙ ap (λ (ts : List Sent). asking_behind ts later known) goes
 
-    abbrev more : Bool
+    abbrev pub more : Bool
     more = nat_lt known.questions.count later.count
 
-    abbrev moved : Bool
+    abbrev pub moved : Bool
     moved = has_changed known.questions.watch later.watch
 
     -- the path changes as the observer sees it
-    moved_is : has_moved x.end behind ≡ true → moved ≡ true
-    moved_is is =
+    pub moved_same : moved ≡ has_moved x.end behind
+    moved_same =
         ap (λ (u : Questions). has_changed u.watch later.watch) (own_questions i)
         ∙ ap (λ (u : Watch). has_changed q.watch u) (path.own_watch r end honest run side (suc i) ∙ sym (path.after_is r end honest run side i call a w next m leads still))
         ∙ path.changed r end honest run side i call a w next m leads still
-        ∙ is
 
-    -- it asked once more where the end did
-    more_is : x.end.validation.drawn < behind.validation.drawn → more ≡ true
-    more_is rises =
+    -- it asked as often as the end
+    pub counts_before : known.questions.count ≡ x.end.validation.drawn
+    counts_before =
+        let before = path.asked_at r end honest run side i w (stands_within r end run side i side call a w next m) (served_before r.answers i m.served) m.leads (path.open_here r end honest run side i call a w next m leads still) in
+        ap (λ (u : Questions). u.count) (own_questions i) ∙ before.asked ∙ ap (λ (s : Standing). s.asked.validation.drawn) (sym (path.reads r end honest run side i call a w next m leads still))
+
+    pub counts_behind : later.count ≡ behind.validation.drawn
+    counts_behind =
         let view = view_there r end run side i side call a w next m in
         let within = slice_get_within r.views i view.0 view.1 in
-        let before = path.asked_at r end honest run side i w (stands_within r end run side i side call a w next m) (served_before r.answers i m.served) m.leads (path.open_here r end honest run side i call a w next m leads still) in
-        let asked = path.asked_at r end honest run side (suc i) next (omega (arith, within)) m.served leads still in
-        let first : known.questions.count ≡ x.end.validation.drawn = ap (λ (u : Questions). u.count) (own_questions i) ∙ before.asked ∙ ap (λ (s : Standing). s.asked.validation.drawn) (sym (path.reads r end honest run side i call a w next m leads still)) in
-        let last : later.count ≡ behind.validation.drawn = asked.asked ∙ ap (λ (e : End). e.validation.drawn) (path.leaves r end honest run side i call a w next m leads still) in
-        lt-ltb known.questions.count later.count (omega (arith, first, last, rises))
+        (path.asked_at r end honest run side (suc i) next (omega (arith, within)) m.served leads still).asked ∙ ap (λ (e : End). e.validation.drawn) (path.leaves r end honest run side i call a w next m leads still)
+
+    -- so it asked once more where the end did
+    more_is : x.end.validation.drawn < behind.validation.drawn → more ≡ true
+    more_is rises = (let first = counts_before in let last = counts_behind in lt-ltb known.questions.count later.count (omega (arith, first, last, rises)))
 
     own_asks : AsksThen i w → AsksSo (asking r side (suc i)).latest (asking r side (suc i)).renewed (standing (end_at side next))
     own_asks before =
@@ -322,7 +326,7 @@ module _ (r : Run) (end : World) (honest : IsHonest r) (run : IsRun r end) (side
         (elim (call_asks known.latest known.renewed x y call a (path.c r end honest run side i call a w next m leads still) (path.open_behind r end honest run side i call a w next m leads still) was) [
           | inl same ↦ renewed_unless (asked_by ss known.latest) (stands is_path_challenge ss) more (moved || known.renewed) (standing behind) (renewed_unless (asked_by ss known.latest) (stands is_path_challenge ss) moved known.renewed (standing behind) same)
           | inr (inl anew) ↦ silently anew.none (or_left more (moved || known.renewed) (more_is anew.more)) (λ unvalidated. inl anew.asks)
-          | inr (inr other) ↦ silently other.none (or_right more (moved || known.renewed) (or_left moved known.renewed (moved_is other.moved))) other.asks
+          | inr (inr other) ↦ silently other.none (or_right more (moved || known.renewed) (or_left moved known.renewed (moved_same ∙ other.moved))) other.asks
         ]))
       where
         was : AsksSo known.latest known.renewed (standing x.end)

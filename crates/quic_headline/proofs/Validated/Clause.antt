@@ -6,7 +6,7 @@ use Rattle.std.proofs.lemmas.Bool.{eqb-true, both_ways}
 use Rattle.quic_wire_core.specs.declared.shared.EcnCodepoint.{EcnCodepoint}
 use Rattle.quic_wire_core.specs.declared.stream_id.Side.{Side}
 use Rattle.quic_wire_core.specs.StreamId.{other_side}
-use Rattle.quic_wire.specs.Value.{FrameValue, padding, path_response}
+use Rattle.quic_wire.specs.Value.{FrameValue, padding, path_challenge, path_response}
 use Rattle.quic_wire.specs.Items.{items}
 use Rattle.quic_wire.specs.declared.frame.InvalidFrame.{InvalidFrame}
 use Rattle.quic_packet.specs.Datagram.{Opening}
@@ -22,14 +22,14 @@ use Rattle.quic_machine.specs.declared.run.RunEvent.{RunEvent}
 use Rattle.quic_machine.specs.Policy.{Policy}
 use Rattle.quic_machine.specs.Validation.{token_of, word_of}
 use Rattle.quic_machine.specs.End.{End}
-use Rattle.quic_machine.specs.Migration.{is_there, migrated, has_moved}
+use Rattle.quic_machine.specs.Migration.{is_there, as_elsewhere, migrated, has_moved}
 use Rattle.quic_machine.specs.Receive.{Outcome}
 use Rattle.quic_machine.specs.FrameCases.{passed, begun}
 use Rattle.quic_machine.specs.CallCases.{is_delivery}
 use Rattle.quic_machine.specs.Machine.{World, after_call, end_at, control_at, heard_at}
 use Rattle.quic_headline.specs.Runs.{Run, Told, Packet, Intake, In, folded, until, given_of, state_at, AreServed, LeadsTo}
 use Rattle.quic_headline.specs.Observer.{Watch, first_watch, watch_from, watch, watch_told, lens_of, news, path_changes}
-use Rattle.quic_headline.specs.Headline.{IsHonest, IsRun}
+use Rattle.quic_headline.specs.Headline.{IsHonest, IsRun, IsAt}
 use Rattle.quic_headline.specs.Polls.{seen_at, IsMade}
 use Rattle.quic_headline.specs.Waited.{is_path_response}
 use Rattle.quic_headline.specs.Validated.{asking, AnswerCame, IsLatest, IsOwnWord, WasAnswered, ValidatedByAnswer, AreWords, CameFromPeer, AnswersValidate}
@@ -124,8 +124,10 @@ apart_validated : (p : Policy) (e : End) (theirs : List (List ℕ)) (call : Call
 apart_validated p e theirs (calls.Poll now) a apart still = (polled_left p e now still).validated
 apart_validated p e theirs call a apart still = call_stands (λ (s : Standing). s.validated ≡ e.path.validated) p e theirs call a apart refl (λ is n moment s j. j) (λ s j. j) refl
 
--- PATH_RESPONSE that is right stands in a packet that came between, and tells a word of 64 bits.
-record Right (o : Option ℕ) (before behind : Intake) : Type 0 where
+-- PATH_RESPONSE that is right stands in a packet that came between, so, and tells a word of 64
+-- bits.
+record Right (whence : Type 0) (o : Option ℕ) (before behind : Intake) : Type 0 where
+  from : whence
   token : List ℕ
   packet : Packet
   came : In packet (news before behind)
@@ -146,8 +148,8 @@ IsFrom call remote = (delivery : Delivery) → call ≡ calls.Deliver delivery �
 
 -- of an end whose path is the same, and what came to it: where its address becomes validated such a
 -- one came, and where one came on that path it is validated
-record Answered (here : Type 0) (o : Option ℕ) (validated : Bool) (before : Intake) (e : End) (behind : Intake) : Type 0 where
-  by : validated ≡ false → e.path.validated ≡ true → Right o before behind
+record Answered (here whence : Type 0) (o : Option ℕ) (validated : Bool) (before : Intake) (e : End) (behind : Intake) : Type 0 where
+  by : validated ≡ false → e.path.validated ≡ true → Right whence o before behind
   so : here → (token : List ℕ) (packet : Packet) → In packet (news before behind) → In (path_response token) packet.frames → is_asked o (word_of token) ≡ true → e.path.validated ≡ true
 
 -- of one whose path is another: nothing came from where its peer was, and where the address is
@@ -157,8 +159,8 @@ record Anew (here : Type 0) (before : Intake) (e : End) (behind : Intake) : Type
   pub came : e.path.validated ≡ true → Came before behind
 
 -- nothing came, and it stays
-none_answered : (here : Type 0) (o : Option ℕ) (validated : Bool) (before : Intake) (e : End) → e.path.validated ≡ validated → Answered here o validated before e before
-none_answered here o validated before e same = record {
+none_answered : (here whence : Type 0) (o : Option ℕ) (validated : Bool) (before : Intake) (e : End) → e.path.validated ≡ validated → Answered here whence o validated before e before
+none_answered here whence o validated before e same = record {
   by = λ unvalidated is. absurd (both_ways validated unvalidated (sym same ∙ is));
   so = λ from token packet came answers right. absurd (subst (λ (ps : List Packet). In packet ps) (none_new before) came);
 }
@@ -179,10 +181,22 @@ moved_answered p o remote e = by_asked Found p o remote e (λ may is. cc) (λ ma
     Found : End → Type 0
     Found x = x.path.validated ≡ true → Answer
 
+-- PATH_RESPONSE is taken only of a packet from where the peer is
+never_elsewhere : (f : FrameValue) (token : List ℕ) → path_response token ≡ as_elsewhere f → ⊥
+never_elsewhere (path_challenge t) token is = cc
+never_elsewhere (path_response t) token is = cc
+never_elsewhere f token is = cc
+
+only_here : (b : Bool) (fs : List FrameValue) (token : List ℕ) → In (path_response token) (frames_at b fs) → b ≡ true
+only_here true fs token among = refl
+only_here false [] token among = absurd among
+only_here false (f ∷ fs) token (inl is) = absurd (never_elsewhere f token is)
+only_here false (f ∷ fs) token (inr among) = only_here false fs token among
+
 -- so it is in each case of a delivery, where the end stays open
-module _ (remote : ℕ) (mark : Option EcnCodepoint) (e : End) (now n : ℕ) (frames : List FrameValue) (i : Intake) (from : Type 0) (says : from → remote ≡ e.path.remote) (fits : (f : FrameValue) → In f frames → AnswerFits f) where
+module _ (remote : ℕ) (mark : Option EcnCodepoint) (e : End) (now n : ℕ) (frames : List FrameValue) (i : Intake) (from : Type 0) (says : from → remote ≡ e.path.remote) (whence : Type 0) (there : remote ≡ e.path.remote → whence) (fits : (f : FrameValue) → In f frames → AnswerFits f) where
   abbrev Same : End → Intake → Type 0
-  Same f j = Answered from e.validation.challenge e.path.validated i f j
+  Same f j = Answered from whence e.validation.challenge e.path.validated i f j
 
   abbrev Other : End → Intake → Type 0
   Other f j = Anew from i f j
@@ -209,9 +223,10 @@ module _ (remote : ℕ) (mark : Option EcnCodepoint) (e : End) (now n : ℕ) (fr
   of_packet token among = elim (of_at (is_there remote e) frames (path_response token) among) [ inl there ↦ there | inr pads ↦ absurd (let clash : path_response token ≡ padding = pads in cc) ]
 
   arrivals_answered : ArrivalsFrom remote mark e now n frames i (λ (o : Outcome) (j : Intake). o.end.closing.state ≡ states.Open → Leads e Same Other o.end j)
-  arrivals_answered = arrivals_lead remote mark e now n frames Same Other i (none_answered from e.validation.challenge e.path.validated i e refl)
+  arrivals_answered = arrivals_lead remote mark e now n frames Same Other i (none_answered from whence e.validation.challenge e.path.validated i e refl)
       (λ words none. record {
         by = λ unvalidated is. (let found = validates taken (begun e now n) none unvalidated is in record {
+          from = there (eqb-true remote e.path.remote (only_here (is_there remote e) frames found.0 found.1));
           token = found.0;
           packet = packet;
           came = came_one;
@@ -313,16 +328,20 @@ module _ (r : Run) (end : World) (honest : IsHonest r) (run : IsRun r end) (side
   abbrev Here : Type 0
   Here = IsFrom call x.end.path.remote
 
+  -- it is a delivery from there
+  abbrev Whence : Type 0
+  Whence = (delivery : Delivery) × (call ≡ calls.Deliver delivery) × (delivery.remote ≡ x.end.path.remote)
+
   abbrev Answers : End → Intake → Type 0
-  Answers e j = Leads x.end (λ (f : End) (k : Intake). Answered Here x.end.validation.challenge x.end.path.validated (came_to x y) f k) (λ (f : End) (k : Intake). Anew Here (came_to x y) f k) e j
+  Answers e j = Leads x.end (λ (f : End) (k : Intake). Answered Here Whence x.end.validation.challenge x.end.path.validated (came_to x y) f k) (λ (f : End) (k : Intake). Anew Here (came_to x y) f k) e j
 
   answered_behind : Answers behind.end (came_to behind y)
   answered_behind = by_coming_from x y a h.joined (made_served r i side call a w next m) (meets y x h.takes.0.0.0) (λ (b : Answer) (e : End) (j : Intake). e.closing.state ≡ states.Open → Answers e j) call m.step.answer (record {
     apart = λ apart opened.
         let f : End = after_call x.policy x.end y.given call a in
-        inl (same_path x.end f (apart_stays x.policy x.end y.given call a apart), none_answered Here x.end.validation.challenge x.end.path.validated (came_to x y) f (apart_validated x.policy x.end y.given call a apart opened));
-    none = λ delivery is opened. inl (same_path x.end x.end refl, none_answered Here x.end.validation.challenge x.end.path.validated (came_to x y) x.end refl);
-    comes = λ delivery is s among. arrivals_answered delivery.remote delivery.ecn x.end delivery.now s.number s.frames (came_to x y) Here (λ here. here delivery is) (h.takes.1.answers s among);
+        inl (same_path x.end f (apart_stays x.policy x.end y.given call a apart), none_answered Here Whence x.end.validation.challenge x.end.path.validated (came_to x y) f (apart_validated x.policy x.end y.given call a apart opened));
+    none = λ delivery is opened. inl (same_path x.end x.end refl, none_answered Here Whence x.end.validation.challenge x.end.path.validated (came_to x y) x.end refl);
+    comes = λ delivery is s among. arrivals_answered delivery.remote delivery.ecn x.end delivery.now s.number s.frames (came_to x y) Here (λ here. here delivery is) Whence (λ same. (delivery, is, same)) (h.takes.1.answers s among);
   }) open_behind
 
   -- an answer that came to it came by the lists
@@ -357,13 +376,22 @@ module _ (r : Run) (end : World) (honest : IsHonest r) (run : IsRun r end) (side
     | inl same ↦ right_so (same.1.by unvalidated_here (left_validated ∙ validated)) (asks unvalidated_here)
     | inr moved ↦ (
         let found = answered_own moved.0 (left_validated ∙ validated) in
-        record { token = found.0; came = record { packet = found.1; came = subst (λ (ps : List Packet). In found.1 ps) (sym news_are) found.2; answers = found.3 }; right = inr (inr (changes ∙ moved.0), found.4) })
+        record { token = found.0; came = record { packet = found.1; came = subst (λ (ps : List Packet). In found.1 ps) (sym news_are) found.2; answers = found.3 }; right = inr (inr (changes ∙ moved.0), found.4); from = inr (changes ∙ moved.0) })
   ]
     where
       unvalidated_here : x.end.path.validated ≡ false
       unvalidated_here = ap (λ (s : Standing). s.validated) reads ∙ unvalidated
 
-      right_so : Right x.end.validation.challenge (came_to x y) (came_to behind y) → Asks (asking r side i).latest (asking r side i).renewed (standing x.end) ⊎ Silent (asking r side i).renewed (standing x.end) → WasAnswered r side i
+      -- it came from there by the lists
+      from_there : Whence → CameFromPeer r side i
+      from_there (delivery, is, same) = record {
+        delivery = delivery;
+        answer = a;
+        at = subst (λ (c : Call). IsAt r i side c a) is m.at;
+        from = same ∙ reads_path.1 ∙ sym (routed_at r end honest run side i w (served_before r.answers i m.served) m.leads).address;
+      }
+
+      right_so : Right Whence x.end.validation.challenge (came_to x y) (came_to behind y) → Asks (asking r side i).latest (asking r side i).renewed (standing x.end) ⊎ Silent (asking r side i).renewed (standing x.end) → WasAnswered r side i
       right_so found (inl asked) = record {
         token = found.token;
         came = record { packet = found.packet; came = subst (λ (ps : List Packet). In found.packet ps) (sym news_are) found.came; answers = found.answers };
@@ -371,6 +399,7 @@ module _ (r : Run) (end : World) (honest : IsHonest r) (run : IsRun r end) (side
           | inl waits ↦ inr (inl waits.1, subst (IsOwnWord r side) same (h.gives.1.own opened asked.word (inl asked.asked)))
           | inr went ↦ inl (subst (λ (latest : Option (List ℕ)). IsLatest latest found.token) (sym went.1) (sym same ∙ sym (word_whole asked.word (subst (λ (n : ℕ). n < 2 ^ 64) (sym same) found.fits))))
         ];
+        from = inl (from_there found.from);
       }
         where
           same : asked.word ≡ word_of found.token

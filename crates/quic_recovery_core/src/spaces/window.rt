@@ -92,6 +92,10 @@ impl Window {
         ensures greatest { steps < WINDOW_BITS → bit_at result steps ≡ 1 }
         ensures far { (i : ℕ) → i < WINDOW_BITS → steps < i → bit_at result i ≡ bit_at self.now (i - (steps + 1)) }
     {
+        if steps == 0 {
+            // So are packets that come in order.
+            return self.shl(1).with_bit(0);
+        }
         if steps >= WINDOW_BITS {
             return Window::new();
         }

@@ -3,10 +3,10 @@
 ghost use Rattle.std.specs.Prelude.{◌≡◌, ◌<◌, ◌^◌, length, IfOk};
 ghost use Rattle.std.specs.Int.{w64, to_be_bytes};
 ghost use Rattle.quic_wire_core.specs.Taking.{Reads};
-ghost use Rattle.quic_wire.specs.Reading.{var_at, block_at, sized_at, offset_at, data_at, byte_at, connection_id_at, of_kind_at, body_at};
+ghost use Rattle.quic_wire.specs.Reading.{var_at, block_at, sized_at, offset_at, data_at, stream_at, byte_at, connection_id_at, of_kind_at, body_at};
 ghost use Rattle.quic_wire.specs.FrameTypes.{is_ack, is_reset_stream, is_stop_sending, is_crypto, is_new_token, is_stream, is_max_data, is_max_stream_data, is_max_streams, is_data_blocked, is_stream_data_blocked, is_streams_blocked, is_new_connection_id, is_retire_connection_id, is_path_challenge, is_path_response, is_connection_close, is_application_close, is_datagram, is_ack_frequency, has_bit};
 ghost use Rattle.quic_wire.specs.Items.{frame_at};
-ghost use Rattle.quic_wire.specs.FrameView.{is_one_way, frame_view};
+ghost use Rattle.quic_wire.specs.FrameView.{is_one_way, frame_view, stream_view};
 
 use crate::frame::ack::reading::ack_of;
 use crate::frame::{
@@ -68,7 +68,7 @@ fn offset_of(written: bool, bytes: &mut &[u8]) -> Result<u64, FrameError>
 
 /// The bytes behind their length, or, where no length is written, all that are left.
 #[tactic(auto, unfolding(crate::specs::Reading::data_at))]
-fn data_of<'a>(sized: bool, bytes: &mut &'a [u8]) -> Result<&'a [u8], FrameError>
+pub(crate) fn data_of<'a>(sized: bool, bytes: &mut &'a [u8]) -> Result<&'a [u8], FrameError>
     ensures { Reads (λ x. x.now) result bytes.new.now (data_at sized bytes.old.now) }
 {
     if sized {
@@ -131,20 +131,30 @@ fn new_token_of<'a>(bytes: &mut &'a [u8]) -> Result<Frame<'a>, FrameError>
     Ok(Frame::NewToken { token })
 }
 
-/// A STREAM frame behind its type.
+/// The fields of a STREAM frame behind its type.
 #[tactic(auto, unfolding(crate::specs::Reading::stream_at))]
-fn stream_of<'a>(ty: u64, bytes: &mut &'a [u8]) -> Result<Frame<'a>, FrameError>
-    ensures { Reads frame_view result bytes.new.now (of_kind_at (is_stream (has_bit ty 4) (has_bit ty 2) (has_bit ty 1)) bytes.old.now) }
+pub(crate) fn stream_of<'a>(ty: u64, bytes: &mut &'a [u8]) -> Result<Stream<'a>, FrameError>
+    ensures { Reads stream_view result bytes.new.now (stream_at (has_bit ty 4) (has_bit ty 2) (has_bit ty 1) bytes.old.now) }
 {
     let id = StreamId::from(var_of(bytes)?);
     let offset = offset_of(ty & 4 != 0, bytes)?;
     let data = data_of(ty & 2 != 0, bytes)?;
-    Ok(Frame::Stream(Stream {
+    Ok(Stream {
         id,
         offset,
         fin: ty & 1 != 0,
         data,
-    }))
+    })
+}
+
+/// A STREAM frame behind its type.
+fn stream_frame_of<'a>(ty: u64, bytes: &mut &'a [u8]) -> Result<Frame<'a>, FrameError>
+    ensures { Reads frame_view result bytes.new.now (of_kind_at (is_stream (has_bit ty 4) (has_bit ty 2) (has_bit ty 1)) bytes.old.now) }
+{
+    match stream_of(ty, bytes) {
+        Ok(stream) => Ok(Frame::Stream(stream)),
+        Err(reason) => Err(reason),
+    }
 }
 
 /// A MAX_DATA frame behind its type.
@@ -358,7 +368,7 @@ fn body_of<'a>(ty: u64, bytes: &mut &'a [u8]) -> Result<Frame<'a>, FrameError>
         0x05 => stop_sending_of(bytes),
         0x06 => crypto_of(bytes),
         0x07 => new_token_of(bytes),
-        0x08..=0x0f => stream_of(ty, bytes),
+        0x08..=0x0f => stream_frame_of(ty, bytes),
         0x10 => max_data_of(bytes),
         0x11 => max_stream_data_of(bytes),
         0x12 => max_streams_of(Dir::Bi, bytes),

@@ -1,9 +1,11 @@
 //! The frames of a payload but for PADDING.
-ghost use Rattle.std.specs.Prelude.{◌≡◌, ◌<◌, ◌≤◌, length, IfSome, IfNone};
+ghost use Rattle.std.specs.Prelude.{◌≡◌, ◌<◌, ◌≤◌, ◌∷◌, length, Ok, IfSome, IfNone};
+ghost use Rattle.quic_wire.specs.Value.{stream, datagram};
+ghost use Rattle.quic_wire.specs.FrameView.{stream_view};
 ghost use Rattle.quic_wire.specs.Items.{items, without_padding, BeginsUnpadded};
 
-use crate::frame::reading::{frame_of, var_of};
-use crate::frame::{Frame, InvalidFrame};
+use crate::frame::reading::{data_of, frame_of, stream_of, var_of};
+use crate::frame::{Frame, InvalidFrame, Stream};
 use std::marker::Model;
 
 /// The bytes behind the zeros at the front, each of which is PADDING (RFC 9000, section 19.1).
@@ -79,6 +81,49 @@ impl<'a> Unpadded<'a> {
         ensures { result ≡ payload.now }
     {
         Unpadded { bytes: payload }
+    }
+
+    /// Takes the STREAM frame that stands next, and makes no [`Frame`] of it, which is larger.
+    /// `None` where another item stands there, PADDING or no frame that can be read, or where the
+    /// type is written in more than one byte: nothing changes then, and [`next`](Self::next) tells.
+    pub fn next_stream(&mut self) -> Option<Stream<'a>>
+        ensures some { IfSome result (λ s. without_padding (items self.old) ≡ Ok (stream (stream_view s)) ∷ without_padding (items self.new)) }
+        ensures none { IfNone result (self.new ≡ self.old) }
+    {
+        let (first, behind) = self.bytes.split_first()?;
+        let ty = *first;
+        if ty < 0x08 || 0x0f < ty {
+            return None;
+        }
+        let mut rest = behind;
+        match stream_of(ty.into(), &mut rest) {
+            Ok(frame) => {
+                self.bytes = rest;
+                Some(frame)
+            }
+            Err(_) => None,
+        }
+    }
+
+    /// Takes the message of the DATAGRAM frame that stands next, as
+    /// [`next_stream`](Self::next_stream) takes a STREAM frame.
+    pub fn next_message(&mut self) -> Option<&'a [u8]>
+        ensures some { IfSome result (λ m. without_padding (items self.old) ≡ Ok (datagram m.now) ∷ without_padding (items self.new)) }
+        ensures none { IfNone result (self.new ≡ self.old) }
+    {
+        let (first, behind) = self.bytes.split_first()?;
+        let ty = *first;
+        if ty < 0x30 || 0x31 < ty {
+            return None;
+        }
+        let mut rest = behind;
+        match data_of(ty == 0x31, &mut rest) {
+            Ok(message) => {
+                self.bytes = rest;
+                Some(message)
+            }
+            Err(_) => None,
+        }
     }
 }
 

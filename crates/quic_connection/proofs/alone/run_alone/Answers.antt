@@ -104,3 +104,10 @@ returns-clause-acks_only_taken g c = λ fit.
     let added : drop (length c.args.given.now.items) c.make_calls.new.given.items ≡ given.more = ap (λ (ds : List (List ℕ)). drop (length c.args.given.now.items) ds) given.behind ∙ drop_at c.args.given.now.items given.more (length c.args.given.now.items) refl in
     let small : CodesAreSmall made = first_small (length c.make_calls.result.answers.items) c.args.calls.now c.show_codes.ensures in
     subst (AcksTaken p c.args.theirs.now [] made c.make_calls.result.answers.items) (sym added) (c.acks_only_taken.ensures p c.args.theirs.now from to made c.make_calls.result.answers.items given.more fit small given.gives)
+
+pub returns-clause-messages_fit : goal.returns-clause-messages_fit
+returns-clause-messages_fit g c = λ new.
+    let p : Policy = policy_of g.H.HeaderKey.protection g.K.PacketKey.aead g.K.PacketKey.seal_limit g.K.PacketKey.refusal_limit (words_of g.R.Rng.stream) c.args.end.now in
+    let from : Lone = lone_of (windows_of g.C.Controller.steps g.C.Controller.window_of) c.args.end.now in
+    let to : Lone = lone_of (windows_of g.C.Controller.steps g.C.Controller.window_of) c.make_calls.new.end in
+    c.messages_fit.ensures p c.args.theirs.now from to (take (length c.make_calls.result.answers.items) c.args.calls.now) c.make_calls.result.answers.items new (returns-clause-follows g c)

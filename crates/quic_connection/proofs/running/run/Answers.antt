@@ -38,4 +38,6 @@ returns-clause-isolates g c =
       isolated = c.isolated.ensures r end is;
       isolated_by_answers = c.isolated_by_answers.ensures r end is;
       isolated_by_lists = λ started. c.isolated_by_lists.ensures r end started is;
+      runs_agree = c.runs_agree.ensures r end is;
+      idle_runs_agree = c.idle_runs_agree.ensures r end is;
     }

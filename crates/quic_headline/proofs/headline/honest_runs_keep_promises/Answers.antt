@@ -1,12 +1,17 @@
 -- All that a run of two honest ends keeps.
 use Rattle.quic_headline.proofs.AckFrames.Clause.{acks_name_all}
+use Rattle.quic_headline.proofs.AckFrames.Delays.{acks_say_delay}
 use Rattle.quic_headline.proofs.AckFrames.Marked.{acks_count_marks}
 use Rattle.quic_headline.proofs.AcksDue.Clause.{acks_are_due}
+use Rattle.quic_headline.proofs.Allowed.Lacking.{lacks_where_taken}
 use Rattle.quic_headline.proofs.Allowed.Over.{reads_are_over}
 use Rattle.quic_headline.proofs.Allowed.Reads.{reads_are_allowed}
 use Rattle.quic_headline.proofs.Allowed.Writes.{resets_are_allowed, writes_are_allowed}
+use Rattle.quic_headline.proofs.Amounts.Blocked.{blocked_say}
 use Rattle.quic_headline.proofs.Amounts.Clause.{writes_take_what_limits_allow}
+use Rattle.quic_headline.proofs.Amounts.InOrder.{opens_in_order}
 use Rattle.quic_headline.proofs.Amounts.Opening.{opening_is_exact}
+use Rattle.quic_headline.proofs.Amounts.Stopped.{stopped_take_nothing}
 use Rattle.quic_headline.proofs.Amounts.PeerLimits.{limits_are_the_peers}
 use Rattle.quic_headline.proofs.AppLimited.Clause.{controllers_are_told}
 use Rattle.quic_headline.proofs.Begins.Clause.{waiting_begins}
@@ -28,6 +33,7 @@ use Rattle.quic_headline.proofs.Channel.Unreset.{nothing_behind_resets}
 use Rattle.quic_headline.proofs.Confirmed.Clause.{confirmation_is_told, done_is_exact}
 use Rattle.quic_headline.proofs.Credit.Clause.{credit_is_bounded}
 use Rattle.quic_headline.proofs.Credit.Counts.{counts_are_bounded}
+use Rattle.quic_headline.proofs.Destined.Drawn.{ids_are_drawn}
 use Rattle.quic_headline.proofs.Destined.InUse.{ids_are_in_use}
 use Rattle.quic_headline.proofs.Duties.Clause.{duties_stand}
 use Rattle.quic_headline.proofs.Events.Available.{available_is_told}
@@ -36,6 +42,7 @@ use Rattle.quic_headline.proofs.Events.Mail.{messages_are_told}
 use Rattle.quic_headline.proofs.Events.Openings.{openings_are_told}
 use Rattle.quic_headline.proofs.Events.Readables.{readables_are_told}
 use Rattle.quic_headline.proofs.Events.Writables.{writables_are_told}
+use Rattle.quic_headline.proofs.Halves.Spelled.{streams_say}
 use Rattle.quic_headline.proofs.Held.Clause.{polls_send_messages, polls_send_what_waits}
 use Rattle.quic_headline.proofs.Held.Control.{control_goes, retirements_go}
 use Rattle.quic_headline.proofs.Held.Limits.{limits_go}
@@ -71,6 +78,7 @@ use Rattle.quic_headline.proofs.Timers.Shown.{views_tell}
 use Rattle.quic_headline.proofs.Unread.Clause.{blocked_only_for_unread}
 use Rattle.quic_headline.proofs.Unread.OpeningClause.{none_opened_only_for_undone}
 use Rattle.quic_headline.proofs.Validated.Clause.{answers_validate, validated_by_answer}
+use Rattle.quic_headline.proofs.Validated.Goes.{challenges_go}
 use Rattle.quic_headline.proofs.Validated.Own.{challenges_are_own}
 use Rattle.quic_headline.proofs.Waited.Clause.{each_waited}
 use Rattle.quic_headline.proofs.Waited.Timers.{ack_timers_are_set}
@@ -91,16 +99,19 @@ returns c = λ r end honest is. (let heard = heard_nothing r honest in record {
   streams = record {
     accepts_all = accepts_all r end honest is;
     ids_are_new = ids_are_new r end honest is;
+    opens_in_order = opens_in_order r end honest is;
     accepted_were_opened = accepted_were_opened r end honest is;
     reads_are_allowed = reads_are_allowed r end honest is;
     reads_are_over = reads_are_over r end honest is;
     writes_are_allowed = writes_are_allowed r end honest is;
+    stopped_take_nothing = stopped_take_nothing r end honest is;
     resets_are_allowed = resets_are_allowed r end honest is;
   };
   limits = record {
     limits_are_the_peers = limits_are_the_peers r end honest is;
     opening_is_exact = opening_is_exact r end honest is;
     writes_take_what_limits_allow = writes_take_what_limits_allow r end honest is;
+    blocked_say = blocked_say r end honest is;
     grown_limits_wait = grown_limits_wait r end honest is;
     credit_is_bounded = credit_is_bounded r end honest is;
     counts_are_bounded = counts_are_bounded r end honest is;
@@ -114,6 +125,7 @@ returns c = λ r end honest is. (let heard = heard_nothing r honest in record {
     retirements_go = retirements_go r end honest is;
     limits_go = limits_go r end honest is;
     waiting_begins = waiting_begins r end honest is;
+    streams_say = streams_say r end honest is;
     stops_say = stops_say r end honest is;
     resets_say = resets_say r end honest is;
     nothing_behind_resets = nothing_behind_resets r end honest is;
@@ -140,6 +152,7 @@ returns c = λ r end honest is. (let heard = heard_nothing r honest in record {
     names_were_taken = names_were_taken r end honest is;
     acks_name_all = acks_name_all r end honest is;
     acks_count_marks = acks_count_marks r end honest is;
+    acks_say_delay = acks_say_delay r end honest is;
     acks_are_due = acks_are_due r end honest is heard;
     ack_moments = ack_moments r end honest is;
     ack_timers_are_set = ack_timers_are_set r end honest is;
@@ -182,10 +195,12 @@ returns c = λ r end honest is. (let heard = heard_nothing r honest in record {
     no_id_is_exact = no_id_is_exact r end honest is;
     too_many_is_exact = too_many_is_exact r end honest is;
     stays_for_a_reason = stays_for_a_reason r end honest is;
+    ids_are_drawn = ids_are_drawn r end honest is;
   };
   validates = record {
     threefold = threefold r end honest is;
     challenges_are_own = challenges_are_own r end honest is;
+    challenges_go = challenges_go r end honest is;
     validated_by_answer = validated_by_answer r end honest is;
     answers_validate = answers_validate r end honest is;
     responses_answer = responses_answer r end honest is;
@@ -202,6 +217,7 @@ returns c = λ r end honest is. (let heard = heard_nothing r honest in record {
     too_many_pieces = too_many_came r end honest is;
     closed_has_a_reason = closed_has_a_reason r end honest is;
     never_fails = never_fails r end honest is;
+    lacks_where_taken = lacks_where_taken r end honest is;
     application_closed = application_closed r end honest is;
     peer_closed = peer_closed r end honest is;
     idle_expired = idle_expired r end honest is;

@@ -1,6 +1,6 @@
-use Rattle.std.proofs.Common.{◌∙◌, ap, sym, subst, None, length, length-append, arith}
-use Rattle.quic_streams_parts.specs.Slots.{numbered, IsTrimmed}
-use Rattle.quic_streams_parts.proofs.Slotted.{numbered_widen, trimmed_push}
+use Rattle.std.proofs.Common.{◌∙◌, ap, length, length-append, arith}
+use Rattle.quic_streams_parts.specs.Slots.{numbered}
+use Rattle.quic_streams_parts.proofs.Slotted.{numbered_widen}
 use Rattle.quic_streams_parts.proofs.ring.widen.Goals as goal
 
 pub loop-slots-preserved : goal.loop-slots-preserved
@@ -12,6 +12,5 @@ loop-slots-preserved g c =
       held = λ n. ap (numbered n) c.push_back_reserved.ensures.items ∙ numbered_widen n c.loop-slots.slots.items ∙ i.held n;
       most = omega arith;
       least = omega arith;
-      trimmed = λ l t. subst IsTrimmed (sym c.push_back_reserved.ensures.items) (trimmed_push c.loop-slots.slots.items None (omega arith) (i.trimmed l t));
       room = omega arith;
     }

@@ -48,4 +48,4 @@ returns-in_err-on_packet_acked-clause-others g c =
 pub returns-clause-ok : goal.returns-clause-ok
 returns-clause-ok g c =
     let none : c.loop-number.acked.items ≡ [] = search rules in
-    acks_end g.C.Controller.steps c.args.self.now c.loop-number.self c.args.acked.items c.loop-number.acked.items c.loop-number.invariant none
+    c.keep_acked.ensures ∙ acks_end g.C.Controller.steps c.args.self.now c.loop-number.self c.args.acked.items c.loop-number.acked.items c.loop-number.invariant none

@@ -21,7 +21,8 @@ returns-then-is_empty-clause-ok g c =
     let acked = c.in_ok-acked.acked in
     let named = sym c.in_ok-acked.ensures.acked in
     let none = nothing_in acked.items (sym acked.ok.0 ∙ eqb-true acked.len 0 (sym c.is_empty.ensures ∙ c.if-is_empty.true)) in
-    c.in_ok-acked.ensures.ok
+    c.keep_acked.ensures
+    ∙ c.in_ok-acked.ensures.ok
     ∙ ap (λ x. with_end now x) (named_none c.args.rises a now.end acked.items named none)
     ∙ ap (λ t. telling g.C.Controller.steps now t (acked_taken (acked_by a now.end.tracking.packets) c.args.rises a now.end)) (told_none c.args.rises a now.end acked.items named none)
 

@@ -20,7 +20,6 @@ invariant_of-self-then-number-base g c =
     rw c.in_ok-insert.ensures.entries (record {
       below = below_added m.ring.base m.earlier.entries c.args.number c.args.value (omega arith) c.self.invariant.below;
       ordered = sorted-added m.earlier.entries c.args.number c.args.value c.self.invariant.ordered;
-      trimmed = c.self.invariant.trimmed;
     })
 
 pub returns-then-number-base-clause-replaced : goal.returns-then-number-base-clause-replaced
@@ -44,7 +43,6 @@ invariant_of-self-in_err-reach g c =
     record {
       below = c.reach.ensures.below;
       ordered = first_ordered c.reach.new.earlier.entries (held c.reach.new.self) (subst (λ (es : Table g.row.T.Denot). IsStrictlySortedBy nat_cmp (keys_of es)) (sym c.reach.ensures.both) all);
-      trimmed = c.reach.ensures.trimmed c.self.invariant.trimmed;
     }
 
 pub returns-in_err-reach-clause-was_ordered : goal.returns-in_err-reach-clause-was_ordered
@@ -54,20 +52,21 @@ pub invariant_of-self-2 : goal.invariant_of-self-2
 invariant_of-self-2 g c =
     let all = split_ordered c.self.inside.earlier.entries c.self.inside.ring c.self.invariant in
     record {
-      below = below_more c.reach.new.self.base c.insert-2.new.self.base c.reach.new.earlier.entries c.insert-2.ensures.base c.reach.ensures.below;
+      below = below_more c.reach.new.self.base c.insert-2.new.self.base c.reach.new.earlier.entries (let le = c.start_at.ensures.base in let same = c.insert-2.ensures.base in omega arith) c.reach.ensures.below;
       ordered = first_ordered c.reach.new.earlier.entries (held c.reach.new.self) (subst (λ (es : Table g.row.T.Denot). IsStrictlySortedBy nat_cmp (keys_of es)) (sym c.reach.ensures.both) all);
-      trimmed = c.insert-2.ensures.trimmed (c.reach.ensures.trimmed c.self.invariant.trimmed);
     }
 
 pub returns-clause-replaced : goal.returns-clause-replaced
 returns-clause-replaced g c =
-    let both = c.reach.ensures.both ∙ c.self.view_is in
-    rw (← both, at_from c.reach.new.self.base c.reach.new.earlier.entries (held c.reach.new.self) c.args.number c.reach.ensures.below c.reach.ensures.from) c.insert-2.ensures.replaced
+    let both = ap (λ es. c.reach.new.earlier.entries ++ es) c.start_at.ensures.held ∙ c.reach.ensures.both ∙ c.self.view_is in
+    let below = below_more c.reach.new.self.base c.start_at.new.self.base c.reach.new.earlier.entries c.start_at.ensures.base c.reach.ensures.below in
+    rw (← both, at_from c.start_at.new.self.base c.reach.new.earlier.entries (held c.start_at.new.self) c.args.number below c.start_at.ensures.from) c.insert-2.ensures.replaced
 
 pub returns-clause-ok : goal.returns-clause-ok
 returns-clause-ok g c =
-    let both = c.reach.ensures.both ∙ c.self.view_is in
-    rw (← both, added_from c.reach.new.self.base c.reach.new.earlier.entries (held c.reach.new.self) c.args.number c.args.value c.reach.ensures.below c.reach.ensures.from)
+    let both = ap (λ es. c.reach.new.earlier.entries ++ es) c.start_at.ensures.held ∙ c.reach.ensures.both ∙ c.self.view_is in
+    let below = below_more c.reach.new.self.base c.start_at.new.self.base c.reach.new.earlier.entries c.start_at.ensures.base c.reach.ensures.below in
+    rw (← both, added_from c.start_at.new.self.base c.reach.new.earlier.entries (held c.start_at.new.self) c.args.number c.args.value below c.start_at.ensures.from)
     (on_ok_weaker c.insert-2.result (λ e. ap (λ es. c.reach.new.earlier.entries ++ es) e) c.insert-2.ensures.ok)
 
 pub returns-clause-was_ordered : goal.returns-clause-was_ordered

@@ -86,7 +86,7 @@ pub returns-in-175 : goal.returns-in-175
 returns-in-175 c = of_type frame_view is_ack_frequency c.args.ty c.args.bytes.now.now c.ack_frequency_of.new.bytes.now c.ack_frequency_of.result tt c.in-175.is c.ack_frequency_of.ensures
 
 pub returns-in-8-to-15 : goal.returns-in-8-to-15
-returns-in-8-to-15 c = of_stream_type frame_view c.args.ty c.args.bytes.now.now c.stream_of.new.bytes.now c.stream_of.result (omega arith) (omega arith) c.stream_of.ensures
+returns-in-8-to-15 c = of_stream_type frame_view c.args.ty c.args.bytes.now.now c.stream_frame_of.new.bytes.now c.stream_frame_of.result (omega arith) (omega arith) c.stream_frame_of.ensures
 
 pub returns-in_default : goal.returns-in_default
 returns-in_default c = body_other c.args.ty c.args.bytes.now.now (λ e. omega arith) (λ e. omega arith) (λ h k. omega arith) (λ e. omega arith) (λ e. omega arith) (λ e. omega arith)

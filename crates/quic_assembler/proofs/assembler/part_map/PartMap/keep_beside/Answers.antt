@@ -1,6 +1,6 @@
 use Rattle.std.proofs.Common.{arith}
 use Rattle.quic_assembler.proofs.Parts.Rows.{row_first, above_either, row_before, above_before}
-use Rattle.quic_assembler.proofs.assembler.part_map.PartMap.keep.Goals as goal
+use Rattle.quic_assembler.proofs.assembler.part_map.PartMap.keep_beside.Goals as goal
 
 pub invariant_of-self-then-first-end : goal.invariant_of-self-then-first-end
 invariant_of-self-then-first-end c =

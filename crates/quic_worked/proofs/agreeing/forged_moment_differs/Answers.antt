@@ -1,0 +1,6 @@
+use Rattle.quic_worked.proofs.AgreeingRuns.{forged_differs}
+use Rattle.quic_worked.proofs.IsolatedRuns.{no_ticked}
+use Rattle.quic_worked.proofs.agreeing.forged_moment_differs.Goals as goal
+
+pub returns : goal.returns
+returns c = record { idle = forged_differs; machine = no_ticked }
