@@ -5,7 +5,7 @@ ghost use Rattle.quic_parameters.specs.ParametersRead.{parameters_at};
 ghost use Rattle.quic_config.specs.Transport.{transport_of, first_mtu};
 ghost use Rattle.quic_machine.specs.declared.answers.ConfigError.TheVariants as config_errors;
 ghost use Rattle.quic_machine.specs.declared.answers.State.TheVariants as states;
-ghost use Rattle.quic_machine.specs.End.{MadeFrom, refusal_of, limits_of, with_end, with_closing, with_numbers, with_loss_timer, with_ping, with_immediate, with_window, side_of, peer_delay, probe_timeout, HasFailed, words_drawn};
+ghost use Rattle.quic_machine.specs.End.{MadeFrom, refusal_of, limits_of, with_end, with_closing, with_numbers, with_loss_timer, with_window, side_of, peer_delay, probe_timeout, HasFailed, words_drawn};
 ghost use Rattle.quic_connection_parts.specs.Drawn.{words_of, after_words};
 ghost use Rattle.quic_connection_parts.specs.Telling.{IsRoomy, windows_at};
 ghost use Rattle.quic_machine.specs.Parts.{current_mtu, signals_wait};
@@ -15,7 +15,7 @@ ghost use Rattle.quic_machine.specs.Poll.{asks_to_go, message_waits};
 ghost use Rattle.quic_streams_state.specs.Waiting.{is_empty, can_send_stream_data};
 ghost use Rattle.quic_machine.specs.Receive.{after_taken};
 ghost use Rattle.quic_machine.specs.Calls.{is_open, end_after_ping};
-ghost use Rattle.quic_spaces.specs.Numbers.{can_number, number_opened};
+ghost use Rattle.quic_spaces.specs.Numbers.{number_opened};
 ghost use Rattle.quic_recovery_core.specs.Duplicates.{is_duplicate};
 ghost use Rattle.quic_time.specs.Rtt.{best_rtt};
 ghost use Rattle.quic_time.specs.Timers.{no_timers};
@@ -540,13 +540,6 @@ impl<H: HeaderKey + Drop, K: PacketKey + Drop, R: Rng + Drop, C: Controller> Con
         self.timers = TimerTable::default();
     }
 
-    /// Whether an ordinary datagram may still be numbered.
-    fn can_number(&self) -> bool
-        ensures { result ≡ can_number self.now.end.numbers }
-    {
-        self.space.numbers.can_number()
-    }
-
     /// Whether something ack-eliciting is pending.
     fn asks_to_go(&self) -> bool
         ensures { result ≡ asks_to_go self.now.end }
@@ -566,7 +559,7 @@ impl<H: HeaderKey + Drop, K: PacketKey + Drop, R: Rng + Drop, C: Controller> Con
     fn frames_wait(&self) -> bool
         ensures { result ≡ (not (is_empty self.now.end.waiting.frames self.now.end.streams) || (message_waits self.now.end || can_send_stream_data self.now.end.streams)) }
     {
-        // Mostly stream data is, and what else is pending needn't be looked for.
+        // Mostly stream data is pending, and what else is needn't be looked for.
         self.bytes_wait() || !self.streams.pending.is_empty(&self.streams.state)
     }
 
@@ -575,26 +568,6 @@ impl<H: HeaderKey + Drop, K: PacketKey + Drop, R: Rng + Drop, C: Controller> Con
         ensures { result ≡ (message_waits self.now.end || can_send_stream_data self.now.end.streams) }
     {
         self.streams.state.can_send_stream_data() || self.message_waits()
-    }
-
-    /// Takes the pending PING, if there is one: whether there was.
-    fn take_ping(&mut self) -> bool
-        ensures waited { result ≡ self.old.end.waiting.signals.ping }
-        ensures end { self.new ≡ with_end self.old (with_ping self.old.end false) }
-    {
-        let waited = self.space.ping_pending;
-        self.space.ping_pending = false;
-        waited
-    }
-
-    /// Takes the pending IMMEDIATE_ACK, if there is one: whether there was.
-    fn take_immediate_ack(&mut self) -> bool
-        ensures waited { result ≡ self.old.end.waiting.signals.immediate }
-        ensures end { self.new ≡ with_end self.old (with_immediate self.old.end false) }
-    {
-        let waited = self.space.immediate_ack_pending;
-        self.space.immediate_ack_pending = false;
-        waited
     }
 }
 

@@ -1,5 +1,5 @@
 //! Memory of lists that is kept for the next ones, so that not each takes its own.
-ghost use Rattle.std.specs.Prelude.{◌≡◌, []};
+ghost use Rattle.std.specs.Prelude.{◌≡◌, ◌≤◌, ◌<◌, ◌++◌, ◌∷◌, ◌⊎◌, [], nat_le, length, vec_capacity, if◌then◌else◌};
 
 use std::alloc::Global;
 use std::mem;
@@ -25,7 +25,9 @@ pub fn spare_list<T: Drop>(spare: &mut Vec<Vec<T>>, alloc: Global) -> Vec<T>
 }
 
 /// Keeps the memory of a list, unless it has none or much, or enough is kept.
-pub fn keep_list<T: Drop>(spare: &mut Vec<Vec<T>>, list: Vec<T>) {
+pub fn keep_list<T: Drop>(spare: &mut Vec<Vec<T>>, list: Vec<T>)
+    ensures kept { (spare.new.items ≡ spare.old.items) ⊎ ((spare.new.items ≡ spare.old.items ++ list ∷ []) × (length spare.old.items < 32) × (0 < vec_capacity list) × (vec_capacity list ≤ 16)) }
+{
     let places = list.capacity();
     if places == 0 || places > MOST_PLACES || spare.len() >= MOST_LISTS {
         return;
@@ -44,7 +46,9 @@ pub fn take_spare<T: Drop>(spare: &mut Vec<T>, alloc: Global) -> Vec<T>
 }
 
 /// Keeps the memory of a list for the next one, unless it has much.
-pub fn keep_spare<T: Drop>(spare: &mut Vec<T>, list: Vec<T>) {
+pub fn keep_spare<T: Drop>(spare: &mut Vec<T>, list: Vec<T>)
+    ensures { spare.new ≡ (if nat_le (vec_capacity list) 128 then list else spare.old) }
+{
     if list.capacity() <= MOST_PLACES_ALONE {
         *spare = list;
     }

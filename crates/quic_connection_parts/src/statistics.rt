@@ -1,10 +1,10 @@
 //! Frames that are counted as they go, and datagrams as they are dropped.
 ghost use Rattle.std.specs.Prelude.{◌≡◌};
-ghost use Rattle.quic_stats.specs.Stats.{counted};
+ghost use Rattle.quic_stats.specs.Stats.{counted, raised};
 ghost use Rattle.quic_connection_parts.specs.Drops.{after_drop};
 
 use quic_machine::DropReason;
-use quic_stats::{DropStats, FrameStats};
+use quic_stats::{DropStats, FrameStats, PathStats};
 use quic_wire::frame::Unpadded;
 
 /// The frames in these bytes go: those of control, of which there are few.
@@ -22,10 +22,18 @@ pub(crate) fn count_streams(stats: &mut FrameStats, frames: usize) {
 }
 
 /// One more.
-fn count(counter: &mut u64)
+pub fn count(counter: &mut u64)
     ensures { counter.new ≡ counted counter.old }
 {
     *counter = counter.saturating_add(1);
+}
+
+/// A packet of so many bytes in flight is lost.
+pub fn count_lost(path: &mut PathStats, size: u16)
+    ensures { path.new ≡ record path.old { lost_packets = counted path.old.lost_packets; lost_bytes = raised path.old.lost_bytes size } }
+{
+    count(&mut path.lost_packets);
+    path.lost_bytes = path.lost_bytes.saturating_add(u64::from(size));
 }
 
 /// A datagram is dropped for this reason. One from another address counts as one that came alone.

@@ -138,7 +138,7 @@ impl<T> Ring<T> {
         }
     }
 
-    /// The first value. The first slot holds it, unless slots of skipped numbers wait before it.
+    /// The first value. The first slot holds it, but where slots of skipped numbers wait before it.
     pub(crate) fn first(&self) -> Option<&T>
         ensures { option_copied result ≡ first_value (held self.now) }
     {
@@ -245,7 +245,8 @@ impl<T: Drop> Ring<T> {
         Ok(())
     }
 
-    /// Moves the value in the first slot to `earlier`, if there is one, and gives up the slot.
+    /// Moves the value in the first slot to `earlier`, if there is one, and gives up the slot, with
+    /// empty ones behind it that don't wait.
     ///
     /// # Errors
     ///
@@ -267,6 +268,7 @@ impl<T: Drop> Ring<T> {
             return Err(AllocError);
         }
         self.base += 1;
+        self.trim();
         Ok(())
     }
 }

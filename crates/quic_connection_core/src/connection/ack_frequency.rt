@@ -16,6 +16,7 @@ use quic_config::AckFrequencyConfig;
 use quic_congestion::Controller;
 use quic_connection_parts::packet::put_ack_frequency;
 use quic_connection_parts::receiving::Trouble;
+use quic_connection_parts::statistics::count;
 use quic_packet::crypto::{HeaderKey, PacketKey};
 use quic_time::Duration;
 use quic_wire::frame::AckFrequency;
@@ -176,6 +177,6 @@ impl<H: HeaderKey + Drop, K: PacketKey + Drop, R: Rng + Drop, C: Controller> Con
         self.ack_frequency.ack_frequency_sent(number, delay);
         self.streams.pending.set_ack_frequency(false);
         put_ack_frequency(frame, out);
-        self.count_ack_frequency();
+        count(&mut self.stats.frame_tx.ack_frequency);
     }
 }

@@ -22,6 +22,7 @@ use quic_connection_parts::acked::{
 };
 use quic_connection_parts::losses::Losses;
 use quic_connection_parts::spare::{keep_list, keep_spare, take_spare};
+use quic_connection_parts::statistics::count;
 use quic_connection_parts::telling::{tell_ack, tell_acks_ended, tell_congested};
 use quic_machine::Instant;
 use quic_packet::crypto::{HeaderKey, PacketKey};
@@ -109,7 +110,7 @@ impl<H: HeaderKey + Drop, K: PacketKey + Drop, R: Rng + Drop, C: Controller> Con
         match self.space.detect_ecn(newly, counts) {
             Ok(false) => {}
             Ok(true) => {
-                self.count_congestion();
+                count(&mut self.stats.path.congestion_events);
                 let now = self.closing.clock();
                 tell_congested(&mut self.path, now, last, false, 0);
             }
@@ -158,8 +159,8 @@ impl<H: HeaderKey + Drop, K: PacketKey + Drop, R: Rng + Drop, C: Controller> Con
         Ok(())
     }
 
-    /// Keeps the memory of a list of acknowledged packets for those of the next ACK frame, while
-    /// packets are in flight: at rest nothing is kept.
+    /// Keeps the memory of a list of acknowledged packets for those of the next ACK frame, if it
+    /// leaves packets in flight.
     fn keep_acked(&mut self, acked: Vec<(u64, SentPacket)>)
         ensures { self.new ≡ self.old }
     {
@@ -230,17 +231,9 @@ impl<H: HeaderKey + Drop, K: PacketKey + Drop, R: Rng + Drop, C: Controller> Con
             let delay = self.told_delay(frame);
             let rtt = self.closing.clock().saturating_duration_since(sent);
             self.path.rtt.update(delay, rtt);
-            self.note_sampled();
-        }
-    }
-
-    /// Notes a round-trip sample: the next number is the first after it, unless there was a sample
-    /// before (RFC 9002, section 7.6.2).
-    fn note_sampled(&mut self)
-        ensures { self.new ≡ with_end self.old (with_rtt self.old.end self.old.end.path.rtt (first_measured self.old.end.path.first_after_rtt self.old.end.numbers.next)) }
-    {
-        if self.path.first_packet_after_rtt_sample.is_none() {
-            self.path.first_packet_after_rtt_sample = Some(self.space.numbers.next());
+            if self.path.first_packet_after_rtt_sample.is_none() {
+                self.path.first_packet_after_rtt_sample = Some(self.space.numbers.next());
+            }
         }
     }
 
@@ -321,7 +314,7 @@ impl<H: HeaderKey + Drop, K: PacketKey + Drop, R: Rng + Drop, C: Controller> Con
         ensures { self.new ≡ telling C.steps self.old (told_lost by_ack self.old.end.closing.clock losses.now) self.old.end }
     {
         if losses.flew {
-            self.count_congestion();
+            count(&mut self.stats.path.congestion_events);
             let now = self.closing.clock();
             let persistent = by_ack && losses.persistent.is_persistent();
             tell_congested(

@@ -32,7 +32,7 @@ impl<H: HeaderKey + Drop, K: PacketKey + Drop, R: Rng + Drop, C: Controller> Con
             (bounds (policy_of H.protection K.aead K.seal_limit K.refusal_limit (words_of R.stream) self.now) self.now.end ≡ None)
             (λ bound. (bounds (policy_of H.protection K.aead K.seal_limit K.refusal_limit (words_of R.stream) self.now) self.now.end ≡ Some bound.0) × (bound.1 ≡ code_of bound.0)) }
     {
-        if !self.can_number() {
+        if !self.space.numbers.can_number() {
             return Some((LostReason::NumberLimit, Code::INTERNAL_ERROR));
         }
         if !self.may_seal() {
@@ -66,30 +66,14 @@ impl<H: HeaderKey + Drop, K: PacketKey + Drop, R: Rng + Drop, C: Controller> Con
         ensures answer { result ≡ (unopened_in self.old.end.closing.state (is_last (K.refusal_limit self.old.keys.packet.remote) self.old.heard) (arriving now 0 None (is_last (K.refusal_limit self.old.keys.packet.remote) self.old.heard)) self.old.end).answer }
         ensures end { self.new ≡ with_end (hearing self.old (heard_answer result self.old.heard)) (unopened_in self.old.end.closing.state (is_last (K.refusal_limit self.old.keys.packet.remote) self.old.heard) (arriving now 0 None (is_last (K.refusal_limit self.old.keys.packet.remote) self.old.heard)) self.old.end).end }
     {
-        self.count_failure();
-        if !self.is_open() {
-            return Received::Dropped(DropReason::NotOpened);
-        }
-        if !self.has_refused_all() {
+        self.authentication_failures = self.authentication_failures.saturating_add(1);
+        let limit = self.keys.packet.remote.integrity_limit();
+        if !self.is_open() || self.authentication_failures < limit {
             return Received::Dropped(DropReason::NotOpened);
         }
         self.tick(now);
         let code = Code::AEAD_LIMIT_REACHED;
         self.close_by(LostReason::KeyLimit, code);
         Received::Closed(TransportError::new(code, None, Reason::Unsaid))
-    }
-
-    /// Counts a packet that didn't open (RFC 9001, section 6.6).
-    fn count_failure(&mut self)
-        ensures { self.new ≡ hearing self.old (heard_failure self.old.heard) }
-    {
-        self.authentication_failures = self.authentication_failures.saturating_add(1);
-    }
-
-    /// Whether the peer's key refused as many packets as it may.
-    fn has_refused_all(&self) -> bool
-        ensures { result ≡ nat_le (K.refusal_limit self.now.keys.packet.remote) self.now.heard.failures }
-    {
-        self.authentication_failures >= self.keys.packet.remote.integrity_limit()
     }
 }

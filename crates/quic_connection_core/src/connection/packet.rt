@@ -31,6 +31,7 @@ use quic_connection_parts::leaving::Leaving;
 use quic_connection_parts::packet::{pad, put_content, put_immediate_ack, put_ping};
 use quic_connection_parts::sent::{Carried, SentFrames};
 use quic_connection_parts::spare::spare_list;
+use quic_connection_parts::statistics::count;
 use quic_machine::{Failed, Timer};
 use quic_packet::crypto::{HeaderKey, PacketKey, TAG_LEN};
 use quic_packet::{PacketNumber, ShortHeader, seal_reserved};
@@ -234,8 +235,8 @@ impl<H: HeaderKey + Drop, K: PacketKey + Drop, R: Rng + Drop, C: Controller> Con
             }
             Leaving::Probe(_) => {
                 put_ping(out);
-                self.count_ping();
-                self.count_probe();
+                count(&mut self.stats.frame_tx.ping);
+                count(&mut self.stats.path.sent_plpmtud_probes);
                 Ok(SentFrames::probe(self.alloc))
             }
         }
@@ -362,7 +363,7 @@ impl<H: HeaderKey + Drop, K: PacketKey + Drop, R: Rng + Drop, C: Controller> Con
         let now = self.closing.clock();
         self.space.acknowledging.put(now, counts.as_ref(), out);
         self.timers.stop(Timer::MaxAckDelay);
-        self.count_ack();
+        count(&mut self.stats.frame_tx.acks);
         largest
     }
 
@@ -421,9 +422,10 @@ impl<H: HeaderKey + Drop, K: PacketKey + Drop, R: Rng + Drop, C: Controller> Con
         ensures capacity { vec_capacity out.old ≤ vec_capacity out.new }
         ensures end { self.new ≡ with_end self.old (end_after_immediate_if self.old.end.waiting.signals.immediate self.old.end) }
     {
-        if self.take_immediate_ack() {
+        if self.space.immediate_ack_pending {
+            self.space.immediate_ack_pending = false;
             put_immediate_ack(out);
-            self.count_immediate_ack();
+            count(&mut self.stats.frame_tx.immediate_ack);
         }
     }
 
@@ -436,9 +438,10 @@ impl<H: HeaderKey + Drop, K: PacketKey + Drop, R: Rng + Drop, C: Controller> Con
         ensures capacity { vec_capacity out.old ≤ vec_capacity out.new }
         ensures end { self.new ≡ with_end self.old (pinged self.old.end) }
     {
-        if self.take_ping() {
+        if self.space.ping_pending {
+            self.space.ping_pending = false;
             put_ping(out);
-            self.count_ping();
+            count(&mut self.stats.frame_tx.ping);
         }
     }
 

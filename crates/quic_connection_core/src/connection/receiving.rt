@@ -24,6 +24,7 @@ use quic_connection_parts::receiving::{
     AckDemand, Trouble, drop_reason, is_above, is_congested, is_of_path, is_read, item_asks,
     violation,
 };
+use quic_connection_parts::statistics::count;
 use quic_connection_parts::stream_frames::{take_other, take_stream};
 use quic_machine::{DropReason, Instant, Received, State};
 use quic_packet::crypto::{HeaderKey, NotOpened, PacketKey};
@@ -361,7 +362,7 @@ impl<H: HeaderKey + Drop, K: PacketKey + Drop, R: Rng + Drop, C: Controller> Con
         ensures told { TellsAs result C.steps self.old (told_item (Ok (stream (stream_view frame.now))) self.old.end) self.new }
         ensures others { KeepsRest self.old self.new }
     {
-        self.count_stream();
+        count(&mut self.stats.frame_rx.stream);
         take_stream(&mut self.streams, frame)
     }
 
@@ -372,7 +373,7 @@ impl<H: HeaderKey + Drop, K: PacketKey + Drop, R: Rng + Drop, C: Controller> Con
         ensures told { TellsAs result C.steps self.old (told_item (Ok (datagram message.now)) self.old.end) self.new }
         ensures others { KeepsRest self.old self.new }
     {
-        self.count_datagram();
+        count(&mut self.stats.frame_rx.datagram);
         self.take_message(message)
     }
 
@@ -400,17 +401,11 @@ impl<H: HeaderKey + Drop, K: PacketKey + Drop, R: Rng + Drop, C: Controller> Con
         ensures { result ≡ item_answers (item_view item.now) self.now.end }
     {
         match item {
-            Ok(Frame::Ack(frame)) => self.acks_asking(frame),
+            Ok(Frame::Ack(frame)) => {
+                self.check_ack(frame).is_ok() && self.space.tracking.names_asking(frame)
+            }
             _ => false,
         }
-    }
-
-    /// Whether an ACK frame newly acknowledges an ack-eliciting packet. One that names a number
-    /// that was never sent acknowledges none.
-    fn acks_asking(&self, frame: &Ack<'_>) -> bool
-        ensures { result ≡ acks_asking frame.now self.now.end }
-    {
-        self.check_ack(frame).is_ok() && self.space.tracking.names_asking(frame)
     }
 
     /// Takes a frame that came from the peer's address or from elsewhere, or what can't be read as

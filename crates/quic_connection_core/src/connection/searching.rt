@@ -18,6 +18,7 @@ use quic_connection_parts::losses::Losses;
 use quic_connection_parts::searching::{
     hear_lost, hear_probe_lost, path_acked, path_asked, poll_search,
 };
+use quic_connection_parts::statistics::{count, count_lost};
 use quic_packet::crypto::{HeaderKey, PacketKey};
 use rand_core::Rng;
 
@@ -107,7 +108,7 @@ impl<H: HeaderKey + Drop, K: PacketKey + Drop, R: Rng + Drop, C: Controller> Con
     fn probe_lost(&mut self)
         ensures { self.new ≡ with_end self.old (with_discovery self.old.end (after_probe_lost self.old.end.path.discovery)) }
     {
-        self.count_lost_probe();
+        count(&mut self.stats.path.lost_plpmtud_probes);
         hear_probe_lost(&mut self.path);
     }
 
@@ -115,7 +116,7 @@ impl<H: HeaderKey + Drop, K: PacketKey + Drop, R: Rng + Drop, C: Controller> Con
     fn other_lost(&mut self, number: u64, size: u16)
         ensures { self.new ≡ with_end self.old (with_discovery self.old.end (after_packet_lost number size self.old.end.path.discovery)) }
     {
-        self.count_lost(size);
+        count_lost(&mut self.stats.path, size);
         hear_lost(&mut self.path, number, size);
     }
 
@@ -130,7 +131,9 @@ impl<H: HeaderKey + Drop, K: PacketKey + Drop, R: Rng + Drop, C: Controller> Con
         }
         let before = self.path.current_mtu();
         let fell = self.ask_size();
-        self.count_black_hole(fell);
+        if fell {
+            count(&mut self.stats.path.black_holes_detected);
+        }
         if self.path.current_mtu() != before {
             self.drop_oversized();
         }

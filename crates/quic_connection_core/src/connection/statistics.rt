@@ -5,7 +5,7 @@ ghost use Rattle.quic_machine.specs.Parts.{current_mtu};
 
 use crate::connection::Connection;
 use quic_congestion::Controller;
-use quic_connection_parts::statistics::count_drop;
+use quic_connection_parts::statistics::{count, count_drop};
 use quic_machine::Received;
 use quic_stats::ConnectionStats;
 use quic_wire::frame::Frame;
@@ -43,118 +43,11 @@ impl<H, K, R, C: Controller> Connection<H, K, R, C> {
         self.stats.frame_rx.record(frame);
     }
 
-    /// Counts a STREAM frame that came.
-    pub(crate) fn count_stream(&mut self)
-        ensures { self.new ≡ self.old }
-    {
-        let frames = &mut self.stats.frame_rx;
-        frames.stream = frames.stream.saturating_add(1);
-    }
-
-    /// Counts a DATAGRAM frame that came.
-    pub(crate) fn count_datagram(&mut self)
-        ensures { self.new ≡ self.old }
-    {
-        let frames = &mut self.stats.frame_rx;
-        frames.datagram = frames.datagram.saturating_add(1);
-    }
-
-    /// Counts an ACK frame as sent.
-    pub(crate) fn count_ack(&mut self)
-        ensures { self.new ≡ self.old }
-    {
-        let frames = &mut self.stats.frame_tx;
-        frames.acks = frames.acks.saturating_add(1);
-    }
-
-    /// Counts a PING frame as sent.
-    pub(crate) fn count_ping(&mut self)
-        ensures { self.new ≡ self.old }
-    {
-        let frames = &mut self.stats.frame_tx;
-        frames.ping = frames.ping.saturating_add(1);
-    }
-
-    /// Counts an IMMEDIATE_ACK frame as sent.
-    pub(crate) fn count_immediate_ack(&mut self)
-        ensures { self.new ≡ self.old }
-    {
-        let frames = &mut self.stats.frame_tx;
-        frames.immediate_ack = frames.immediate_ack.saturating_add(1);
-    }
-
-    /// Counts an ACK_FREQUENCY frame as sent.
-    pub(crate) fn count_ack_frequency(&mut self)
-        ensures { self.new ≡ self.old }
-    {
-        let frames = &mut self.stats.frame_tx;
-        frames.ack_frequency = frames.ack_frequency.saturating_add(1);
-    }
-
-    /// Counts a PATH_CHALLENGE frame as sent.
-    pub(crate) fn count_challenge(&mut self)
-        ensures { self.new ≡ self.old }
-    {
-        let frames = &mut self.stats.frame_tx;
-        frames.path_challenge = frames.path_challenge.saturating_add(1);
-    }
-
-    /// Counts a PATH_RESPONSE frame as sent.
-    pub(crate) fn count_response(&mut self)
-        ensures { self.new ≡ self.old }
-    {
-        let frames = &mut self.stats.frame_tx;
-        frames.path_response = frames.path_response.saturating_add(1);
-    }
-
     /// Counts a packet of so many bytes as sent.
     pub(crate) fn count_sent(&mut self, size: u16)
         ensures { self.new ≡ self.old }
     {
         self.stats.udp_tx.on_datagram(usize::from(size));
-        self.stats.path.sent_packets = self.stats.path.sent_packets.saturating_add(1);
-    }
-
-    /// Counts a lost packet, of so many bytes in flight.
-    pub(crate) fn count_lost(&mut self, size: u16)
-        ensures { self.new ≡ self.old }
-    {
-        let path = &mut self.stats.path;
-        path.lost_packets = path.lost_packets.saturating_add(1);
-        path.lost_bytes = path.lost_bytes.saturating_add(u64::from(size));
-    }
-
-    /// Counts an MTU probe as sent.
-    pub(crate) fn count_probe(&mut self)
-        ensures { self.new ≡ self.old }
-    {
-        let path = &mut self.stats.path;
-        path.sent_plpmtud_probes = path.sent_plpmtud_probes.saturating_add(1);
-    }
-
-    /// Counts an MTU probe as lost.
-    pub(crate) fn count_lost_probe(&mut self)
-        ensures { self.new ≡ self.old }
-    {
-        let path = &mut self.stats.path;
-        path.lost_plpmtud_probes = path.lost_plpmtud_probes.saturating_add(1);
-    }
-
-    /// Counts a black hole, if there is one.
-    pub(crate) fn count_black_hole(&mut self, fell: bool)
-        ensures { self.new ≡ self.old }
-    {
-        let path = &mut self.stats.path;
-        if fell {
-            path.black_holes_detected = path.black_holes_detected.saturating_add(1);
-        }
-    }
-
-    /// Counts a congestion event.
-    pub(crate) fn count_congestion(&mut self)
-        ensures { self.new ≡ self.old }
-    {
-        let path = &mut self.stats.path;
-        path.congestion_events = path.congestion_events.saturating_add(1);
+        count(&mut self.stats.path.sent_packets);
     }
 }

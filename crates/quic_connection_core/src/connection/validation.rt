@@ -11,6 +11,7 @@ ghost use Rattle.quic_wire.specs.Writing.{spelled_all};
 
 use crate::connection::Connection;
 use quic_congestion::Controller;
+use quic_connection_parts::statistics::count;
 use quic_machine::Timer;
 use quic_packet::crypto::{HeaderKey, PacketKey};
 use quic_wire::frame::{Ack, Frame, Stream, put_frame};
@@ -157,7 +158,7 @@ impl<H: HeaderKey + Drop, K: PacketKey + Drop, R: Rng + Drop, C: Controller> Con
         if let Some(token) = self.path.pop_challenge() {
             let _: Option<(Stream<'_>, Ack<'_>)> = None;
             put_frame(out, &Frame::PathChallenge(token));
-            self.count_challenge();
+            count(&mut self.stats.frame_tx.path_challenge);
         }
     }
 
@@ -172,7 +173,7 @@ impl<H: HeaderKey + Drop, K: PacketKey + Drop, R: Rng + Drop, C: Controller> Con
         if let Some(token) = self.path_responses.pop_on_path() {
             let _: Option<(Stream<'_>, Ack<'_>)> = None;
             put_frame(out, &Frame::PathResponse(token));
-            self.count_response();
+            count(&mut self.stats.frame_tx.path_response);
         }
     }
 }

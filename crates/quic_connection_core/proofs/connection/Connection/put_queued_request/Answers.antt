@@ -44,5 +44,4 @@ returns-clause-end g c =
     let same = c.self.view_is ∙ c.next_ack_frequency-frame.ensures.end in
     let number : c.number-number.result ≡ number_of w.end = c.number-number.ensures.value ∙ ap (λ x. number_of x.end) c.next_ack_frequency-frame.ensures.end in
     let delay : c.from_micros-delay.result ≡ micros (request_of w.end).delay = c.from_micros-delay.ensures ∙ ap micros (c.into_inner.ensures.value ∙ ap (λ (f : AckFrequencyValue). f.delay) c.next_ack_frequency-frame.ensures.value) in
-    c.count_ack_frequency.ensures
-    ∙ rw (c.ack_frequency_sent.ensures, c.set_ack_frequency.ensures, number, delay) (ap (λ x. asked_in x (number_of w.end) (micros (request_of w.end).delay)) same)
+    rw (c.ack_frequency_sent.ensures, c.set_ack_frequency.ensures, number, delay) (ap (λ x. asked_in x (number_of w.end) (micros (request_of w.end).delay)) same)
