@@ -1,5 +1,5 @@
 #!/usr/bin/env python3
-"""Draws the table beside quinn-proto of docs/PERFORMANCE.md as bars: docs/performance.svg.
+"""Draws the table beside quinn-proto and ngtcp2 of docs/PERFORMANCE.md as bars: docs/performance.svg.
 
     python3 examples/bars.py            draws it
     python3 examples/bars.py --check    says whether the picture is that of the table
@@ -26,7 +26,7 @@ ROW_OF = r"(?m)^\| (.+?) \| [\d.,]+ \| [\d.,-]+ \| [\d.,]+ \| ([\d.]+) \|$"
 def rows():
     """The rows of the first table behind the heading: what is done, and the ratio."""
     page = PAGE.read_text(encoding="utf-8")
-    part = page.partition("\n## Beside quinn-proto\n")[2].partition("\n## ")[0]
+    part = page.partition("\n## Beside quinn-proto and ngtcp2\n")[2].partition("\n## ")[0]
     return [(work, float(ratio)) for work, ratio in re.findall(ROW_OF, part)]
 
 
