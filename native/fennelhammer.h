@@ -417,7 +417,8 @@ typedef struct fh_event {
  *
  * Answers 1; 0 where there is none, and then `event` stays as it was.
  *
- * Proved: whether there is one, and what the endpoint is then. */
+ * Proved: the answer, the event with its numbers, but for `text_len` of FH_LOST_TRANSPORT, and what
+ * the endpoint is then. */
 int fh_next_event(fh_conn *conn, fh_event *event);
 
 /* Writes the text that says more of why the connection is lost, for people to read: what the peer
@@ -428,7 +429,8 @@ int fh_next_event(fh_conn *conn, fh_event *event);
  * Answers how many bytes it wrote, 0 where there is no text. FH_ERR_ROOM: `room` is below the
  * text's length.
  *
- * Proved: that it changes nothing. */
+ * Proved: the answer and the text, but for which text it is of FH_LOST_TRANSPORT; and that it
+ * changes nothing. */
 int64_t fh_lost_text(const fh_conn *conn, uint8_t *out, size_t room);
 
 /* ---- streams */
@@ -534,13 +536,17 @@ int64_t fh_read_unordered(fh_conn *conn, uint64_t stream, uint8_t *out, size_t r
  *
  * Answers 0. FH_ERR_INVALID: `drop_older` is neither 0 nor 1. FH_ERR_UNSUPPORTED, FH_ERR_DISABLED,
  * FH_ERR_TOO_LARGE (fh_max_message says how long one may be). FH_ERR_BLOCKED: the send buffer has
- * no room, or the endpoint isn't open; no event says when it has. FH_ERR_MEMORY. */
+ * no room, or the endpoint isn't open; no event says when it has. FH_ERR_MEMORY.
+ *
+ * Proved: the answer, but for FH_ERR_MEMORY, and what the endpoint is then. */
 int fh_send_message(fh_conn *conn, const uint8_t *message, size_t len, uint32_t drop_older);
 
 /* Reads the oldest message that wasn't read, whole, also where the endpoint isn't open.
  *
  * Answers how many bytes it has, which may be 0. FH_ERR_NONE: there is none. FH_ERR_ROOM: it has
- * more than `room` bytes, and stays to be read; 65535 are always enough. */
+ * more than `room` bytes, and stays to be read; 65535 are always enough.
+ *
+ * Proved: the answer, the bytes, and what the endpoint is then. */
 int64_t fh_receive_message(fh_conn *conn, uint8_t *out, size_t room);
 
 /* The longest message that may be sent now, in bytes: the path may take longer or shorter ones
@@ -548,7 +554,7 @@ int64_t fh_receive_message(fh_conn *conn, uint8_t *out, size_t room);
  *
  * FH_ERR_UNSUPPORTED: the peer takes none.
  *
- * Proved: that it changes nothing. */
+ * Proved: the answer, and that it changes nothing. */
 int64_t fh_max_message(const fh_conn *conn);
 
 /* ---- the connection */

@@ -1,11 +1,12 @@
 //! What the program is told, and calls of the whole connection.
-ghost use Rattle.std.specs.Prelude.{◌≡◌, ◌≢◌, ◌≤◌, ◌<◌, ◌^◌, pos, length, is_some};
+ghost use Rattle.std.specs.Prelude.{ℕ, ◌≡◌, ◌≢◌, ◌≤◌, ◌<◌, ◌^◌, List, pos, None, IfSome, length, is_some};
 ghost use Rattle.quic_machine.specs.End.{with_end};
 ghost use Rattle.quic_machine.specs.Calls.{end_tells, end_after_event, end_after_ping, end_after_close};
 ghost use Rattle.quic_machine.specs.IdFrames.{end_routes, end_after_routed, next_id_answer, after_next_id};
 ghost use Rattle.quic_machine.specs.Handshake.{done_answer as handshake_answer, after_done};
-ghost use Rattle.quic_c_core.specs.Answers.{error_number, named, of_done, of_next_id};
-ghost use Rattle.quic_c.specs.Says.{done_answer, switch_number, IfCount};
+ghost use Rattle.quic_c_core.specs.Answers.{error_number, named, of_done, of_next_id, put_answer, put_into};
+ghost use Rattle.quic_c_core.specs.Events.{IsLostText, IsTold};
+ghost use Rattle.quic_c.specs.Says.{counted_answer, done_answer, switch_number};
 
 use crate::answers::{done, measured, switched};
 use crate::held::Held;
@@ -15,6 +16,8 @@ use quic_c_core::{CallError, Calls, EventRecord, IdRecord};
 #[unsafe(no_mangle)]
 pub extern "C" fn quic_c_next_event(conn: &mut Held, event: &mut EventRecord) -> i32
     ensures answer { result ≡ switch_number (is_some (end_tells conn.old.value.conn.end)) }
+    ensures told { IfSome (end_tells conn.old.value.conn.end) (λ told. IsTold told event.new) }
+    ensures nothing { end_tells conn.old.value.conn.end ≡ None → event.new ≡ event.old }
     ensures conn { conn.new.value.conn ≡ with_end conn.old.value.conn (end_after_event conn.old.value.conn.end) }
 {
     match conn.as_mut().next_event() {
@@ -46,6 +49,7 @@ pub extern "C" fn quic_c_own_ids(conn: &mut Held, out: &mut [IdRecord]) -> i64
 /// `fh_lost_text`.
 #[unsafe(no_mangle)]
 pub extern "C" fn quic_c_lost_text(conn: &mut Held, out: &mut [u8]) -> i64
+    ensures text { (text : List ℕ) × IsLostText conn.old.value.conn.end.closing.reason text × (result ≡ counted_answer (put_answer text (length out.old))) × (out.new ≡ put_into text out.old) }
     ensures same { conn.new.value ≡ conn.old.value }
 {
     measured(conn.as_mut().put_lost_text(out))

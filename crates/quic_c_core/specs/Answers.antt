@@ -1,5 +1,5 @@
 -- What calls of an endpoint answer, as numbers and as errors of calls.
-use Rattle.std.specs.Prelude.{ℕ, ℤ, pos, negsuc, min, nat_eq, if◌then◌else◌, Option, Some, None, Result, Ok, Err}
+use Rattle.std.specs.Prelude.{ℕ, ℤ, negsuc, nat_eq, nat_le, if◌then◌else◌, List, ◌++◌, length, drop, Option, Some, None, Result, Ok, Err}
 use Rattle.quic_wire_core.specs.declared.shared.EcnCodepoint.{EcnCodepoint}
 use Rattle.quic_wire_core.specs.declared.shared.EcnCodepoint.TheVariants as marks
 use Rattle.quic_wire_core.specs.declared.stream_id.Dir.{Dir}
@@ -58,6 +58,15 @@ error_index errors.NotOpen = 24
 -- the number of an error, as the header has it: -1 and below
 abbrev pub error_number : CallError → ℤ
 error_number e = negsuc (error_index e)
+
+-- what is answered where bytes are put to the front of a room of so many: how many they are, unless
+-- they don't fit
+abbrev pub put_answer : List ℕ → ℕ → Result ℕ CallError
+put_answer bytes room = if nat_le (length bytes) room then Ok (length bytes) else Err errors.Room
+
+-- what the room has then
+abbrev pub put_into : List ℕ → List ℕ → List ℕ
+put_into bytes room = if nat_le (length bytes) (length room) then bytes ++ drop (length bytes) room else room
 
 -- the ECN codepoint of two bits, which may be none; nothing of a greater number (RFC 3168, section 5)
 abbrev pub mark_of : ℕ → Option (Option EcnCodepoint)

@@ -1,2 +1,4 @@
 pub mod Answers
 pub mod Conn
+pub mod Events
+pub mod Unread

@@ -1,5 +1,5 @@
 //! An endpoint, and what is handed in and out between it and its peer.
-ghost use Rattle.std.specs.Prelude.{◌≡◌, ◌≢◌, ◌≤◌, ◌<◌, ◌^◌, ◌++◌, Ok, Err, Some, None, IfSome, IfOk, IfErr, OnOk, OnErr, length, drop, ok_or, is_some};
+ghost use Rattle.std.specs.Prelude.{ℕ, ◌≡◌, ◌≢◌, ◌≤◌, ◌<◌, ◌==◌, ◌^◌, List, ◌++◌, Ok, Err, Some, None, IfSome, IfOk, IfErr, OnOk, OnErr, length, drop, ok_or, is_some};
 ghost use Rattle.quic_time.specs.Rtt.{best_rtt};
 ghost use Rattle.quic_time.specs.Timers.{next_timer};
 ghost use Rattle.quic_machine.specs.Parts.{current_mtu};
@@ -11,13 +11,19 @@ ghost use Rattle.quic_machine.specs.Handshake.{done_answer, after_done};
 ghost use Rattle.quic_streams_state.specs.Opening.{open_answer, after_open, accept_answer, after_accept};
 ghost use Rattle.quic_streams_state.specs.Writing.{write_answer, after_write, finish_answer, after_finish, reset_answer, after_reset, set_priority_answer, after_set_priority};
 ghost use Rattle.quic_streams_state.specs.Reading.{stop_answer, after_stop};
-ghost use Rattle.quic_c_core.specs.Answers.{mark_of, mark_number, dir_numbered, received_number, dropped_number, state_number, named, of_done, of_next_id, of_write, of_finish, of_update};
+ghost use Rattle.quic_messages.specs.Sending.{send_answer, after_send};
+ghost use Rattle.quic_machine.specs.MessageCalls.{limits_of, most_message};
+ghost use Rattle.quic_connection_core.specs.Handed.{messages_back};
+ghost use Rattle.quic_c_core.specs.Answers.{mark_of, mark_number, dir_numbered, received_number, dropped_number, state_number, named, of_done, of_next_id, of_write, of_finish, of_update, of_send, put_answer, put_into};
+ghost use Rattle.quic_c_core.specs.Events.{IsLostText, IsTold};
+ghost use Rattle.quic_c_core.specs.Unread.{next_message, left_there, read_answer, filled_with, kept_of};
 ghost use Rattle.quic_c_core.specs.Conn.{policy_at, received_at, received_end, polled_at, datagram_at, given_of, timed_out_at, next_or_never, with_streams_at, opened};
 
 use crate::call_error::CallError;
 use crate::calls::Calls;
-use crate::events::{EventRecord, text_of};
+use crate::events::{EventRecord, lost_text};
 use crate::figures::Stats;
+use crate::messages;
 use crate::own_ids::IdRecord;
 use crate::settings::Settings;
 use crate::streams::{self, code_of, dir_of, stream_of};
@@ -137,6 +143,8 @@ pub(crate) fn put(out: &mut [u8], bytes: &[u8]) -> Result<usize, CallError>
     ensures copied { OnOk result (out.new ≡ bytes.now ++ drop (length bytes.now) out.old) }
     ensures room { IfErr result (λ e. (e ≡ CallError.Room) × (out.new ≡ out.old)) }
     ensures small { OnErr result (length out.old < length bytes.now) }
+    ensures answer { result ≡ put_answer bytes.now (length out.old) }
+    ensures filled { out.new ≡ put_into bytes.now out.old }
 {
     let length = bytes.len();
     if length > out.len() {
@@ -309,6 +317,7 @@ impl Calls for Endpoint {
 
     fn next_event(&mut self) -> Option<EventRecord>
         ensures answer { is_some result ≡ is_some (end_tells self.old.conn.end) }
+        ensures told { IfSome (end_tells self.old.conn.end) (λ event. IfSome result (IsTold event)) }
         ensures end { self.new.conn ≡ with_end self.old.conn (end_after_event self.old.conn.end) }
         ensures others { self.new ≡ record self.old { conn = self.new.conn } }
     {
@@ -340,8 +349,10 @@ impl Calls for Endpoint {
         Ok(own.len())
     }
 
-    fn put_lost_text(&self, out: &mut [u8]) -> Result<usize, CallError> {
-        put(out, self.conn.lost().map_or(&[], text_of))
+    fn put_lost_text(&self, out: &mut [u8]) -> Result<usize, CallError>
+        ensures { (text : List ℕ) × IsLostText self.now.conn.end.closing.reason text × (result ≡ put_answer text (length out.old)) × (out.new ≡ put_into text out.old) }
+    {
+        put(out, lost_text(self.conn.lost()))
     }
 
     fn send_stream(&mut self, id: StreamId) -> SendStream<'_> {
@@ -432,27 +443,37 @@ impl Calls for Endpoint {
         streams::set_priority(self.conn.streams_mut(), is_open, id, priority)
     }
 
-    fn send_message(&mut self, message: &[u8], drop: u32) -> Result<(), CallError> {
+    fn send_message(&mut self, message: &[u8], drop: u32) -> Result<(), CallError>
+        ensures invalid { 1 < drop → (result ≡ Err CallError.Invalid) × (self.new ≡ self.old) }
+        ensures answer { drop ≤ 1 → result ≢ Err CallError.Memory → result ≡ named of_send (send_answer (limits_of self.old.conn.end) (drop == 1) message.now self.old.conn.end.messages.queues) }
+        ensures ok { OnOk result (self.new ≡ record self.old { conn = messages_back self.old.conn (after_send (limits_of self.old.conn.end) (drop == 1) message.now self.old.conn.end.messages.queues) }) }
+        ensures err { OnErr result (self.new ≡ self.old) }
+    {
         if drop > 1 {
             return Err(CallError::Invalid);
         }
-        let message = Bytes::copy_from_slice(self.alloc, message)?;
-        Ok(self.conn.datagrams().send(message, drop == 1)?)
+        let limits = self.conn.datagram_limits();
+        messages::send(
+            self.alloc,
+            self.conn.datagrams_mut(),
+            &limits,
+            message,
+            drop == 1,
+        )
     }
 
-    fn receive_message(&mut self, out: &mut [u8]) -> Result<usize, CallError> {
-        if self.unread.is_none() {
-            self.unread = self.conn.datagrams().recv();
-        }
-        let Some(message) = &self.unread else {
-            return Err(CallError::Absent);
-        };
-        let length = put(out, message.as_slice())?;
-        self.unread = None;
-        Ok(length)
+    fn receive_message(&mut self, out: &mut [u8]) -> Result<usize, CallError>
+        ensures answer { result ≡ read_answer (next_message self.old.unread self.old.conn.end.messages.queues) (length out.old) }
+        ensures filled { out.new ≡ filled_with (next_message self.old.unread self.old.conn.end.messages.queues) out.old }
+        ensures left { self.new ≡ record self.old { conn = messages_back self.old.conn (left_there self.old.unread self.old.conn.end.messages.queues); unread = kept_of (next_message self.old.unread self.old.conn.end.messages.queues) (length out.old) } }
+    {
+        messages::take_oldest(self.conn.datagrams_mut(), &mut self.unread);
+        messages::give(&mut self.unread, out)
     }
 
-    fn max_message(&self) -> Result<usize, CallError> {
+    fn max_message(&self) -> Result<usize, CallError>
+        ensures { result ≡ ok_or (most_message self.now.conn.end) CallError.Unsupported }
+    {
         let limits = self.conn.datagram_limits();
         limits.max_size.ok_or(CallError::Unsupported)
     }

@@ -1,4 +1,6 @@
 //! What the application is told, as numbers.
+ghost use Rattle.std.specs.Prelude.{◌≡◌, option_copied};
+ghost use Rattle.quic_c_core.specs.Events.{dir_number, of_kind, of_stream, reason_number, reason_code, IsText, IsLostText, IsTold};
 
 use quic_connection::{Close, Dir, Event, LostReason, StreamEvent, StreamId, VarInt};
 
@@ -23,7 +25,9 @@ pub struct EventRecord {
 
 impl EventRecord {
     /// An event.
-    pub(crate) fn of(event: &Event) -> Self {
+    pub(crate) fn of(event: &Event) -> Self
+        ensures { IsTold event.now result }
+    {
         match event {
             Event::Stream(event) => EventRecord::of_stream(*event),
             Event::Message => EventRecord::of_kind(7),
@@ -33,7 +37,9 @@ impl EventRecord {
     }
 
     /// An event of this kind.
-    fn of_kind(kind: u64) -> Self {
+    fn of_kind(kind: u64) -> Self
+        ensures { result ≡ of_kind kind }
+    {
         EventRecord {
             kind,
             ..EventRecord::default()
@@ -41,7 +47,9 @@ impl EventRecord {
     }
 
     /// An event of this kind at a stream.
-    fn at_stream(kind: u64, id: StreamId) -> Self {
+    fn at_stream(kind: u64, id: StreamId) -> Self
+        ensures { result ≡ record (of_kind kind) { stream = id } }
+    {
         EventRecord {
             kind,
             stream: VarInt::from(id).into_inner(),
@@ -50,7 +58,9 @@ impl EventRecord {
     }
 
     /// An event of this kind that is about a kind of streams.
-    fn about(kind: u64, dir: Dir) -> Self {
+    fn about(kind: u64, dir: Dir) -> Self
+        ensures { result ≡ record (of_kind kind) { dir = dir_number dir } }
+    {
         EventRecord {
             kind,
             dir: match dir {
@@ -62,7 +72,9 @@ impl EventRecord {
     }
 
     /// What happened to streams.
-    fn of_stream(event: StreamEvent) -> Self {
+    fn of_stream(event: StreamEvent) -> Self
+        ensures { result ≡ of_stream event }
+    {
         match event {
             StreamEvent::Opened { dir } => EventRecord::about(1, dir),
             StreamEvent::Readable { id } => EventRecord::at_stream(2, id),
@@ -77,7 +89,9 @@ impl EventRecord {
     }
 
     /// That the connection is lost, and why.
-    fn of_loss(reason: &LostReason) -> Self {
+    fn of_loss(reason: &LostReason) -> Self
+        ensures { IsTold (Event.Lost reason.now) result }
+    {
         let (number, code) = reason_of(reason);
         EventRecord {
             code,
@@ -89,7 +103,9 @@ impl EventRecord {
 }
 
 /// The number of a reason, and the code that comes with it.
-fn reason_of(reason: &LostReason) -> (u64, u64) {
+fn reason_of(reason: &LostReason) -> (u64, u64)
+    ensures { result ≡ (reason_number reason.now, reason_code reason.now) }
+{
     match reason {
         LostReason::Application => (1, 0),
         LostReason::Peer(close) => match close.as_close() {
@@ -105,7 +121,9 @@ fn reason_of(reason: &LostReason) -> (u64, u64) {
 }
 
 /// The text that says more of a reason; none where there is no more to say.
-pub(crate) fn text_of(reason: &LostReason) -> &[u8] {
+fn text_of(reason: &LostReason) -> &[u8]
+    ensures { IsText reason.now result.now }
+{
     match reason {
         LostReason::Peer(close) => match close.as_close() {
             Close::Application(close) => &close.reason,
@@ -113,5 +131,15 @@ pub(crate) fn text_of(reason: &LostReason) -> &[u8] {
         },
         LostReason::Transport(error) => error.reason().as_str().as_bytes(),
         _ => &[],
+    }
+}
+
+/// The text that says more of why the connection is lost; none where it isn't.
+pub(crate) fn lost_text(reason: Option<&LostReason>) -> &[u8]
+    ensures { IsLostText (option_copied reason.entry) result.now }
+{
+    match reason {
+        Some(reason) => text_of(reason),
+        None => &[],
     }
 }

@@ -8,6 +8,7 @@ mod calls;
 mod endpoint;
 mod events;
 mod figures;
+mod messages;
 mod own_ids;
 mod settings;
 mod streams;
