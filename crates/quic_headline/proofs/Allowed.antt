@@ -4,4 +4,5 @@ pub mod Halves
 pub mod Reads
 pub mod Writes
 pub mod Over
+pub mod Blocked
 pub mod Lacking

@@ -14,3 +14,5 @@ pub mod PeerLimits
 pub mod Opening
 pub mod InOrder
 pub mod Stopped
+pub mod Closed
+pub mod Buffers

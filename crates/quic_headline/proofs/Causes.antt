@@ -27,3 +27,4 @@ pub mod Unfailed
 pub mod Taken
 pub mod Shut
 pub mod Refusals
+pub mod OnlyCloses

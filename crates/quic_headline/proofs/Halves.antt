@@ -36,3 +36,4 @@ pub mod Finishing
 pub mod Joined
 pub mod Ready
 pub mod Spelled
+pub mod Nexts

@@ -9,3 +9,6 @@ pub mod Dropped
 pub mod Waiting
 pub mod Lists
 pub mod Order
+pub mod Let
+pub mod Unread
+pub mod Inbox

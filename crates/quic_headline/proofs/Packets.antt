@@ -24,6 +24,8 @@ pub mod Probes
 pub mod TrackedSteps
 pub mod Ascending
 pub mod Apart
+pub mod EndMoves
+pub mod ByMoves
 pub mod Moved
 pub mod Moving
 pub mod Elsewhere
@@ -35,6 +37,7 @@ pub mod Numbered
 pub mod Waited
 pub mod RoundTrip
 pub mod Flying
+pub mod Folds
 pub mod Closes
 pub mod Bare
 pub mod Closeless

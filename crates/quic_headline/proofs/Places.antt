@@ -6,6 +6,7 @@ pub mod Moments
 pub mod Parties
 pub mod Groups
 pub mod Placed
+pub mod Lacking
 pub mod Coming
 pub mod Openings
 pub mod Flights

@@ -13,6 +13,7 @@ pub mod Exchange
 pub mod Resting
 pub mod Blocked
 pub mod Clause
+pub mod Heeded
 -- No stream can be opened only for streams that the peer isn't done with: what that rests on.
 pub mod OpeningPlaces
 pub mod OpeningDone

@@ -36,7 +36,7 @@ pub record IsSince (r : Run) (side : Side) (i moment delay : ℕ) : Type 0 where
   pub greatest : (other : Packet) → In other (took r side i) → other.number ≤ packet.number
   pub says : delay ≡ delay_said (exponent_told r side) (moment - came_at)
 
--- each ACK frame says as its delay how long before it goes that packet came, which it names unless
--- its peer is known to know of it
+-- each ACK frame's delay is the time from the arrival of that packet until the frame goes, which
+-- names it unless its peer is known to know of it
 abbrev pub AcksSayDelay : Run → Type 0
 AcksSayDelay r = (side : Side) (i now : ℕ) (given : GaveOne r side i now) (a : AckValue) → In (ack a) given.sent.frames → IsSince r side i (max (watch r side i).clock now) a.delay

@@ -49,16 +49,10 @@ would_read id (calls.Stop s code) = s == id
 would_read id (calls.ReceivedReset s) = s == id
 would_read id call = false
 
--- whether a read or a stop found no memory
-abbrev pub found_no_memory : Answer → Bool
-found_no_memory (answers.Read (Err readable_errors.Memory)) = true
-found_no_memory (answers.Stop (Err update_errors.Memory)) = true
-found_no_memory a = false
-
--- and where nothing more is to be read of its stream, such a call is answered so, or finds no
--- memory
+-- and where nothing more is to be read of its stream, or the end only sends on it, such a call is
+-- answered so
 abbrev pub ReadsAreOver : Run → Type 0
-ReadsAreOver r = (side : Side) (i id : ℕ) (call : Call) (a : Answer) → AreServed r i → IsAt r i side call a → would_read id call ≡ true → IsReadOff (until r side i) id → (is_kept_from_reading id call a ≡ true) ⊎ (found_no_memory a ≡ true)
+ReadsAreOver r = (side : Side) (i id : ℕ) (call : Call) (a : Answer) → AreServed r i → IsAt r i side call a → would_read id call ≡ true → IsReadOff (until r side i) id ⊎ (only_sends side id ≡ true) → is_kept_from_reading id call a ≡ true
 
 -- ---- what is sent
 

@@ -1,5 +1,5 @@
 -- What closes say, and when they go (RFC 9000, sections 10.2, 19.19 and 20.1).
-use Rattle.std.specs.Prelude.{ℕ, suc, ◌+◌, ◌-◌, ◌^◌, ◌<◌, ◌≡◌, ◌==◌, ◌||◌, not, Bool, true, false, if◌then◌else◌, List, [], Option, Some, None, Ok, length}
+use Rattle.std.specs.Prelude.{ℕ, suc, ◌+◌, ◌-◌, ◌^◌, ◌<◌, ◌≡◌, ◌≢◌, ◌==◌, ◌||◌, not, Bool, true, false, if◌then◌else◌, List, [], Option, Some, None, Ok, length}
 use Rattle.quic_wire_core.specs.declared.stream_id.Side.{Side}
 use Rattle.quic_wire_core.specs.StreamId.{other_side}
 use Rattle.quic_wire.specs.Value.{FrameValue, connection_close, application_close}
@@ -20,6 +20,7 @@ use Rattle.quic_headline.specs.Observer.{Sent, is_close, next_number, sents_unti
 use Rattle.quic_headline.specs.Headline.{IsAt, IsPrefixOf}
 use Rattle.quic_headline.specs.Polls.{GaveOne, seen_at}
 use Rattle.quic_headline.specs.Causes.{Shows}
+use Rattle.quic_headline.specs.Waited.{IsCloseAlone}
 
 -- ---- what they say
 
@@ -100,6 +101,11 @@ owed r side i = folded (λ (t : Told) (o : Bool). owed_behind t.state t.answer o
 -- a closing end gives a datagram only where it owes its close
 abbrev pub ClosesAreOwed : Run → Type 0
 ClosesAreOwed r = (side : Side) (i now : ℕ) → GaveOne r side i now → state_at r side i ≡ states.Closing → owed r side i ≡ true
+
+-- each datagram that an end gives by a poll behind which it isn't open has a close, and nothing
+-- beside it but PADDING (section 10.2.1)
+abbrev pub ClosesGoAlone : Run → Type 0
+ClosesGoAlone r = (side : Side) (i now : ℕ) (gave : GaveOne r side i now) → state_at r side (suc i) ≢ states.Open → IsCloseAlone gave.sent
 
 -- Nothing keeps an end from one close more: its key seals another packet; there is a number for it,
 -- before which one may be left out, and that lies near enough to what the peer acknowledged

@@ -1,6 +1,7 @@
 -- Of which connection ids an end tells its peer, and by which tokens a stateless reset of them is
--- known: words of its random source (RFC 9000, sections 5.1 and 10.3.2), other ones for each. So
--- none is told twice but where the source repeats itself.
+-- known: words of its random source (RFC 9000, sections 5.1 and 10.3.2), other ones for each, but
+-- for those with which the end was made, of which nothing is said. So none of the others is told
+-- twice but where the source repeats itself.
 use Rattle.std.specs.Prelude.{ℕ, ◌+◌, ◌<◌, ◌≤◌, ◌≡◌, ◌⊎◌, ◌++◌, List}
 use Rattle.std.specs.Int.{w64, to_be_bytes}
 use Rattle.quic_wire_core.specs.declared.stream_id.Side.{Side}

@@ -17,6 +17,8 @@ pub mod AcksDue
 pub mod AckFrames
 pub mod AckDelays
 pub mod Resets
+pub mod Chunks
+pub mod Buffers
 pub mod Ids
 pub mod ConnectionIds
 pub mod DrawnIds
@@ -34,6 +36,8 @@ pub mod Requests
 pub mod Responses
 pub mod LeftOut
 pub mod Queue
+pub mod SendAnswers
+pub mod Inbox
 pub mod Events
 pub mod AppLimited
 pub mod Telling
@@ -44,6 +48,7 @@ pub mod Going
 pub mod Begins
 pub mod Tokens
 pub mod Spread
+pub mod PathSizes
 pub mod Threefold
 pub mod PeerLimits
 pub mod Blocking

@@ -1,6 +1,7 @@
 -- Which messages an end takes, whatever its peer sends: none but those that have room in its
 -- receive buffer, and none at all where it has no such buffer (RFC 9221, section 3). So much it
--- advertises, and 65535 bytes at most.
+-- advertises, and 65535 bytes at most. A buffer of no byte has room for a message of none, though 0,
+-- which is advertised then, says that no DATAGRAM frame is taken.
 use Rattle.std.specs.Prelude.{ℕ, ◌≤◌, if◌then◌else◌, List, [], ◌∷◌, length, Option, Some, None}
 use Rattle.quic_wire.specs.Value.{FrameValue, datagram}
 use Rattle.quic_machine.specs.declared.run.Call.{Call}

@@ -20,8 +20,8 @@ abbrev pub next_lacks : Result (Option Chunk) ReadError → Bool
 next_lacks (Err read_errors.Memory) = true
 next_lacks answer = false
 
--- Whether an answer says so: of a call of the application, or of a poll, a timeout or a delivery,
--- at which its end fails, or had failed before.
+-- Whether an answer says so: of a call of the application, or of a poll, a timeout, a delivery or an
+-- injection, at which its end fails, or had failed before.
 abbrev pub lacks : Answer → Bool
 lacks (answers.Write (Err write_errors.Memory)) = true
 lacks (answers.WriteChunks (Err write_errors.Memory)) = true
@@ -36,6 +36,7 @@ lacks (answers.UseNextId (Err next_errors.Memory)) = true
 lacks (answers.Poll (Err failed)) = true
 lacks (answers.Timeout (Err failed)) = true
 lacks (answers.Deliver receives.Failed) = true
+lacks (answers.Inject receives.Failed) = true
 lacks a = false
 
 -- no answer of a run says so

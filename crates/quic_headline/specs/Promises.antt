@@ -5,6 +5,7 @@ use Rattle.quic_machine.specs.Start.{AreStarted}
 use Rattle.quic_headline.specs.Runs.{Run}
 use Rattle.quic_headline.specs.Headline.{OrderedPrefix, Slices, Once, EndAfterAll, BlockedOnlyWithoutBytes, FinishedMeansArrived, FinishedIsTold, AcceptsAll, AcknowledgedWereTaken, NamesWereTaken, NumbersRise, OpensExactly, NewestOpens}
 use Rattle.quic_headline.specs.Amounts.{WritesTakeWhatLimitsAllow}
+use Rattle.quic_headline.specs.Buffers.{BuffersAreCounted}
 use Rattle.quic_headline.specs.Duties.{DutiesStand}
 use Rattle.quic_headline.specs.InFlight.{TracksInFlight}
 use Rattle.quic_headline.specs.Causes.{NoBlame, TakenOrTooMany, TooManyPieces, ApplicationClosed, PeerClosed, IdleExpired, NumberLimit, KeyLimited, KeysLast}
@@ -15,7 +16,8 @@ use Rattle.quic_headline.specs.Polls.{PollsSendWhatWaits, PollsSendMessages, Pro
 use Rattle.quic_headline.specs.Rest.{DeliveredAtRest, DoneAtRest, NothingOwedAtRest}
 use Rattle.quic_headline.specs.ControlArrived.{ResetsAtRest, StopsAtRest, RetirementsAtRest, LimitsAtRest, StreamLimitsAtRest}
 use Rattle.quic_headline.specs.AcksDue.{AcksAreDue}
-use Rattle.quic_headline.specs.Resets.{ResetsAreTold}
+use Rattle.quic_headline.specs.Resets.{ResetsAreTold, ResetsAreHeeded}
+use Rattle.quic_headline.specs.Chunks.{ReadsAnswer}
 use Rattle.quic_headline.specs.Ids.{IdsAreNew, AcceptedWereOpened}
 use Rattle.quic_headline.specs.ConnectionIds.{NewestOpensAtEnd, IdsAreIssued, IdsAreInUse, UnknownOnlyWhereRetired, ToldIdsAreKnown, NoIdIsExact, TooManyIsExact, StaysForAReason}
 use Rattle.quic_headline.specs.DrawnIds.{IdsAreDrawn}
@@ -25,14 +27,17 @@ use Rattle.quic_headline.specs.Views.{ViewsTell}
 use Rattle.quic_headline.specs.Isolated.{Isolated, IsolatedByAnswers, IsolatedByLists}
 use Rattle.quic_headline.specs.Lacking.{LacksWhereTaken}
 use Rattle.quic_headline.specs.InOrder.{OpensInOrder}
-use Rattle.quic_headline.specs.Stopped.{StoppedTakeNothing}
+use Rattle.quic_headline.specs.Stopped.{StoppedTakeNothing, StoppedOnlyWhereAsked, ClosedTakeNothing}
 use Rattle.quic_headline.specs.TwoRuns.{RunsAgree, IdleRunsAgree}
 use Rattle.quic_headline.specs.Sizes.{DatagramsAreSized, SizeIsOfHistory, SizesMove}
+use Rattle.quic_headline.specs.PathSizes.{SizesFollow, SearchesRest}
 use Rattle.quic_headline.specs.Unread.{BlockedOnlyForUnread}
 use Rattle.quic_headline.specs.Undone.{NoneOpenedOnlyForUndone}
 use Rattle.quic_headline.specs.Credit.{CreditIsBounded, CountsAreBounded}
 use Rattle.quic_headline.specs.Allowed.{ReadsAreAllowed, ReadsAreOver, WritesAreAllowed, ResetsAreAllowed}
 use Rattle.quic_headline.specs.Queue.{MessagesGo, MessagesGoInOrder}
+use Rattle.quic_headline.specs.SendAnswers.{SendsAreLet}
+use Rattle.quic_headline.specs.Inbox.{ReceivesOldest}
 use Rattle.quic_headline.specs.Events.{MessagesAreTold, OpeningsAreTold, ReadablesAreTold, WritablesAreTold, AvailableIsTold, LossIsTold}
 use Rattle.quic_headline.specs.Confirmed.{DoneIsExact, ConfirmationIsTold}
 use Rattle.quic_headline.specs.Marking.{MarksGo}
@@ -58,7 +63,7 @@ use Rattle.quic_headline.specs.LeftOut.{NumbersAreDrawn}
 use Rattle.quic_headline.specs.Moves.{GoesToPath, PathChangesExactly, DropsOtherAddresses}
 use Rattle.quic_headline.specs.Expiring.{IdleMoments, AliveMoments, PathMoments, ClosedTimers, CloseMoments, CloseMomentsStay, DrainsInTime}
 use Rattle.quic_headline.specs.Shut.{IdlesOut, ClosesForPeer, ClosesForApplication, RefusalsClose}
-use Rattle.quic_headline.specs.Closes.{ClosesSayWhy, PeerClosesCome, ClosesAreOwed, OwedClosesGo, DrainedAreSilent}
+use Rattle.quic_headline.specs.Closes.{ClosesSayWhy, ClosesGoAlone, PeerClosesCome, ClosesAreOwed, OwedClosesGo, DrainedAreSilent}
 
 -- What reads give of a stream, and when it is told to be finished (RFC 9000, sections 2.2, 3.1 and
 -- 3.2).
@@ -69,6 +74,9 @@ pub record Delivers (r : Run) : Type 0 where
   pub slices : Slices r
   -- no offset of a stream is read twice, whatever the order of reads (section 2.2)
   pub once : Once r
+  -- a read answers each `next`, with one byte at least and no more than it asks for where it gives
+  -- some; one in order is refused exactly behind one in no order (section 2.2)
+  pub reads_answer : ReadsAnswer r
   -- the FIN is told only where the other end finished the stream, behind all its bytes (section
   -- 3.2)
   pub end_after_all : EndAfterAll r
@@ -77,6 +85,9 @@ pub record Delivers (r : Run) : Type 0 where
   -- a reset is told only of a stream that the other end reset, with its code (sections 3.2 and
   -- 19.4)
   pub resets_are_told : ResetsAreTold r
+  -- where RESET_STREAM came no read waits for more, and no call finds that there was none (section
+  -- 3.2)
+  pub resets_are_heeded : ResetsAreHeeded r
   -- a stream is told to be finished only where the other end took all its bytes and its FIN
   -- (section 3.1)
   pub finished_means_arrived : FinishedMeansArrived r
@@ -97,13 +108,18 @@ pub record Streams (r : Run) : Type 0 where
   pub accepted_were_opened : AcceptedWereOpened r
   -- calls that read or stop one find it closed only where nothing more is to be read (section 3.2)
   pub reads_are_allowed : ReadsAreAllowed r
-  -- where nothing more is to be read, they find it closed, or find no memory (section 3.2)
+  -- where nothing more is to be read, they find it closed (section 3.2)
   pub reads_are_over : ReadsAreOver r
   -- calls that write or finish find it closed only where it was finished or reset, or only receives
   -- (section 3.1)
   pub writes_are_allowed : WritesAreAllowed r
   -- no call writes a byte on a stream that the peer stopped (sections 2.4 and 3.5)
   pub stopped_take_nothing : StoppedTakeNothing r
+  -- an open end answers a call that the peer stopped its stream only where STOP_SENDING came
+  -- (section 3.5)
+  pub stopped_only_where_asked : StoppedOnlyWhereAsked r
+  -- one that isn't open takes no byte and no message, and opens no stream (section 10)
+  pub closed_take_nothing : ClosedTakeNothing r
   -- calls that reset it find it closed only where it was reset, all of it came, or it only receives
   -- (section 3.1)
   pub resets_are_allowed : ResetsAreAllowed r
@@ -117,6 +133,8 @@ pub record Limits (r : Run) : Type 0 where
   pub opening_is_exact : OpeningIsExact r
   -- a write takes as much as the peer's limits and the send window leave (section 4.1)
   pub writes_take_what_limits_allow : WritesTakeWhatLimitsAllow r
+  -- one of several buffers says how many of them lie within the bytes that it took
+  pub buffers_are_counted : BuffersAreCounted r
   -- DATA_BLOCKED and STREAM_DATA_BLOCKED say the greatest limit that the peer told, at which the end
   -- is blocked (sections 4.1, 19.12 and 19.13)
   pub blocked_say : BlockedSay r
@@ -168,6 +186,12 @@ pub record Waits (r : Run) : Type 0 where
 pub record Messages (r : Run) : Type 0 where
   -- each is received whole, and at most as often as the other end sent it (section 5)
   pub messages_at_most_once : MessagesAtMostOnce r
+  -- an open end refuses one only for a reason by the lists, and takes none that it has to refuse
+  -- (sections 3 and 5)
+  pub sends_are_let : SendsAreLet r
+  -- a call that receives gives the oldest of those that came and wait, or none where none does
+  -- (sections 3 and 5)
+  pub receives_oldest : ReceivesOldest r
   -- a poll gives what waits in the end's queue, but for window, pacer and address (section 5.4)
   pub polls_send_messages : PollsSendMessages r
   -- so it does of the messages that wait by the lists (section 5.4)
@@ -276,6 +300,12 @@ pub record Sizes (r : Run) : Type 0 where
   -- it grows only to that of a probe that was acknowledged, or falls to the least (RFC 8899,
   -- section 4.3)
   pub sizes_move : SizesMove r
+  -- it is that of the last probe that was acknowledged, or the least one since more than three
+  -- bursts of losses were suspicious (RFC 8899, section 4.3)
+  pub sizes_follow : SizesFollow r
+  -- probes go one after another, of the size that a search looks for; and none goes sooner behind
+  -- its end, or behind a fall, than is configured (RFC 8899, section 5.3)
+  pub searches_rest : SearchesRest r
 
 -- Which numbers packets have, and where these let them open (RFC 9000, sections 12.3 and 17.1).
 pub record Numbers (r : Run) : Type 0 where
@@ -310,7 +340,7 @@ pub record Identifies (r : Run) : Type 0 where
   -- would wait (sections 5.1.2 and 9.5)
   pub stays_for_a_reason : StaysForAReason r
   -- each id that an end tells, and its token, are drawn from the random source, of words of their
-  -- own (sections 5.1 and 10.3.2)
+  -- own, but for those with which the end was made (sections 5.1 and 10.3.2)
   pub ids_are_drawn : IdsAreDrawn r
 
 -- What goes to an address, and when that becomes validated (RFC 9000, section 8).
@@ -388,6 +418,8 @@ pub record Causes (r : Run) : Type 0 where
 pub record Closes (r : Run) : Type 0 where
   -- each says why its end isn't open (sections 19.19 and 20.1)
   pub closes_say_why : ClosesSayWhy r
+  -- an end that isn't open gives nothing else, and nothing beside it (section 10.2.1)
+  pub closes_go_alone : ClosesGoAlone r
   -- the close for which an end was closed by its peer, the peer gave (section 10.2)
   pub peer_closes_come : PeerClosesCome r
   -- a closing end gives its close once, and once more for what came since (section 10.2.1)

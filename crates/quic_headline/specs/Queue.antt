@@ -75,10 +75,14 @@ outbox_all room most side (event ∷ events) (a ∷ answers) (v ∷ views) o = o
 abbrev pub queue_room : Run → Side → ℕ
 queue_room r side = (end_at side r.start).transport.datagram_send_buffer_size
 
--- how long a message of an end may be where its datagrams have at most the size that a view shows,
--- if its peer takes any: by that size, the longest frame that the peer takes, and the peer's id
+-- how long a message of an end may be where its datagrams have at most so many bytes, if its peer
+-- takes any: by these, the longest frame that the peer takes, and the peer's id
+abbrev pub longest_by : Run → Side → ℕ → Option ℕ
+longest_by r side size = let e : End = end_at side r.start in max_size e.peer_params.max_datagram_frame_size size (length e.ids.peer.id)
+
+-- so it is where they have at most the size that a view shows
 abbrev pub longest_in : Run → Side → View → Option ℕ
-longest_in r side v = let e : End = end_at side r.start in max_size e.peer_params.max_datagram_frame_size (mtu_in v side) (length e.ids.peer.id)
+longest_in r side v = longest_by r side (mtu_in v side)
 
 -- the messages that wait at an end behind the first so many answers, the oldest first
 abbrev pub waiting_messages : Run → Side → ℕ → List (List ℕ)

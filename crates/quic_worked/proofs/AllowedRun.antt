@@ -1,6 +1,6 @@
 -- Calls that are answered that their stream is closed, where that is so and where it isn't; and
 -- messages that wait by the lists.
-use Rattle.std.proofs.Common.{◌≡◌, [], ◌∷◌, take, true, false, Ok, Err, refl, sym, subst, inl, inr, List, None, lit<}
+use Rattle.std.proofs.Common.{◌≡◌, [], ◌∷◌, take, true, false, Ok, Err, refl, sym, ◌∙◌, subst, inl, inr, List, None, lit<}
 use Rattle.std.specs.Option.{IsSome}
 use Rattle.std.proofs.lemmas.Bool.{eq-eqb}
 use Rattle.quic_wire_core.specs.declared.stream_id.Side.{Side}
@@ -8,6 +8,7 @@ use Rattle.quic_wire_core.specs.declared.stream_id.Side.TheVariants.{Client, Ser
 use Rattle.quic_streams_parts.specs.declared.answers.ReadableError.TheVariants as readable_errors
 use Rattle.quic_streams_parts.specs.declared.answers.UpdateError.TheVariants as update_errors
 use Rattle.quic_streams_parts.specs.declared.answers.FinishError.TheVariants as finish_errors
+use Rattle.quic_streams_state.specs.Reading.{is_closed}
 use Rattle.quic_machine.specs.declared.run.ReadCall.{ReadCall}
 use Rattle.quic_machine.specs.declared.run.Call.TheVariants as calls
 use Rattle.quic_machine.specs.declared.run.Answer.TheVariants as answers
@@ -17,13 +18,14 @@ use Rattle.quic_headline.specs.Headline.{IsHonest, IsRun, AllArrived}
 use Rattle.quic_headline.specs.Observer.{took}
 use Rattle.quic_headline.specs.Undone.{IsSentOff}
 use Rattle.quic_headline.specs.Allowed.{IsReadOff, ReadsAreAllowed, ReadsAreOver, WritesAreAllowed, ResetsAreAllowed}
+use Rattle.quic_headline.specs.Lacking.{LacksWhereTaken}
 use Rattle.quic_headline.specs.Queue.{waiting_messages, MessagesGo}
 use Rattle.quic_worked.specs.Worked.{ran, worked_policies, started, ReadsBy, once_opened}
-use Rattle.quic_worked.specs.Broken.{IsNoRun}
+use Rattle.quic_worked.specs.Broken.{IsNever, IsNoRun}
 use Rattle.quic_worked.specs.Messages.{ping_message}
 use Rattle.quic_worked.specs.Held.{once_held}
 use Rattle.quic_worked.specs.Faults.{both_open, silent_message, message_waits}
-use Rattle.quic_worked.specs.Allowed.{opened_then, stops_stream, stopped_twice, stopped_again, finished_twice, reset_twice, reset_closed, reset_late, late_end}
+use Rattle.quic_worked.specs.Allowed.{opened_then, stops_stream, stopped_twice, stopped_again, stop_finds_none, finished_twice, reset_twice, reset_closed, reset_late, late_end}
 use Rattle.quic_worked.proofs.OwnIds.{honest, AreOwn, own_ids}
 use Rattle.quic_worked.specs.Acknowledged.{client_acked}
 use Rattle.quic_worked.specs.Paired.{resets_with}
@@ -31,6 +33,7 @@ use Rattle.quic_worked.specs.Rested.{once_rested, still_view}
 use Rattle.quic_worked.proofs.Codes.{AllSmall, small_codes}
 use Rattle.quic_worked.proofs.BrokenRuns.{IsRefused, stops, behind, read_of}
 use Rattle.quic_worked.proofs.WorkedKeys.{are_keys}
+use Rattle.quic_worked.proofs.LackingRuns.{never_so}
 use Rattle.quic_worked.proofs.WorkedRun.{opens}
 use Rattle.quic_worked.proofs.FaultTimes.{kept_gave, kept_held}
 use Rattle.quic_worked.proofs.RestedRun.{rested_started, until_rested, both_packets, end_in_hello, word_arrived}
@@ -157,7 +160,7 @@ stop_is_none = behind refl opens (stops _ _ _ _ _ stop_no)
 -- ---- a stop of a stream that was stopped
 
 pub again_shows : ReadsAreOver stopped_again → ⊥
-again_shows h = elim (h Client 2 0 (calls.Stop 0 7) (answers.Stop (Ok tt)) refl (record { event = refl; answer = refl }) refl (inr (inr (inr refl)))) [ inl e ↦ cc | inr e ↦ cc ]
+again_shows h = (let kept = h Client 2 0 (calls.Stop 0 7) (answers.Stop (Ok tt)) refl (record { event = refl; answer = refl }) refl (inl (inr (inr (inr refl)))) in cc)
 
 pub again_is_honest : IsHonest stopped_again
 again_is_honest = honest stopped_again (record { start = refl; keys = refl; client = (tt, (inl refl, (inl refl, tt))); server = (tt, (tt, (tt, tt))) })
@@ -178,6 +181,25 @@ again_no (inr e) = cc
 
 pub again_is_none : IsNoRun stopped_again
 again_is_none = behind refl opens (behind refl halts (stops _ _ _ _ _ again_no))
+
+pub finds_none_shows : ReadsAreOver stop_finds_none → ⊥
+finds_none_shows h = (let kept = h Client 2 0 (calls.Stop 0 7) (answers.Stop (Err update_errors.Memory)) refl (record { event = refl; answer = refl }) refl (inl (inr (inr (inr refl)))) in cc)
+
+pub finds_none_lacks : LacksWhereTaken stop_finds_none → ⊥
+finds_none_lacks h = (h Client 2 (calls.Stop 0 7) (answers.Stop (Err update_errors.Memory)) refl (record { event = refl; answer = refl }) refl).0 (inr (inr (inr refl)))
+
+pub finds_none_is_honest : IsHonest stop_finds_none
+finds_none_is_honest = honest stop_finds_none (record { start = refl; keys = refl; client = (tt, (inl refl, (inl refl, tt))); server = (tt, (tt, (tt, tt))) })
+
+halted_shut : is_closed once_halted.client.streams 0 ≡ true
+unfolding once_halted
+halted_shut = refl
+
+never_stopped : IsNever once_halted stops_stream (answers.Stop (Err update_errors.Memory))
+never_stopped next step = let clash : true ≡ false = sym halted_shut ∙ step.lacking refl in cc
+
+pub finds_none_is_none : IsNoRun stop_finds_none
+finds_none_is_none = behind refl opens (behind refl halts (never_so _ _ _ _ _ never_stopped))
 
 -- ---- a finish
 

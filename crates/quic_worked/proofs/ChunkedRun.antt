@@ -1,5 +1,5 @@
 -- The run in which the word is written in two buffers, event by event.
-use Rattle.std.proofs.Common.{◌≡◌, ℕ, true, List, [], ◌∷◌, ◌++◌, take, Ok, refl, inl, inr, sym, ap, subst, arith}
+use Rattle.std.proofs.Common.{◌≡◌, ℕ, true, List, [], ◌∷◌, ◌++◌, take, ◌<◌, Ok, refl, inl, inr, sym, ap, subst, lit<, arith}
 use Rattle.std.specs.declared.vec.Vec.{Vec}
 use Rattle.std.specs.declared.alloc.Global.{Global}
 use Rattle.quic_wire_core.specs.declared.stream_id.Side.TheVariants.{Client}
@@ -8,12 +8,16 @@ use Rattle.quic_machine.specs.declared.run.Answer.{Answer}
 use Rattle.quic_machine.specs.declared.run.Answer.TheVariants as answers
 use Rattle.quic_machine.specs.Machine.{IsStep, view_of}
 use Rattle.quic_headline.specs.Runs.{until, joined, written}
-use Rattle.quic_headline.specs.Headline.{IsRun}
+use Rattle.quic_streams_parts.specs.declared.answers.Written.{Written}
+use Rattle.quic_headline.specs.Headline.{IsHonest, IsRun}
+use Rattle.quic_headline.specs.Buffers.{LieWithin, BuffersAreCounted}
+use Rattle.quic_headline.proofs.Amounts.Buffers.{buffers_are_counted}
 use Rattle.quic_worked.specs.Worked.{worked_policies, once_opened, finishes_stream, asks_datagram, gives_bytes, hello, hello_datagram, sent_view, server_open}
 use Rattle.quic_worked.specs.Broken.{IsNoRun}
-use Rattle.quic_worked.specs.Chunked.{writes_buffers, two_buffers, both_written, after_buffers, chunks_written, chunks_ended, chunks_sent, chunked_run, buffer_lost}
+use Rattle.quic_worked.specs.Chunked.{writes_buffers, two_buffers, both_written, after_buffers, chunks_written, chunks_ended, chunks_sent, chunked_as, chunked_run, buffer_lost}
 use Rattle.quic_worked.proofs.WorkedRun.{opens}
 use Rattle.quic_worked.proofs.Codes.{no_codes}
+use Rattle.quic_worked.proofs.OwnIds.{honest}
 use Rattle.quic_worked.proofs.BrokenRuns.{IsRefused, stops, behind}
 use Rattle.quic_worked.proofs.Steps.{StepsSo, steps_so}
 
@@ -85,3 +89,20 @@ lost_no buffers are (inr e) = let clash : ◌≡◌ {A = ℕ} 1 0 = ap counted e
 
 pub no_lost : (buffers : Vec (List ℕ) Global) → buffers.items ≡ two_buffers → IsNoRun (buffer_lost buffers)
 no_lost buffers are = behind refl opens (stops _ _ _ _ _ (lost_no buffers are))
+
+-- ---- how many are counted
+
+chunked_honest : (said : Written) (buffers : Vec (List ℕ) Global) → IsHonest (chunked_as said buffers)
+chunked_honest said buffers = honest (chunked_as said buffers) (record { start = refl; keys = refl; client = (tt, (inl refl, (inl refl, (tt, tt)))); server = (tt, (tt, (tt, (tt, tt)))) })
+
+pub lost_honest : (buffers : Vec (List ℕ) Global) → IsHonest (buffer_lost buffers)
+lost_honest buffers = chunked_honest (record { bytes = 5; chunks = 1 }) buffers
+
+pub counted_right : (buffers : Vec (List ℕ) Global) → buffers.items ≡ two_buffers → BuffersAreCounted (chunked_run buffers)
+counted_right buffers are = buffers_are_counted (chunked_run buffers) chunks_sent (chunked_honest both_written buffers) (is_run buffers are)
+
+pub lost_shows : (buffers : Vec (List ℕ) Global) → buffers.items ≡ two_buffers → BuffersAreCounted (buffer_lost buffers) → ⊥
+lost_shows buffers are h =
+    let lie : LieWithin 5 two_buffers 1 = subst (λ (cs : List (List ℕ)). LieWithin 5 cs 1) are (h Client 1 0 buffers (record { bytes = 5; chunks = 1 }) refl (record { event = refl; answer = refl })) in
+    let more : 5 < 5 = lie.no_more (lit< tt) in
+    omega (arith, more)

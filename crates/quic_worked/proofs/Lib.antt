@@ -52,6 +52,7 @@ mod UsedUpRun
 mod SilentEnd
 mod AskedTimers
 mod MessageRuns
+mod ReceivedRun
 mod RestedRun
 mod HastyRun
 mod MarkedRun
@@ -83,6 +84,7 @@ mod DrawnRun
 mod KnownRuns
 mod UnvalidatedRun
 mod AnsweredRun
+mod AnsweringRuns
 pub mod MigratedRun
 mod MigratedMachines
 mod KeptId
@@ -117,3 +119,4 @@ mod RespelledRun
 mod ChallengedRun
 mod CollapsedRun
 mod QuestionedRun
+mod BurstingRuns

@@ -1,5 +1,5 @@
 -- Clients that say at which limit they are blocked, and clients that say another one.
-use Rattle.std.proofs.Common.{◌≡◌, ℕ, List, [], ◌∷◌, ◌++◌, Some, refl, inl, ap, ◌∙◌, arith}
+use Rattle.std.proofs.Common.{◌≡◌, ℕ, ◌≤◌, List, [], ◌∷◌, ◌++◌, Some, refl, inl, ap, ◌∙◌, arith}
 use Rattle.std.specs.Prelude.{slice_index}
 use Rattle.quic_wire_core.specs.declared.shared.EcnCodepoint.TheVariants.{Ect0}
 use Rattle.quic_wire_core.specs.declared.stream_id.Side.TheVariants.{Client}
@@ -17,7 +17,7 @@ use Rattle.quic_worked.specs.Blocked.{small_start}
 use Rattle.quic_worked.specs.Limited.{limited_start}
 use Rattle.quic_worked.specs.Machines.{NeverGives}
 use Rattle.quic_worked.specs.Said.{once_said, said_run, once_said_on, said_on_run}
-use Rattle.quic_worked.specs.Misstated.{misstated_run, misstated_on_run, none_sent, four_sent}
+use Rattle.quic_worked.specs.Misstated.{misstated_run, misstated_on_run, unwritten_run, none_sent, four_sent, unwritten_sent}
 use Rattle.quic_worked.proofs.OwnIds.{own_ids}
 use Rattle.quic_worked.proofs.WorkedKeys.{are_keys}
 use Rattle.quic_worked.proofs.BlockedRun.{left_started}
@@ -86,7 +86,7 @@ five_told = refl
 pub misstated_on_not : BlockedSay misstated_on_run → ⊥
 unfolding gave_four
 misstated_on_not h = (
-    let said : 4 ≡ stream_limit (peer_parameters Client limited_start limited_started) Client (took misstated_on_run Client 4) 0 = h.of_stream limited_started Client 4 0 gave_four (record { id = 0; limit = 4 }) (inl refl) in
+    let said : 4 ≡ stream_limit (peer_parameters Client limited_start limited_started) Client (took misstated_on_run Client 4) 0 = (h.of_stream limited_started Client 4 0 gave_four (record { id = 0; limit = 4 }) (inl refl)).0 in
     let five = five_told in
     absurd (omega (arith, said, five)))
 
@@ -101,4 +101,30 @@ pub never_misstated_on : NeverGives misstated_on_run
 never_misstated_on views end is =
     let same = one_run said_on_run.keys said_on_run.answers said_on_run.start said_on_run.events views said_on_run.views end (once_said_on 10) refl is.follows one_is_run.follows in
     let clash : ◌≡◌ {A = ℕ} 4 5 = ap (second_byte 12) (is.from_client ∙ ap (λ (w : World). w.from_client) same.1) ∙ right_on in
+    omega (arith, clash)
+
+-- ---- a stream on which nothing was written
+
+unwritten_went : sents_until unwritten_run Client 5 ≡ sents_until unwritten_run Client 4 ++ unwritten_sent ∷ []
+unfolding client_acked stream_limit_at
+unwritten_went = refl
+
+gave_unwritten : GaveOne unwritten_run Client 4 0
+gave_unwritten = record { transmit = record { size = 29; ecn = Some Ect0; remote = 0 }; poll = record { event = refl; answer = refl }; served = refl; sent = unwritten_sent; went = unwritten_went }
+
+pub unwritten_not : BlockedSay unwritten_run → ⊥
+unfolding gave_unwritten
+unwritten_not h = (let said : 5 ≤ 0 = (h.of_stream limited_started Client 4 0 gave_unwritten (record { id = 4; limit = 5 }) (inl refl)).1 in absurd (omega (arith, said)))
+
+pub unwritten_is_honest : IsHonest unwritten_run
+unwritten_is_honest = record { start = limited_started; keys = are_keys; ids = own_ids unwritten_run one_own }
+
+right_stream : second_byte 11 (once_said_on 10).from_client ≡ 0
+unfolding once_said_on
+right_stream = refl
+
+pub never_unwritten : NeverGives unwritten_run
+never_unwritten views end is =
+    let same = one_run said_on_run.keys said_on_run.answers said_on_run.start said_on_run.events views said_on_run.views end (once_said_on 10) refl is.follows one_is_run.follows in
+    let clash : ◌≡◌ {A = ℕ} 4 0 = ap (second_byte 11) (is.from_client ∙ ap (λ (w : World). w.from_client) same.1) ∙ right_stream in
     omega (arith, clash)

@@ -1,6 +1,6 @@
 -- A client that gives the bytes of a stream as they were written, and clients that say of it what
 -- wasn't.
-use Rattle.std.proofs.Common.{◌≡◌, ℕ, true, false, List, [], ◌∷◌, ◌++◌, refl, inl, sym, ap, ◌∙◌, subst, arith}
+use Rattle.std.proofs.Common.{◌≡◌, ℕ, ◌≤◌, true, false, List, [], ◌∷◌, ◌++◌, refl, inl, sym, ap, ◌∙◌, subst, arith}
 use Rattle.std.specs.Prelude.{slice_index}
 use Rattle.quic_wire_core.specs.declared.stream_id.Side.TheVariants.{Client}
 use Rattle.quic_wire.specs.Reading.{stream_at}
@@ -15,7 +15,7 @@ use Rattle.quic_headline.proofs.Places.Told.{in_right}
 use Rattle.quic_worked.specs.Acknowledged.{client_acked}
 use Rattle.quic_worked.specs.Machines.{NeverGives}
 use Rattle.quic_worked.specs.Said.{once_said, said_run}
-use Rattle.quic_worked.specs.Respelled.{saying, one_byte, respelled_run, respelled_sent, cut_short_run, cut_short_sent}
+use Rattle.quic_worked.specs.Respelled.{saying, one_byte, respelled_run, respelled_sent, cut_short_run, cut_short_sent, far_frame, far_run, far_sent}
 use Rattle.quic_worked.proofs.OwnIds.{own_ids}
 use Rattle.quic_worked.proofs.WorkedKeys.{are_keys}
 use Rattle.quic_worked.proofs.BlockedRun.{left_started}
@@ -83,4 +83,25 @@ pub never_cut_short : NeverGives cut_short_run
 never_cut_short views end is =
     let same = one_run said_run.keys said_run.answers said_run.start said_run.events views said_run.views end (once_said 10) refl is.follows all_is_run.follows in
     let clash : ◌≡◌ {A = ℕ} 0x09 0x14 = ap second_type (is.from_client ∙ ap (λ (w : World). w.from_client) same.1) ∙ right_type in
+    omega (arith, clash)
+
+-- ---- no byte, far off
+
+far_went : sents_until far_run Client 5 ≡ sents_until far_run Client 4 ++ far_sent ∷ []
+unfolding client_acked stream_at
+far_went = refl
+
+far_among : In far_sent (sents_until far_run Client 5)
+far_among = subst (λ (ss : List Sent). In far_sent ss) (sym far_went) (in_right far_sent (sents_until far_run Client 4) (far_sent ∷ []) (inl refl))
+
+pub far_not : StreamsSay far_run → ⊥
+far_not h = (let below : 63 ≤ 8 = h.within Client 5 far_sent far_frame refl far_among (inl refl) in absurd (omega (arith, below)))
+
+pub far_is_honest : IsHonest far_run
+far_is_honest = saying_is_honest (0x0c ∷ 0x00 ∷ 0x3f ∷ [])
+
+pub never_far : NeverGives far_run
+never_far views end is =
+    let same = one_run said_run.keys said_run.answers said_run.start said_run.events views said_run.views end (once_said 10) refl is.follows all_is_run.follows in
+    let clash : ◌≡◌ {A = ℕ} 0x0c 0x14 = ap second_type (is.from_client ∙ ap (λ (w : World). w.from_client) same.1) ∙ right_type in
     omega (arith, clash)

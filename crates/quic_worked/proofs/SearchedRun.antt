@@ -37,7 +37,7 @@ searching_range : IsInRange search_settings
 searching_range = record { receive_window = lit< tt; stream_receive_window = lit< tt; bounds = record { bidi = lit≤ tt; uni = lit≤ tt; divides = lit< tt; initial = lit≤ tt; least = lit≤ tt }; search = lit≤ tt }
 
 -- the client's parameters say nothing of its search
-abbrev searched_started : AreStarted searched_start
+pub searched_started : AreStarted searched_start
 searched_started = record {
   client_making = record (making client_id) { settings = search_settings };
   server_making = record (making server_id) { windows = shut };

@@ -56,6 +56,10 @@ stopped_again = record {
   from_server = [];
 }
 
+-- or finds no memory for it
+abbrev pub stop_finds_none : Run
+stop_finds_none = record stopped_again { answers = answers.Open (Some 0) ∷ answers.Stop (Ok tt) ∷ answers.Stop (Err update_errors.Memory) ∷ [] }
+
 -- the client finishes the stream twice
 abbrev pub finished_twice : Run
 finished_twice = record {

@@ -4,6 +4,7 @@ use Rattle.std.specs.Prelude.{true, [], ◌∷◌, replicate, Some, Ok, Err}
 use Rattle.quic_wire_core.specs.declared.stream_id.Side.TheVariants.{Client, Server}
 use Rattle.quic_messages.specs.declared.errors.SendDatagramError.TheVariants as send_errors
 use Rattle.quic_streams_parts.specs.declared.answers.UpdateError.TheVariants as update_errors
+use Rattle.quic_machine.specs.declared.answers.Received.TheVariants as receives
 use Rattle.quic_machine.specs.declared.run.RunEvent.{RunEvent}
 use Rattle.quic_machine.specs.declared.run.Call.TheVariants as calls
 use Rattle.quic_machine.specs.declared.run.Answer.{Answer}
@@ -11,7 +12,7 @@ use Rattle.quic_machine.specs.declared.run.Answer.TheVariants as answers
 use Rattle.quic_machine.specs.declared.run.View.{View}
 use Rattle.quic_headline.specs.Runs.{Run}
 use Rattle.quic_worked.specs.Worked.{worked_policies, started, opens_stream, writes_hello, finishes_stream, write_lacks, finish_lacks, open_view, server_open}
-use Rattle.quic_worked.specs.Broken.{lets_expire}
+use Rattle.quic_worked.specs.Broken.{lets_expire, injects}
 
 -- ---- a run
 
@@ -41,6 +42,13 @@ finish_again = record lacking_run {
   views = replicate 4 nothing_gone;
 }
 
+-- or bytes are written on it, and the write finds none
+abbrev pub write_behind : Run
+write_behind = record finish_again {
+  events = opens_stream ∷ writes_hello ∷ finishes_stream ∷ writes_hello ∷ [];
+  answers = answers.Open (Some 0) ∷ answers.Write (Ok 5) ∷ answers.Finish (Ok tt) ∷ write_lacks ∷ [];
+}
+
 -- a timeout does
 abbrev pub timeout_lacks : Answer
 timeout_lacks = answers.Timeout (Err (record {}))
@@ -51,6 +59,16 @@ idle_timeout = record lacking_run {
   events = lets_expire ∷ [];
   answers = timeout_lacks ∷ [];
   views = nothing_gone ∷ [];
+}
+
+-- bytes come to the client from outside, at which it says that it failed
+abbrev pub injected_lacks : Answer
+injected_lacks = answers.Inject receives.Failed
+
+abbrev pub failed_injection : Run
+failed_injection = record idle_timeout {
+  events = injects Client [] ∷ [];
+  answers = injected_lacks ∷ [];
 }
 
 -- the client resets its stream
@@ -73,3 +91,9 @@ sends_long = record { side = Client; call = calls.Send (replicate 1300 0) true }
 
 abbrev pub send_lacks : Answer
 send_lacks = answers.Send (Err send_errors.Memory)
+
+abbrev pub long_message : Run
+long_message = record idle_timeout {
+  events = sends_long ∷ [];
+  answers = send_lacks ∷ [];
+}

@@ -21,6 +21,7 @@ pub mod Congested
 pub mod Probed
 pub mod Searched
 pub mod Messages
+pub mod Received
 pub mod Held
 pub mod Rested
 pub mod Hasty
@@ -38,6 +39,7 @@ pub mod Undone
 pub mod Told
 pub mod Bounded
 pub mod Allowed
+pub mod Answering
 pub mod Repeated
 pub mod Begun
 pub mod Reset
@@ -76,3 +78,4 @@ pub mod Elsewhere
 pub mod Misstated
 pub mod Respelled
 pub mod Challenged
+pub mod Bursting

@@ -1,5 +1,6 @@
 -- Clients that say of a stream what wasn't written (RFC 9000, sections 2.2 and 19.8): one gives its
--- first byte again as another one, and one gives that byte with FIN, though the stream goes on.
+-- first byte again as another one, one gives that byte with FIN, though the stream goes on, and one
+-- gives a frame without a byte, behind all that was written.
 use Rattle.std.specs.Prelude.{ℕ, Bool, false, true, List, [], ◌∷◌}
 use Rattle.quic_wire.specs.Value.{StreamValue, stream}
 use Rattle.quic_headline.specs.Runs.{Run}
@@ -29,3 +30,13 @@ cut_short_run = saying (0x09 ∷ 0x00 ∷ 0x68 ∷ [])
 
 abbrev pub cut_short_sent : Sent
 cut_short_sent = second_sent (stream (one_byte 0x68 true) ∷ [])
+
+-- STREAM with an offset and without length: no byte of stream 0, behind 63
+abbrev pub far_frame : StreamValue
+far_frame = record { id = 0; offset = 63; bytes = []; fin = false }
+
+abbrev pub far_run : Run
+far_run = saying (0x0c ∷ 0x00 ∷ 0x3f ∷ [])
+
+abbrev pub far_sent : Sent
+far_sent = second_sent (stream far_frame ∷ [])

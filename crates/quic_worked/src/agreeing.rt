@@ -3,6 +3,7 @@
 //! the law.
 ghost use Rattle.std.specs.Prelude.{◌≡◌};
 ghost use Rattle.quic_machine.specs.Machine.{World};
+ghost use Rattle.quic_headline.specs.Headline.{IsHonest};
 ghost use Rattle.quic_headline.specs.Isolated.{answered_idle, without};
 ghost use Rattle.quic_headline.specs.Memory.{FindsMemory};
 ghost use Rattle.quic_headline.specs.TwoRuns.{BeganSo, CameTo, RunsAgree, IdleRunsAgree};
@@ -21,6 +22,7 @@ pub fn quiet_run_agrees()
 /// Timers: how long an acknowledgement waits is drawn, so that two runs of the same events differ.
 pub fn drawn_wait_shows()
     ensures agree { (end : World) → RunsAgree drawn_wait end → ⊥ }
+    ensures premises { IsHonest drawn_wait }
     ensures machine { IsNoRun drawn_wait }
 {}
 
@@ -28,5 +30,6 @@ pub fn drawn_wait_shows()
 /// what is computed without a forged one differs.
 pub fn forged_moment_differs()
     ensures idle { (end : World) → IdleRunsAgree ticked_early end → ⊥ }
+    ensures premises { IsHonest ticked_early }
     ensures machine { IsNoRun ticked_early }
 {}

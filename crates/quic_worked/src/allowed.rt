@@ -16,12 +16,13 @@ ghost use Rattle.quic_headline.specs.Headline.{IsHonest, IsRun, AllArrived};
 ghost use Rattle.quic_headline.specs.Observer.{took};
 ghost use Rattle.quic_headline.specs.Undone.{IsSentOff};
 ghost use Rattle.quic_headline.specs.Allowed.{IsReadOff, ReadsAreAllowed, ReadsAreOver, WritesAreAllowed, ResetsAreAllowed};
+ghost use Rattle.quic_headline.specs.Lacking.{LacksWhereTaken};
 ghost use Rattle.quic_headline.specs.Queue.{waiting_messages, MessagesGo};
 ghost use Rattle.quic_worked.specs.Broken.{IsNoRun};
 ghost use Rattle.quic_worked.specs.Worked.{ReadsBy};
 ghost use Rattle.quic_worked.specs.Messages.{ping_message};
 ghost use Rattle.quic_worked.specs.Faults.{silent_message, message_waits};
-ghost use Rattle.quic_worked.specs.Allowed.{opened_then, stopped_twice, stopped_again, finished_twice, reset_twice, reset_late, late_end};
+ghost use Rattle.quic_worked.specs.Allowed.{opened_then, stopped_twice, stopped_again, stop_finds_none, finished_twice, reset_twice, reset_late, late_end};
 
 /// A client that stopped a stream is kept from reading it, one that finished a stream from writing
 /// on it, and one that reset it from resetting it again.
@@ -59,6 +60,14 @@ pub fn stopped_again_shows()
     ensures over { ReadsAreOver stopped_again → ⊥ }
     ensures honest { IsHonest stopped_again }
     ensures machine { IsNoRun stopped_again }
+{}
+
+/// Reading: or it finds no memory for that.
+pub fn stop_without_memory_shows()
+    ensures over { ReadsAreOver stop_finds_none → ⊥ }
+    ensures lacks { LacksWhereTaken stop_finds_none → ⊥ }
+    ensures honest { IsHonest stop_finds_none }
+    ensures machine { IsNoRun stop_finds_none }
 {}
 
 /// Writing: a client that opened a stream can't finish it. The machine lets it.

@@ -47,6 +47,8 @@ pub fn peer_is_followed()
     ensures asked { (asking migrated_run Server 15).renewed ≡ false }
     ensures answered { WasAnswered migrated_run Server 15 }
     ensures validated { (seen_at migrated_run Server 16).validated ≡ true }
+    ensures goes { GoesToPath migrated_run }
+    ensures exactly { PathChangesExactly migrated_run }
 {}
 
 /// Sending: a server that follows its peer counts the bytes that came from the old address for the

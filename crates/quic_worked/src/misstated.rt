@@ -5,7 +5,7 @@ ghost use Rattle.quic_headline.specs.Headline.{IsHonest};
 ghost use Rattle.quic_headline.specs.Blocking.{BlockedSay};
 ghost use Rattle.quic_worked.specs.Machines.{NeverGives};
 ghost use Rattle.quic_worked.specs.Said.{said_run, said_on_run};
-ghost use Rattle.quic_worked.specs.Misstated.{misstated_run, misstated_on_run};
+ghost use Rattle.quic_worked.specs.Misstated.{misstated_run, misstated_on_run, unwritten_run};
 
 /// A client that wrote all eight bytes that may come says 8 in DATA_BLOCKED, and one that wrote all
 /// five of a stream says 5 in STREAM_DATA_BLOCKED (RFC 9000, sections 19.12 and 19.13).
@@ -23,4 +23,12 @@ pub fn other_limit_shows()
     ensures stream_premises { IsHonest misstated_on_run }
     ensures machine_all { NeverGives misstated_run }
     ensures machine_stream { NeverGives misstated_on_run }
+{}
+
+/// Sending: a client says in STREAM_DATA_BLOCKED that it is blocked at 5 on a stream on which it
+/// wrote nothing, and which may come so far.
+pub fn unwritten_stream_shows()
+    ensures stream { BlockedSay unwritten_run → ⊥ }
+    ensures premises { IsHonest unwritten_run }
+    ensures machine { NeverGives unwritten_run }
 {}

@@ -38,6 +38,7 @@ pub fn id_stays()
     ensures none { next_id kept_run (λ n. true) Server 5 ≡ None }
     ensures used { in_use kept_run (λ n. true) Server 7 ≡ 0 }
     ensures sent { sents_until kept_run Server 7 ≡ kept_sent ∷ [] }
+    ensures reason { StaysForAReason kept_run }
 {}
 
 /// Sending: a server that follows its peer gives nothing to the new address, since what it gave to

@@ -4,7 +4,7 @@ ghost use Rattle.quic_headline.specs.Headline.{IsHonest};
 ghost use Rattle.quic_headline.specs.Spelled.{StreamsSay};
 ghost use Rattle.quic_worked.specs.Machines.{NeverGives};
 ghost use Rattle.quic_worked.specs.Said.{said_run};
-ghost use Rattle.quic_worked.specs.Respelled.{respelled_run, cut_short_run};
+ghost use Rattle.quic_worked.specs.Respelled.{respelled_run, cut_short_run, far_run};
 
 /// A client gives the eight bytes that it wrote.
 pub fn bytes_are_as_written()
@@ -21,4 +21,12 @@ pub fn other_bytes_show()
     ensures fin_premises { IsHonest cut_short_run }
     ensures machine_bytes { NeverGives respelled_run }
     ensures machine_fin { NeverGives cut_short_run }
+{}
+
+/// Sending: a client gives a STREAM frame without a byte at offset 63 of a stream, on which it
+/// wrote eight.
+pub fn far_frame_shows()
+    ensures within { StreamsSay far_run → ⊥ }
+    ensures premises { IsHonest far_run }
+    ensures machine { NeverGives far_run }
 {}

@@ -18,6 +18,7 @@ pub fn client_takes_nothing_from_elsewhere()
     ensures elsewhere { takes_nothing_from foreign_run Client 5 ≡ true }
     ensures home { takes_nothing_from foreign_run Client 0 ≡ false }
     ensures stays { peer_address foreign_run Client 3 ≡ 0 }
+    ensures drops { DropsOtherAddresses foreign_run }
 {}
 
 /// Receiving: a client takes what comes from another address.

@@ -25,94 +25,39 @@ use Rattle.quic_machine.specs.declared.run.Answer.{Answer}
 use Rattle.quic_machine.specs.declared.run.Answer.TheVariants as answers
 use Rattle.quic_machine.specs.Policy.{Policy}
 use Rattle.quic_machine.specs.Closing.{ticked}
-use Rattle.quic_machine.specs.End.{End, with_closing, with_numbers, closed_by}
+use Rattle.quic_machine.specs.End.{End, with_closing, with_numbers}
 use Rattle.quic_machine.specs.Opens.{head}
 use Rattle.quic_machine.specs.Receive.{Fault, Progress, Outcome, is_empty, violation, take_items, take_payload, take_frame, asks_in, is_urged, ends_as, by_state, dropped, opened_to, opened_as, opening, headed, received_in, received, broke, too_many_pieces, closed_by_peer, unopened_in, is_read, drawn_if, with_ids_drawn, items_taken, has_migrated}
-use Rattle.quic_machine.specs.Poll.{Polled, Draft, Leaving, polled, draft_as}
-use Rattle.quic_machine.specs.Timeouts.{Expiry, loss_judged}
-use Rattle.quic_machine.specs.FrameCases.{Settling, named, acked_keeps, losses_keep, frame_keeps, frame_leaves, apart_leaves, items_keep}
-use Rattle.quic_machine.specs.Steps as steps
-use Rattle.quic_machine.specs.PollCases.{ready_at, ready_leaves, draft_at, by_poll_to, may_leave_at}
-use Rattle.quic_machine.specs.DraftLaws.{Writing, by_leave, MayLeave}
-use Rattle.quic_machine.specs.Puts as puts
-use Rattle.quic_machine.specs.LeaveCases.{at_expiry, Expired, by_timers}
-use Rattle.quic_machine.specs.LeaveCases as expiring
-use Rattle.quic_machine.specs.CallCases.{Plain, is_delivery, by_plain_call}
-use Rattle.quic_machine.specs.CallCases as cases
+use Rattle.quic_machine.specs.FrameCases.{items_keep}
+use Rattle.quic_machine.specs.CallCases.{is_delivery}
 use Rattle.quic_machine.specs.Machine.{IsAnswer, IsDelivered, after_delivered, after_call, fails, says_last}
 use Rattle.quic_headline.specs.AckFrames.{mark_taken}
-use Rattle.quic_headline.proofs.Packets.Apart.{by_waits, by_next_id}
 use Rattle.quic_headline.proofs.Packets.Moved.{by_migrated_if}
-use Rattle.quic_headline.proofs.Packets.Closes.{by_closes}
-use Rattle.quic_headline.proofs.Packets.Probes.{by_going}
+use Rattle.quic_headline.proofs.Packets.EndMoves.{Move, Cause, cause_of, IsPacket, after, OfFrame}
+use Rattle.quic_headline.proofs.Packets.EndMoves as moves
+use Rattle.quic_headline.proofs.Packets.ByMoves.{no_packet, behind_frame, behind_call}
 
 -- an end counts so
 abbrev CountsSo : Counts → End → Type 0
 CountsSo counts e = e.marks.came ≡ counts
 
--- packets that are acknowledged or lost leave the counts
-settling : (counts : Counts) → Settling (CountsSo counts)
-settling counts (steps.known n) e i = i
-settling counts s e i = i
-
--- ---- a call that isn't a delivery
-
--- losses leave them
-judged_counts : (counts : Counts) (o : Option ℕ) (e : End) → CountsSo counts e → CountsSo counts (loss_judged o e)
-judged_counts counts None e i = i
-judged_counts counts (Some moment) e i = losses_keep (CountsSo counts) (settling counts) e i
-
--- and timers that expire
-expired_counts : (words : ℕ → ℕ) (e : End) (now : ℕ) (expiry : Expiry) → CountsSo e.marks.came (at_expiry words e now expiry)
-expired_counts words e now expiry = by_timers words (CountsSo e.marks.came) (CountsSo e.marks.came) (judged_counts e.marks.came) each (λ f i. i) (λ f i. i) expiry (with_closing e (ticked e.closing now)) refl
-  where
-    each : (s : Expired) (f : End) → CountsSo e.marks.came f → CountsSo e.marks.came (expiring.after s f)
-    each expiring.of_acks f i = i
-    each s f i = i
-
--- and a poll
-draft_counts : (counts : Counts) (leaving : Leaving) (e : End) → MayLeave leaving e → CountsSo counts e → CountsSo counts (draft_as leaving e).end
-draft_counts counts leaving e may same = by_leave (λ (d : Draft). CountsSo counts d.end) keep leaving e may same
-  where
-    keep : Writing (λ (d : Draft). CountsSo counts d.end)
-    keep puts.ping d may i = i
-    keep p d may i = i
-
-polled_counts : (p : Policy) (e : End) (now : ℕ) → CountsSo e.marks.came (polled p e now).end
-polled_counts p e now = by_poll_to p e now (λ (q : Polled). CountsSo e.marks.came q.end) (record {
-  silent = refl;
-  failed = refl;
-  nothing = λ is none. ready;
-  repeats = λ is. by_closes p (with_closing e (ticked e.closing now)) (λ (q : Polled). CountsSo e.marks.came q.end) refl (λ f goes. refl);
-  closes = λ reason bound. by_closes p (closed_by reason (ready_at e now).end) (λ (q : Polled). CountsSo e.marks.came q.end) ready (λ f goes. ready);
-  gives = λ is may some. by_going (CountsSo e.marks.came) p (draft_at e now) (λ pacing. draft_counts e.marks.came (ready_at e now).leaving (ready_at e now).end (may_leave_at e now) ready);
-})
-  where
-    ready : CountsSo e.marks.came (ready_at e now).end
-    ready = ap (λ (x : End). x.marks.came) (ready_leaves e now)
+-- only a packet that is taken changes the counts
+same_counts : (counts : Counts) (by : Cause) → (IsPacket by → ⊥) → moves.Keeps by (CountsSo counts)
+same_counts counts by apart (moves.taken n asking hurries mark) e may i = absurd (apart may)
+same_counts counts by apart m e may i = i
 
 quiet_counts : (p : Policy) (e : End) (theirs : List (List ℕ)) (call : Call) (a : Answer) → is_delivery call ≡ false → CountsSo e.marks.came (after_call p e theirs call a)
-quiet_counts p e theirs call a apart = by_plain_call p e theirs (CountsSo e.marks.came) call a keep
-  where
-    keep : Plain p e call (CountsSo e.marks.came)
-    keep (cases.times now expiry) may = expired_counts p.words e now expiry
-    keep (cases.polls now) may = polled_counts p e now
-    keep (cases.hears arrival d) is = (let clash : true ≡ false = sym is ∙ apart in cc)
-    keep (cases.closes reason f now) may = refl
-    keep (cases.waits now b) may = by_waits (CountsSo e.marks.came) b (with_closing e (ticked e.closing now)) refl refl
-    keep (cases.changes_id b) may = by_next_id (CountsSo e.marks.came) e b refl (λ c. refl) (λ c most. refl)
-    keep c may = refl
+quiet_counts p e theirs call a apart = behind_call (CountsSo e.marks.came) p e theirs call a (same_counts e.marks.came (cause_of call) (no_packet call apart)) refl
 
 -- ---- a delivery
 
 -- frames leave them
 frame_counts : (counts : Counts) (f : FrameValue) (e : End) → CountsSo counts e → CountsSo counts (take_frame f e).end
-frame_counts counts = frame_keeps (CountsSo counts) (record {
-  ack = λ rises a e i. acked_keeps (CountsSo counts) (settling counts) rises a (named a e) i;
-  on_streams = λ f e on i. frame_leaves (CountsSo counts) f e on (λ t. i);
-  apart = λ f e is i. apart_leaves (CountsSo counts) f e is (λ c. i) (λ c most. i);
-  message = λ m e i. i;
-})
+frame_counts counts f e i = behind_frame f (CountsSo counts) keep e i
+  where
+    keep : (m : Move) (x : End) → OfFrame f m x → CountsSo counts x → CountsSo counts (after m x)
+    keep (moves.taken n asking hurries mark) x of j = absurd of
+    keep m x of j = j
 
 payload_counts : (counts : Counts) (first : ℕ) (is : List (Result FrameValue InvalidFrame)) (e : End) → CountsSo counts e → CountsSo counts (take_payload first is e).end
 payload_counts counts first is e i = go (not (reserved_bits first == 0) || is_empty is)

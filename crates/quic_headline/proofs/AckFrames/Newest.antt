@@ -20,32 +20,21 @@ use Rattle.quic_machine.specs.declared.run.Answer.{Answer}
 use Rattle.quic_machine.specs.Parts.{Windows}
 use Rattle.quic_machine.specs.Policy.{Policy}
 use Rattle.quic_machine.specs.Start.{Making}
-use Rattle.quic_machine.specs.Closing.{Closing, ticked}
-use Rattle.quic_machine.specs.End.{End, with_closing, closed_by, new_end}
+use Rattle.quic_machine.specs.Closing.{Closing}
+use Rattle.quic_machine.specs.End.{End, new_end}
 use Rattle.quic_machine.specs.Receive.{asks_in, after_taken, Outcome}
 use Rattle.quic_machine.specs.IdFrames.{drawn}
 use Rattle.quic_machine.specs.Migration.{migrated}
-use Rattle.quic_machine.specs.Poll.{Polled, Draft, Leaving, whole, lazied_as, polled, draft_as}
-use Rattle.quic_machine.specs.Timeouts.{Expiry, loss_judged}
+use Rattle.quic_machine.specs.Poll.{Leaving, whole, lazied_as}
 use Rattle.quic_machine.specs.Machine.{World, IsStep, after_call, end_at, control_at, heard_at}
-use Rattle.quic_machine.specs.FrameCases.{Settling, named, begun, passed, acked_keeps, losses_keep, frame_keeps, frame_leaves, frames_keep}
-use Rattle.quic_machine.specs.Steps as steps
-use Rattle.quic_machine.specs.PollCases.{ready_at, ready_leaves, draft_at, by_poll_to, may_leave_at}
-use Rattle.quic_machine.specs.DraftLaws.{Writing, by_leave, MayLeave}
-use Rattle.quic_machine.specs.Puts as puts
-use Rattle.quic_machine.specs.LeaveCases.{at_expiry, Expired, by_timers}
-use Rattle.quic_machine.specs.LeaveCases as expiring
-use Rattle.quic_machine.specs.CallCases.{Plain, is_delivery, by_plain_call}
-use Rattle.quic_machine.specs.CallCases as cases
+use Rattle.quic_machine.specs.FrameCases.{begun, passed, frames_keep}
+use Rattle.quic_machine.specs.CallCases.{is_delivery}
 use Rattle.quic_headline.specs.Runs.{Run, Packet, Intake, In, same_side, until, LeadsTo, AreServed, folded, given_of, Told}
 use Rattle.quic_headline.specs.Observer.{Watch, first_watch, watch_from, watch_told, watch, took, lens_of}
 use Rattle.quic_headline.specs.Headline.{IsHonest, IsRun}
 use Rattle.quic_headline.specs.Amounts.{making_at}
 use Rattle.quic_headline.specs.Polls.{IsMade}
 use Rattle.quic_headline.specs.AckDelays.{CameAt}
-use Rattle.quic_headline.proofs.Packets.Apart.{by_waits, next_acks, apart_acks}
-use Rattle.quic_headline.proofs.Packets.Closes.{by_closes}
-use Rattle.quic_headline.proofs.Packets.Probes.{by_going}
 use Rattle.quic_headline.proofs.Packets.Delivered.{frames_at, Arrivals, arrived, with_taken}
 use Rattle.quic_headline.proofs.Packets.Moved.{migrated_closing, migrated_acks}
 use Rattle.quic_headline.proofs.Packets.Watching.{watched_intake}
@@ -58,6 +47,9 @@ use Rattle.quic_headline.proofs.Rest.Between.{step_leaves}
 use Rattle.quic_headline.proofs.Steps.Made.{made_served, reads_either}
 use Rattle.quic_headline.proofs.Steps.Along.{along}
 use Rattle.quic_headline.proofs.Validated.Clause as clause
+use Rattle.quic_headline.proofs.Packets.EndMoves.{Move, Cause, cause_of, IsPacket, after, OfFrame}
+use Rattle.quic_headline.proofs.Packets.EndMoves as moves
+use Rattle.quic_headline.proofs.Packets.ByMoves.{no_packet, behind_frame, behind_call}
 
 -- the greatest number that came, and when
 abbrev pub Newest : Type 0
@@ -67,73 +59,30 @@ Newest = Option (ℕ × ℕ)
 abbrev Keeps : Newest → End → Type 0
 Keeps o e = e.acknowledging.newest ≡ o
 
--- packets that are acknowledged or lost leave it
-settling : (o : Newest) → Settling (Keeps o)
-settling o (steps.known n) e i = i
-settling o s e i = i
-
 -- ---- a call that isn't a delivery
 
--- losses leave it
-judged_newest : (o : Newest) (moment : Option ℕ) (e : End) → Keeps o e → Keeps o (loss_judged moment e)
-judged_newest o None e i = i
-judged_newest o (Some moment) e i = losses_keep (Keeps o) (settling o) e i
+-- only a packet that is taken changes it
+same_newest : (o : Newest) (by : Cause) → (IsPacket by → ⊥) → moves.Keeps by (Keeps o)
+same_newest o by apart (moves.taken n asking hurries mark) e may i = absurd (apart may)
+same_newest o by apart m e may i = i
 
--- and timers that expire
-expired_newest : (words : ℕ → ℕ) (e : End) (now : ℕ) (expiry : Expiry) → Keeps e.acknowledging.newest (at_expiry words e now expiry)
-expired_newest words e now expiry = by_timers words (Keeps e.acknowledging.newest) (Keeps e.acknowledging.newest) (judged_newest e.acknowledging.newest) each (λ f i. i) (λ f i. i) expiry (with_closing e (ticked e.closing now)) refl
-  where
-    each : (s : Expired) (f : End) → Keeps e.acknowledging.newest f → Keeps e.acknowledging.newest (expiring.after s f)
-    each expiring.of_acks f i = i
-    each s f i = i
+quiet_newest : (p : Policy) (e : End) (theirs : List (List ℕ)) (call : Call) (a : Answer) → is_delivery call ≡ false → Keeps e.acknowledging.newest (after_call p e theirs call a)
+quiet_newest p e theirs call a apart = behind_call (Keeps e.acknowledging.newest) p e theirs call a (same_newest e.acknowledging.newest (cause_of call) (no_packet call apart)) refl
 
--- and a poll: where an acknowledgement becomes due it stays
+-- where an acknowledgement becomes due it stays
 pub lazied_newest : (leaving : Leaving) (e : End) → (lazied_as leaving e).acknowledging.newest ≡ e.acknowledging.newest
 lazied_newest whole e = refl
 lazied_newest other e = refl
-
-draft_newest : (o : Newest) (leaving : Leaving) (e : End) → MayLeave leaving e → Keeps o e → Keeps o (draft_as leaving e).end
-draft_newest o leaving e may same = by_leave (λ (d : Draft). Keeps o d.end) keep leaving e may (lazied_newest leaving e ∙ same)
-  where
-    keep : Writing (λ (d : Draft). Keeps o d.end)
-    keep puts.ping d may i = i
-    keep p d may i = i
-
-polled_newest : (p : Policy) (e : End) (now : ℕ) → Keeps e.acknowledging.newest (polled p e now).end
-polled_newest p e now = by_poll_to p e now (λ (q : Polled). Keeps e.acknowledging.newest q.end) (record {
-  silent = refl;
-  failed = refl;
-  nothing = λ is none. ready;
-  repeats = λ is. by_closes p (with_closing e (ticked e.closing now)) (λ (q : Polled). Keeps e.acknowledging.newest q.end) refl (λ f goes. refl);
-  closes = λ reason bound. by_closes p (closed_by reason (ready_at e now).end) (λ (q : Polled). Keeps e.acknowledging.newest q.end) ready (λ f goes. ready);
-  gives = λ is may some. by_going (Keeps e.acknowledging.newest) p (draft_at e now) (λ pacing. draft_newest e.acknowledging.newest (ready_at e now).leaving (ready_at e now).end (may_leave_at e now) ready);
-})
-  where
-    ready : Keeps e.acknowledging.newest (ready_at e now).end
-    ready = ap (λ (x : End). x.acknowledging.newest) (ready_leaves e now)
-
-quiet_newest : (p : Policy) (e : End) (theirs : List (List ℕ)) (call : Call) (a : Answer) → is_delivery call ≡ false → Keeps e.acknowledging.newest (after_call p e theirs call a)
-quiet_newest p e theirs call a apart = by_plain_call p e theirs (Keeps e.acknowledging.newest) call a keep
-  where
-    keep : Plain p e call (Keeps e.acknowledging.newest)
-    keep (cases.times now expiry) may = expired_newest p.words e now expiry
-    keep (cases.polls now) may = polled_newest p e now
-    keep (cases.hears arrival d) is = (let clash : true ≡ false = sym is ∙ apart in cc)
-    keep (cases.closes reason f now) may = refl
-    keep (cases.waits now b) may = by_waits (Keeps e.acknowledging.newest) b (with_closing e (ticked e.closing now)) refl refl
-    keep (cases.changes_id b) may = ap (λ (q : Pending). q.newest) (next_acks e b)
-    keep c may = refl
 
 -- ---- a delivery
 
 -- frames leave it
 frames_newest : (fs : List FrameValue) (e : End) → Keeps e.acknowledging.newest (passed fs e).end
-frames_newest fs e = frames_keep (Keeps e.acknowledging.newest) (frame_keeps (Keeps e.acknowledging.newest) (record {
-  ack = λ rises a x i. acked_keeps (Keeps e.acknowledging.newest) (settling e.acknowledging.newest) rises a (named a x) i;
-  on_streams = λ f x on i. frame_leaves (Keeps e.acknowledging.newest) f x on (λ t. i);
-  apart = λ f x is i. ap (λ (q : Pending). q.newest) (apart_acks f x is).others ∙ i;
-  message = λ m x i. i;
-})) fs e refl
+frames_newest fs e = frames_keep (Keeps e.acknowledging.newest) (λ f x i. behind_frame f (Keeps e.acknowledging.newest) (keep f) x i) fs e refl
+  where
+    keep : (f : FrameValue) (m : Move) (x : End) → OfFrame f m x → Keeps e.acknowledging.newest x → Keeps e.acknowledging.newest (after m x)
+    keep f (moves.taken n asking hurries mark) x of i = absurd of
+    keep f m x of i = i
 
 -- setting the timer changes neither
 wait_newest : (b : Bool) (p : Pending) (now : ℕ) → starts_wait p ≡ b → (with_wait p now).newest ≡ p.newest

@@ -1,24 +1,26 @@
 -- A stream of which nothing more is to be read stays so: each call that would read it is answered
--- that it is closed.
-use Rattle.std.proofs.Common.{◌≡◌, ℕ, Bool, true, false, ◌||◌, List, [], ◌∷◌, ◌++◌, Option, Some, None, Result, Ok, Err, refl, sym, ap, ◌∙◌, subst, ◌⊎◌, inl, inr}
+-- that it is closed, as on one on which its end only sends.
+use Rattle.std.proofs.Common.{◌≡◌, ℕ, Bool, true, false, not, ◌&&◌, ◌||◌, List, [], ◌∷◌, ◌++◌, Option, Some, None, Result, Ok, Err, refl, sym, ap, ◌∙◌, subst, inl, inr}
 use Rattle.std.specs.Prelude.{◌==◌, if◌then◌else◌}
 use Rattle.std.specs.Option.{is_some}
-use Rattle.std.proofs.lemmas.Bool.{or_cases, eqb-true, cond_both, both_ways}
-use Rattle.quic_wire_core.specs.StreamId.{other_side}
+use Rattle.std.proofs.lemmas.Bool.{or_cases, and_parts, eqb-true, cond_both, both_ways}
+use Rattle.quic_wire_core.specs.declared.stream_id.Side.{Side}
+use Rattle.quic_wire_core.specs.StreamId.{other_side, dir_of}
 use Rattle.quic_streams_parts.specs.declared.answers.ReadableError.{ReadableError}
 use Rattle.quic_streams_parts.specs.declared.answers.ReadableError.TheVariants as readable_errors
 use Rattle.quic_streams_parts.specs.declared.answers.UpdateError.TheVariants as update_errors
 use Rattle.quic_streams_parts.specs.declared.answers.ClosedStream.{ClosedStream}
+use Rattle.quic_streams_parts.specs.Dirs.{is_own, is_two_way}
 use Rattle.quic_streams_parts.specs.RecvHalf.{RecvHalf, new_recv_half, stopped_now, readable, is_illegal}
 use Rattle.quic_streams_halves.specs.Halves.{Status, unknown, fresh, live, done, half_of}
 use Rattle.quic_retransmits.specs.Retransmits.{Retransmits}
 use Rattle.quic_streams_state.specs.declared.state.StreamsState.{StreamsState}
-use Rattle.quic_streams_state.specs.State.{Streams, first_window, receiving_half, receiving_status, with_recv}
+use Rattle.quic_streams_state.specs.State.{Streams, first_window, is_opened, receives_on, receiving_half, receiving_status, with_recv}
 use Rattle.quic_streams_state.specs.Reading.{stopped_if, stopped_at, after_stop, is_closed, is_closed_at, reset_of}
 use Rattle.quic_streams_laws.specs.Content.{AllReceiving}
 use Rattle.quic_streams_laws.specs.KeepingLaws.{at-half}
 use Rattle.quic_streams_laws.specs.Shape.{IsShaped}
-use Rattle.quic_streams_laws.specs.ShapeLaws.{shape_any}
+use Rattle.quic_streams_laws.specs.ShapeLaws.{shape_any, receives_may}
 use Rattle.quic_streams_laws.specs.StatusLaws.{GoesOn, change_one}
 use Rattle.quic_machine.specs.declared.run.Call.{Call}
 use Rattle.quic_machine.specs.declared.run.Call.TheVariants as calls
@@ -26,23 +28,26 @@ use Rattle.quic_machine.specs.declared.run.Answer.{Answer}
 use Rattle.quic_machine.specs.declared.run.Answer.TheVariants as answers
 use Rattle.quic_machine.specs.declared.run.ReadCall.{ReadCall}
 use Rattle.quic_machine.specs.Policy.{Policy}
+use Rattle.quic_machine.specs.Lacking.{LacksWhere}
 use Rattle.quic_machine.specs.End.{End}
 use Rattle.quic_machine.specs.CallCases.{is_delivery}
 use Rattle.quic_machine.specs.Machine.{World, IsAnswer, after_call, reads_window, control_at, heard_at}
 use Rattle.quic_headline.specs.Runs.{Run, Told, Intake}
 use Rattle.quic_headline.specs.Headline.{IsHonest, IsRun}
 use Rattle.quic_headline.specs.Unread.{stopped_by, stopped}
-use Rattle.quic_headline.specs.Allowed.{IsReadOff, is_kept_from_reading, would_read, found_no_memory, ReadsAreOver}
+use Rattle.quic_headline.specs.Allowed.{IsReadOff, only_sends, is_kept_from_reading, would_read, ReadsAreOver}
 use Rattle.quic_headline.proofs.Packets.Group.{meets}
 use Rattle.quic_headline.proofs.Places.Parties.{told_of, Party, called}
 use Rattle.quic_headline.proofs.Places.Groups.{Way, Nothing, And, Calls, Group, both, beside}
 use Rattle.quic_headline.proofs.Places.Coming.{by_coming}
 use Rattle.quic_headline.proofs.Places.Placed.{party_at, Placed, placed, answered}
+use Rattle.quic_headline.proofs.Places.Lacking.{lacking_at}
 use Rattle.quic_headline.proofs.Places.Everything as everything
 use Rattle.quic_headline.proofs.Places.Theorems.{ready}
 use Rattle.quic_headline.proofs.Halves.Ready.{Ready}
 use Rattle.quic_headline.proofs.Halves.Ghosts.{IsWriting}
 use Rattle.quic_headline.proofs.Halves.Writer.{grows_behind}
+use Rattle.quic_headline.proofs.Amounts.Opens.{Opens, opens_group}
 use Rattle.quic_headline.proofs.Unread.OpeningLasts.{Lasts, lasts_call}
 use Rattle.quic_headline.proofs.Unread.OpeningStatus.{IsDoneStatus, ReceivesNoMore, lasts_each}
 use Rattle.quic_headline.proofs.Unread.OpeningRead.{ends_here, Heard, heard_group}
@@ -187,10 +192,10 @@ is_writing = record {
 }
 
 abbrev Known : Way
-Known = And All (And Heard Halted)
+Known = And All (And (And Heard Halted) Opens)
 
 known : Group Nothing Known
-known = both Nothing All (And Heard Halted) (everything.all Ready ready) (beside N Heard Halted (heard_group N is_writing) (halted_group N is_writing))
+known = both Nothing All (And (And Heard Halted) Opens) (everything.all Ready ready) (beside N (And Heard Halted) Opens (beside N Heard Halted (heard_group N is_writing) (halted_group N is_writing)) (opens_group N is_writing))
 
 -- nothing may be read of a stream of which nothing more is to be read
 pub off_closed : (x y : Party) (id : ℕ) → And Heard Halted x y → IsReadOff x.told id → is_closed x.end.streams id ≡ true
@@ -201,6 +206,19 @@ off_closed x y id k off = over_closed x.end.streams id (over off)
     over (inr (inl reset)) = no_more id x.end.streams (k.0.each id (inr (inl reset)))
     over (inr (inr (inl asked))) = no_more id x.end.streams (k.0.each id (inr (inr asked)))
     over (inr (inr (inr is))) = k.1.each id is
+
+-- nor of one on which its end only sends
+pub sends_closed : (s : StreamsState) (id : ℕ) → IsShaped s → only_sends s.side id ≡ true → is_closed s id ≡ true
+sends_closed s id shape only = go (receiving_half s id) refl
+  where
+    apart : (own two : Bool) → (own && not two) ≡ true → (not own || two) ≡ true → ⊥
+    apart true true sends receives = cc
+    apart true false sends receives = cc
+    apart false two sends receives = cc
+
+    go : (o : Option RecvHalf) → receiving_half s id ≡ o → is_closed_at o ≡ true
+    go None is = refl
+    go (Some h) is = absurd (apart (is_own s.side id) (is_two_way (dir_of id)) only (and_parts (receives_on s.side id) (is_opened s id) (receives_may s id h shape is)).0)
 
 -- ---- what is answered
 
@@ -220,11 +238,15 @@ closed_unset : (o : Option RecvHalf) → is_closed_at o ≡ true → ◌≡◌ {
 closed_unset None shut = refl
 closed_unset (Some h) shut = ap (λ (t : Bool). if t then Err (record {}) else Ok h.reset) shut
 
+-- the end that a call meets
+abbrev met : Side → World → End → Call → End
+met side w e call = reads_window (control_at side w) (heard_at side w) call e
+
 -- ---- the clause
 
 module _ (r : Run) (end : World) (honest : IsHonest r) (run : IsRun r end) where
   pub reads_are_over : ReadsAreOver r
-  reads_are_over side i id call a served event reads off = by_call call a reads (answered r p.world end i side call a p.goes_on event)
+  reads_are_over side i id call a served event reads over = by_call call a reads (answered r p.world end i side call a p.goes_on event) (lacking_at r p.world end i side call a p.goes_on event)
     where
       p : Placed Known r end side i
       p = placed Known known r end honest run side i served
@@ -239,21 +261,25 @@ module _ (r : Run) (end : World) (honest : IsHonest r) (run : IsRun r end) where
       s = x.end.streams
 
       shut : is_closed s id ≡ true
-      shut = off_closed x y id p.gives.1 off
+      shut = elim over [
+        | inl off ↦ off_closed x y id p.gives.1.0 off
+        | inr only ↦ sends_closed s id p.gives.0.0.1.0.writes.keeps.holds.shape (ap (λ (d : Side). only_sends d id) p.gives.1.1.side ∙ only)
+      ]
 
-      by_error : (rd : ReadCall) (error : ReadableError) → (rd.id == id) ≡ true → (error ≡ readable_errors.ClosedStream) ⊎ (error ≡ readable_errors.Memory) → (is_kept_from_reading id (calls.Read rd) (answers.Read (Err error)) ≡ true) ⊎ (found_no_memory (answers.Read (Err error)) ≡ true)
-      by_error rd error same (inl is) = inl (subst (λ (e : ReadableError). is_kept_from_reading id (calls.Read rd) (answers.Read (Err e)) ≡ true) (sym is) same)
-      by_error rd error same (inr is) = inr (subst (λ (e : ReadableError). found_no_memory (answers.Read (Err e)) ≡ true) (sym is) refl)
+      shut_at : (n : ℕ) → (n == id) ≡ true → is_closed s n ≡ true
+      shut_at n same = ap (is_closed s) (eqb-true n id same) ∙ shut
 
-      unreadable : (n : ℕ) (ordered : Bool) → (n == id) ≡ true → ◌≡◌ {A = Result (Unit {0}) ReadableError} (readable (receiving_half s n) ordered) (Err readable_errors.ClosedStream)
-      unreadable n ordered same = closed_unreadable (receiving_half s n) ordered (ap (is_closed s) (eqb-true n id same) ∙ shut)
+      unreadable : (rd : ReadCall) → (rd.id == id) ≡ true → ◌≡◌ {A = Result (Unit {0}) ReadableError} (readable (receiving_half s rd.id) rd.ordered) (Err readable_errors.ClosedStream)
+      unreadable rd same = closed_unreadable (receiving_half s rd.id) rd.ordered (shut_at rd.id same)
 
-      by_call : (call : Call) (a : Answer) → would_read id call ≡ true → IsAnswer x.policy (reads_window (control_at side p.world) (heard_at side p.world) call x.end) y.given call a → (is_kept_from_reading id call a ≡ true) ⊎ (found_no_memory a ≡ true)
-      by_call (calls.Read rd) (answers.Read (Ok said)) same is = absurd (ok_shut (readable (receiving_half s rd.id) rd.ordered) (unreadable rd.id rd.ordered same) is.0)
-      by_call (calls.Read rd) (answers.Read (Err error)) same (inl is) = by_error rd error same (inl (same_error error (sym is ∙ unreadable rd.id rd.ordered same)))
-      by_call (calls.Read rd) (answers.Read (Err error)) same (inr is) = by_error rd error same (inr is)
-      by_call (calls.Read rd) a same is = absurd is
-      by_call (calls.Stop q code) a same (inl is) = inl (subst (λ (b : Answer). is_kept_from_reading id (calls.Stop q code) b ≡ true) (sym (is ∙ ap (λ (b : Bool). answers.Stop (if b then Err update_errors.ClosedStream else Ok tt)) (ap (is_closed s) (eqb-true q id same) ∙ shut))) same)
-      by_call (calls.Stop q code) a same (inr is) = inr (subst (λ (b : Answer). found_no_memory b ≡ true) (sym is) refl)
-      by_call (calls.ReceivedReset q) a same is = inl (subst (λ (b : Answer). is_kept_from_reading id (calls.ReceivedReset q) b ≡ true) (sym (is ∙ ap (λ (b : Result (Option ℕ) ClosedStream). answers.ReceivedReset b) (closed_unset (receiving_half s q) (ap (is_closed s) (eqb-true q id same) ∙ shut)))) same)
-      by_call call a same is = cc
+      by_call : (call : Call) (a : Answer) → would_read id call ≡ true → IsAnswer x.policy (met side p.world x.end call) y.given call a → LacksWhere x.policy (met side p.world x.end call) y.given call a → is_kept_from_reading id call a ≡ true
+      by_call (calls.Read rd) (answers.Read (Ok said)) same is lacks = absurd (ok_shut (readable (receiving_half s rd.id) rd.ordered) (unreadable rd same) is.0)
+      by_call (calls.Read rd) (answers.Read (Err error)) same (inl is) lacks = subst (λ (e : ReadableError). is_kept_from_reading id (calls.Read rd) (answers.Read (Err e)) ≡ true) (sym (same_error error (sym is ∙ unreadable rd same))) same
+      by_call (calls.Read rd) (answers.Read (Err error)) same (inr is) lacks = absurd (ok_shut (readable (receiving_half s rd.id) rd.ordered) (unreadable rd same) (lacks is).0)
+      by_call (calls.Read rd) a same is lacks = absurd is
+      by_call (calls.Stop q code) a same (inl is) lacks = subst (λ (b : Answer). is_kept_from_reading id (calls.Stop q code) b ≡ true) (sym (is ∙ ap (λ (b : Bool). answers.Stop (if b then Err update_errors.ClosedStream else Ok tt)) (shut_at q same))) same
+      by_call (calls.Stop q code) a same (inr is) lacks =
+          let free : is_closed s q ≡ false = subst (λ (b : Answer). LacksWhere x.policy (met side p.world x.end (calls.Stop q code)) y.given (calls.Stop q code) b) is lacks refl in
+          absurd (both_ways (is_closed s q) free (shut_at q same))
+      by_call (calls.ReceivedReset q) a same is lacks = subst (λ (b : Answer). is_kept_from_reading id (calls.ReceivedReset q) b ≡ true) (sym (is ∙ ap (λ (b : Result (Option ℕ) ClosedStream). answers.ReceivedReset b) (closed_unset (receiving_half s q) (shut_at q same)))) same
+      by_call call a same is lacks = cc

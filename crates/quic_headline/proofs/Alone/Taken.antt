@@ -34,29 +34,26 @@ use Rattle.quic_machine.specs.Ids.{known}
 use Rattle.quic_machine.specs.Closing.{ticked}
 use Rattle.quic_machine.specs.Opens.{own_id_length, head, opens}
 use Rattle.quic_machine.specs.IdFrames.{end_on_next_id}
-use Rattle.quic_machine.specs.End.{End, with_closing, with_numbers, closed_by}
+use Rattle.quic_machine.specs.End.{End, with_closing, with_numbers}
 use Rattle.quic_machine.specs.Receive.{Fault, broke, too_many_pieces, closed_by_peer, reason_of, violation, is_empty, asks_in, is_urged, take_frame, unless_fault, take_items, take_payload, after_taken, drained_at, Outcome, dropped, ends_as, by_state, opened_to, opened_as, opening, unopened_in, headed, received_in, received, is_read, items_taken, drawn_if, with_ids_drawn}
 use Rattle.quic_machine.specs.FrameCases.{begun, items_keep}
-use Rattle.quic_machine.specs.Poll.{Polled, polled}
-use Rattle.quic_machine.specs.PollCases.{at_poll, by_poll, composes}
-use Rattle.quic_machine.specs.CallCases.{Plain, is_delivery, by_plain_call}
-use Rattle.quic_machine.specs.CallCases as cases
-use Rattle.quic_machine.specs.LeaveCases.{by_expired}
+use Rattle.quic_machine.specs.CallCases.{is_delivery}
 use Rattle.quic_machine.specs.Machine.{IsAnswer, IsDelivered, says_last, after_call, after_delivered, fails}
 use Rattle.quic_headline.specs.Runs.{Packet, IsTaken, packet_of, expected_behind, opens_by_key}
 use Rattle.quic_headline.specs.Headline.{CodeIsSmall}
 use Rattle.quic_headline.specs.LoneAcks.{and_packet, and_datagram, and_call}
 use Rattle.quic_headline.proofs.Packets.Invariant.{Acks}
 use Rattle.quic_headline.proofs.Packets.Acking.{packet_runs, acks_taken, runs_step, acks_step}
-use Rattle.quic_headline.proofs.Packets.Apart.{by_waits, by_next_id, next_acks}
+use Rattle.quic_headline.proofs.Packets.Apart.{by_next_id, next_acks}
 use Rattle.quic_headline.proofs.Packets.Moved.{by_migration}
-use Rattle.quic_headline.proofs.Packets.Closes.{by_closes}
 use Rattle.quic_headline.proofs.Packets.CloseForms.{OwesWell, SmallFault, error_well, frame_small, frame_owes, owed_call}
 use Rattle.quic_headline.proofs.Packets.Knowing.{expected_after}
-use Rattle.quic_headline.proofs.Packets.Probes.{may_leave}
-use Rattle.quic_headline.proofs.Packets.Stays.{Keeps, keeps_frames, settles_losses}
+use Rattle.quic_headline.proofs.Packets.Stays.{Keeps, keeps_frames}
 use Rattle.quic_headline.proofs.Alone.Taking.{Items, opened_by_key, opens_to}
 use Rattle.quic_headline.proofs.Packets.Moving.{moving_keeps}
+use Rattle.quic_headline.proofs.Packets.EndMoves.{Cause, cause_of, IsPacket}
+use Rattle.quic_headline.proofs.Packets.EndMoves as moves
+use Rattle.quic_headline.proofs.Packets.ByMoves.{no_packet, behind_call}
 
 -- ---- what is to be acknowledged
 
@@ -255,29 +252,13 @@ delivered_knows C packets p theirs e delivery (Some d) there a (inr is) served k
 -- ---- any call
 
 -- which number is expected no call changes but a delivery
+same_taken : (o : Option ℕ) (by : Cause) → (IsPacket by → ⊥) → moves.Keeps by (λ (x : End). x.numbers.taken ≡ o)
+same_taken o by apart (moves.taken n asking hurries mark) x may i = absurd (apart may)
+same_taken o by apart (moves.takes n) x may i = absurd (apart may)
+same_taken o by apart m x may i = i
+
 taken_stays : (p : Policy) (e : End) (theirs : List (List ℕ)) (call : Call) (a : Answer) → is_delivery call ≡ false → (after_call p e theirs call a).numbers.taken ≡ e.numbers.taken
-taken_stays p e theirs call a other = by_plain_call p e theirs Stays call a keep
-  where
-    Stays : End → Type 0
-    Stays x = x.numbers.taken ≡ e.numbers.taken
-
-    polls : (now : ℕ) → Stays (polled p e now).end
-    polls now = by_poll p e now (λ (q : Polled). Stays q.end) (record {
-      silent = refl;
-      failed = refl;
-      nothing = λ c. refl;
-      repeats = λ is. by_closes p (with_closing e (ticked e.closing now)) (λ (q : Polled). Stays q.end) refl (λ f goes. refl);
-      closes = λ reason c bound. by_closes p (closed_by reason (at_poll e now c)) (λ (q : Polled). Stays q.end) refl (λ f goes. refl);
-      gives = λ leaving c left is may ready some. ap (λ (n : Numbers). n.taken) (composes leaving (at_poll e now c) (may_leave e now leaving (at_poll e now c) ready)).numbers;
-    })
-
-    keep : Plain p e call Stays
-    keep (cases.times now expiry) may = by_expired p.words e now Stays (λ pending tracking timers waits asked runs packets. refl) (λ pending timers waits asked runs. ap (λ (n : Numbers). n.taken) (settles_losses (with_closing e (ticked e.closing now))).numbers) (λ x j. j) expiry
-    keep (cases.polls now) may = polls now
-    keep (cases.hears arrival d) is = cc
-    keep (cases.waits now b) may = by_waits Stays b (with_closing e (ticked e.closing now)) refl refl
-    keep (cases.changes_id b) may = by_next_id Stays e b refl (λ c. refl) (λ c most. refl)
-    keep c may = refl
+taken_stays p e theirs call a other = behind_call (λ (x : End). x.numbers.taken ≡ e.numbers.taken) p e theirs call a (same_taken e.numbers.taken (cause_of call) (no_packet call other)) refl
 
 pub call_knows : (C : Type 0) (packets : List Packet) (p : Policy) (theirs : List (List ℕ)) (e : End) (call : Call) (a : Answer) → IsAnswer p e theirs call a → fails a ≡ false → (C → CodeIsSmall call) → Knows C packets e → Knows C (and_call p theirs call a packets) (after_call p e theirs call a)
 call_knows C packets p theirs e (calls.Deliver delivery) a is served small knows = delivered_knows C packets p theirs e delivery (slice_get theirs delivery.index) refl a is served knows

@@ -1,9 +1,9 @@
 -- Where an end says that it is blocked, it says the limit that its peer told: at each place of an
 -- honest run.
-use Rattle.std.proofs.Common.{◌≡◌, ℕ, zero, suc, ◌≤◌, max, Bool, true, false, not, ◌&&◌, ◌==◌, List, [], ◌∷◌, ◌++◌, replicate, Option, Some, None, Ok, refl, sym, ap, ◌∙◌, subst, inl, inr, arith}
+use Rattle.std.proofs.Common.{◌≡◌, ℕ, zero, suc, ◌≤◌, max, Bool, true, false, not, ◌&&◌, ◌==◌, List, length, [], ◌∷◌, ◌++◌, replicate, Option, Some, None, Ok, refl, sym, ap, ◌∙◌, subst, inl, inr, arith}
 use Rattle.std.specs.Prelude.{if◌then◌else◌}
 use Rattle.std.specs.Option.{is_some}
-use Rattle.std.proofs.lemmas.Bool.{leb-true}
+use Rattle.std.proofs.lemmas.Bool.{leb-true, eqb-true, and_parts}
 use Rattle.quic_wire_core.specs.declared.stream_id.Side.{Side}
 use Rattle.quic_wire_core.specs.StreamId.{other_side}
 use Rattle.quic_wire.specs.Value.{FrameValue, data_blocked, stream_data_blocked, connection_close, application_close, padding}
@@ -18,6 +18,9 @@ use Rattle.quic_streams_state.specs.Control.{blocked_limit, blocked_entry, flagg
 use Rattle.quic_streams_laws.specs.KindLaws.{GoesFirst}
 use Rattle.quic_streams_laws.specs.KeepingLaws.{by_frame}
 use Rattle.quic_streams_laws.specs.QuietLaws.{by_told}
+use Rattle.quic_streams_laws.specs.Written.{Wrote, HoldsWritten}
+use Rattle.quic_streams_laws.specs.WrittenHalves.{all_written, polled_holds}
+use Rattle.quic_streams_laws.specs.WrittenLaws.{holds_kept, half_holds}
 use Rattle.quic_machine.specs.declared.run.Call.TheVariants as calls
 use Rattle.quic_machine.specs.declared.run.Answer.{Answer}
 use Rattle.quic_machine.specs.declared.run.Answer.TheVariants as answers
@@ -40,6 +43,7 @@ use Rattle.quic_headline.proofs.Places.Parties.{Party, came_to, lens, with_shown
 use Rattle.quic_headline.proofs.Places.Placed.{party_at}
 use Rattle.quic_headline.proofs.Places.Everything as everything
 use Rattle.quic_headline.proofs.Places.Theorems.{ready}
+use Rattle.quic_headline.proofs.Halves.Ghosts.{wrote}
 use Rattle.quic_headline.proofs.Halves.Ready.{Ready}
 use Rattle.quic_headline.proofs.Steps.Made.{MadeAt, made_at, PollHolds, poll_holds, polling}
 use Rattle.quic_headline.proofs.Steps.Probing.{IsGiving, closing_alone}
@@ -48,21 +52,30 @@ use Rattle.quic_headline.proofs.Amounts.Tally.{Tally, Tallies, tallies_kept, hal
 use Rattle.quic_headline.proofs.Amounts.Group.{tally_of}
 use Rattle.quic_headline.proofs.Amounts.Clause.{first_is, all_is, Whole, whole}
 
-module _ (t : Tally) where
+module _ (t : Tally) (done : ℕ → Wrote) where
   -- what a frame says of a limit is so
   abbrev SaysSo : FrameValue → Type 0
   SaysSo (data_blocked limit) = (limit ≡ t.all) × (limit ≤ t.accepted)
-  SaysSo (stream_data_blocked f) = f.limit ≡ t.limit f.id
+  SaysSo (stream_data_blocked f) = (f.limit ≡ t.limit f.id) × (f.limit ≤ length (done f.id).bytes)
   SaysSo f = Unit {0}
 
-  -- a half that is blocked has this limit
-  blocked_is : (s : StreamsState) (id limit : ℕ) → Tallies t s → (o : Option SendHalf) → sending_half s id ≡ o → blocked_limit o ≡ Some limit → limit ≡ t.limit id
+  -- streams have these limits, and hold what was written
+  record Holds (s : StreamsState) : Type 0 where
+    tallied : Tallies t s
+    written : HoldsWritten done s
+
+  -- a half that is blocked has this limit, and so many bytes were written on it
+  blocked_is : (s : StreamsState) (id limit : ℕ) → Holds s → (o : Option SendHalf) → sending_half s id ≡ o → blocked_limit o ≡ Some limit → (limit ≡ t.limit id) × (limit ≤ length (done id).bytes)
   blocked_is s id limit i None there is = cc
-  blocked_is s id limit i (Some h) there is = go (is_ready h && not (is_some h.stopped) && (written_on h == h.limit)) is
+  blocked_is s id limit i (Some h) there is = go (is_ready h && not (is_some h.stopped) && (written_on h == h.limit)) refl is
     where
-      go : (b : Bool) → (if b then Some h.limit else None) ≡ Some limit → limit ≡ t.limit id
-      go true same = (let equal : h.limit ≡ limit = cc in sym equal ∙ (half_tallied t s id h there i.halves).limit)
-      go false same = cc
+      go : (b : Bool) → (is_ready h && not (is_some h.stopped) && (written_on h == h.limit)) ≡ b → (if b then Some h.limit else None) ≡ Some limit → (limit ≡ t.limit id) × (limit ≤ length (done id).bytes)
+      go true holds same =
+          let equal : h.limit ≡ limit = cc in
+          let used = eqb-true (written_on h) h.limit (and_parts (is_ready h && not (is_some h.stopped)) _ holds).1 in
+          let all = all_written (done id) h (half_holds done s i.written id h there) in
+          (sym equal ∙ (half_tallied t s id h there i.tallied.halves).limit, omega (arith, equal, used, all))
+      go false holds same = cc
 
   -- all that may be written was, where DATA_BLOCKED goes
   used_up : (s : StreamsState) (limit : ℕ) (b : Bool) → frame_of_first (flagged b blocked_entry) s ≡ Some (data_blocked limit) → can_send_data_blocked s ≡ true
@@ -82,14 +95,14 @@ module _ (t : Tally) where
       (says ∙ all, omega (arith, used, says, accepted))
   all_used kind p s limit goes i = (let clash : Some DataBlocked ≡ Some kind = goes.of_kind in cc)
 
-  control_says : (kind : ControlKind) (p : Retransmits) (s : StreamsState) (f : FrameValue) → GoesFirst kind p s f → Tallies t s → SaysSo f
-  control_says kind p s (data_blocked limit) goes i = all_used kind p s limit goes i
+  control_says : (kind : ControlKind) (p : Retransmits) (s : StreamsState) (f : FrameValue) → GoesFirst kind p s f → Holds s → SaysSo f
+  control_says kind p s (data_blocked limit) goes i = all_used kind p s limit goes i.tallied
   control_says kind p s (stream_data_blocked f) goes i = blocked_is s f.id f.limit i (sending_half s f.id) refl goes.says
   control_says kind p s f goes i = tt
 
-  -- each frame of a draft says so, and its end is tallied
+  -- each frame of a draft says so, and so are the streams of its end
   record SayLimits (d : Draft) : Type 0 where
-    tallied : Tallies t d.end.streams
+    holds : Holds d.end.streams
     each : (f : FrameValue) → In f d.frames → SaysSo f
 
   one_more : (fs : List FrameValue) (g : FrameValue) → SaysSo g → ((f : FrameValue) → In f fs → SaysSo f) → (f : FrameValue) → In f (fs ++ g ∷ []) → SaysSo f
@@ -99,18 +112,27 @@ module _ (t : Tally) where
       last (inl is) = subst SaysSo (sym is) says
       last (inr none) = absurd none
 
-  draft_limits : (leaving : Leaving) (e : End) → MayLeave leaving e → Tallies t e.streams → SayLimits (draft_as leaving e)
-  draft_limits leaving e may i = by_leave SayLimits keep leaving e may (record { tallied = i; each = λ f none. absurd none })
+  draft_limits : (leaving : Leaving) (e : End) → MayLeave leaving e → Holds e.streams → SayLimits (draft_as leaving e)
+  draft_limits leaving e may i = by_leave SayLimits keep leaving e may (record { holds = i; each = λ f none. absurd none })
     where
       keep : Writing SayLimits
-      keep puts.ack d may j = record { tallied = j.tallied; each = one_more d.frames _ tt j.each }
-      keep (puts.drops kind) d may j = record { tallied = j.tallied; each = j.each }
-      keep (puts.control kind f) d is j = record { tallied = by_told (Tallies t) (tallies_kept t) f d.end.streams j.tallied; each = one_more d.frames f (control_says kind d.end.waiting.frames d.end.streams f is j.tallied) j.each }
+      keep puts.ack d may j = record { holds = j.holds; each = one_more d.frames _ tt j.each }
+      keep (puts.drops kind) d may j = record { holds = j.holds; each = j.each }
+      keep (puts.control kind f) d is j = record {
+        holds = record {
+          tallied = by_told (Tallies t) (tallies_kept t) f d.end.streams j.holds.tallied;
+          written = by_told (HoldsWritten done) (holds_kept done) f d.end.streams j.holds.written;
+        };
+        each = one_more d.frames f (control_says kind d.end.waiting.frames d.end.streams f is j.holds) j.each;
+      }
       keep (puts.stream id h room) d (found, first, some, is, counts) j = record {
-        tallied = by_frame (Tallies t) (tallies_kept t) d.end.transport.send_fairness d.end.streams id room h found (goes_on t id h _ refl refl refl refl refl) j.tallied;
+        holds = record {
+          tallied = by_frame (Tallies t) (tallies_kept t) d.end.transport.send_fairness d.end.streams id room h found (goes_on t id h _ refl refl refl refl refl) j.holds.tallied;
+          written = by_frame (HoldsWritten done) (holds_kept done) d.end.transport.send_fairness d.end.streams id room h found (λ x. polled_holds (done id) h x room) j.holds.written;
+        };
         each = one_more d.frames _ tt j.each;
       }
-      keep p d may j = record { tallied = j.tallied; each = one_more d.frames _ tt j.each }
+      keep p d may j = record { holds = j.holds; each = one_more d.frames _ tt j.each }
 
   padded_says : (fs : List FrameValue) (count : ℕ) → ((f : FrameValue) → In f fs → SaysSo f) → (f : FrameValue) → In f (fs ++ replicate count padding) → SaysSo f
   padded_says fs count all f i = elim (in_append f fs (replicate count padding) i) [ inl here ↦ all f here | inr behind ↦ zeros count behind ]
@@ -162,20 +184,23 @@ module _ (r : Run) (end : World) (honest : IsHonest r) (run : IsRun r end) (side
   abbrev t : Tally
   t = tally_of x.made.streams (came_to x y).took (until r side i)
 
+  abbrev done : ℕ → Wrote
+  done = wrote (until r side i)
+
   -- each frame says so
-  says : (f : FrameValue) → In f gave.sent.frames → SaysSo t f
+  says : (f : FrameValue) → In f gave.sent.frames → SaysSo t done f
   says f among = elim (probing.either (everything.Streams Ready ready) (everything.all Ready ready) r end honest run side i now gave w at.behind at.made) [
     | inl gives ↦ of_open gives
     | inr close ↦ of_close (closing_alone (policy_at side r.keys) e now gave.transmit gave.sent close)
   ]
     where
-      of_open : IsGiving (policy_at side r.keys) e now gave.transmit (polled (policy_at side r.keys) e now).end gave.sent → SaysSo t f
-      of_open gives = padded_says t (draft_at e now).frames (zeros_behind (draft_at e now))
-          (draft_limits t (ready_at e now).leaving (ready_at e now).end (may_leave_at e now) (subst (λ (s : StreamsState). Tallies t s) (sym (ap (λ (z : End). z.streams) (ready_leaves e now))) (h.gives.1.0.still gives.opened))).each
+      of_open : IsGiving (policy_at side r.keys) e now gave.transmit (polled (policy_at side r.keys) e now).end gave.sent → SaysSo t done f
+      of_open gives = padded_says t done (draft_at e now).frames (zeros_behind (draft_at e now))
+          (draft_limits t done (ready_at e now).leaving (ready_at e now).end (may_leave_at e now) (subst (λ (s : StreamsState). Holds t done s) (sym (ap (λ (z : End). z.streams) (ready_leaves e now))) (record { tallied = h.gives.1.0.still gives.opened; written = h.gives.0.0.0.1.0.writes.keeps.holds }))).each
           f (subst (λ (s : Sent). In f s.frames) gives.sent among)
 
-      of_close : IsCloseAlone gave.sent → SaysSo t f
-      of_close c = close_says t c.close c.zeros c.is f (subst (λ (fs : List FrameValue). In f fs) c.alone among)
+      of_close : IsCloseAlone gave.sent → SaysSo t done f
+      of_close c = close_says t done c.close c.zeros c.is f (subst (λ (fs : List FrameValue). In f fs) c.alone among)
 
   -- what came to it, by the lists
   packets_are : took r side i ≡ (came_to x y).took
@@ -195,5 +220,6 @@ blocked_say r end honest run = record {
       (said.0 ∙ all_limit r end so run side i now gave, said.1);
   of_stream = λ s side i now gave f among. (
       let so : IsHonest r = record { start = s; keys = honest.keys; ids = honest.ids } in
-      says r end so run side i now gave (stream_data_blocked f) among ∙ own_limit r end so run side i now gave f.id);
+      let said = says r end so run side i now gave (stream_data_blocked f) among in
+      (said.0 ∙ own_limit r end so run side i now gave f.id, said.1));
 }

@@ -187,10 +187,10 @@ counts_group B packets = record {
 
 -- ---- the clause
 
-abbrev All : Way
+abbrev pub All : Way
 All = And Whole CountsKnown
 
-all : Group Nothing All
+pub all : Group Nothing All
 all = both Nothing Whole CountsKnown whole (counts_group (And Nothing Whole) (λ x y h. h.1.0.0.0.0))
 
 -- how an end was made

@@ -1,15 +1,18 @@
--- No byte is written on a stream that the peer stopped: at each place of an honest run.
-use Rattle.std.proofs.Common.{◌≡◌, ℕ, Bool, true, false, List, [], length, take, Option, Some, None, Result, Ok, Err, inl, inr, refl, sym, ap, ◌∙◌, eqb-true}
+-- No byte is written on a stream that the peer stopped, and none is said to be that it didn't stop:
+-- at each place of an honest run.
+use Rattle.std.proofs.Common.{◌≡◌, ℕ, Bool, true, false, List, [], length, min, take, Option, Some, None, Result, Ok, Err, inl, inr, refl, sym, ap, ◌∙◌, eqb-true}
 use Rattle.std.specs.Prelude.{◌==◌, if◌then◌else◌}
 use Rattle.std.specs.Option.{is_some}
 use Rattle.quic_wire_core.specs.StreamId.{other_side}
 use Rattle.quic_send_buffer.specs.Source.{bytes_of}
 use Rattle.quic_streams_parts.specs.declared.answers.WriteError.{WriteError}
 use Rattle.quic_streams_parts.specs.declared.answers.WriteError.TheVariants as write_errors
-use Rattle.quic_streams_parts.specs.SendHalf.{SendHalf, is_ready, taken_unless, written_to}
+use Rattle.quic_streams_parts.specs.declared.answers.FinishError.{FinishError}
+use Rattle.quic_streams_parts.specs.declared.answers.FinishError.TheVariants as finish_errors
+use Rattle.quic_streams_parts.specs.SendHalf.{SendHalf, room_on, is_ready, taken_unless, written_to, finish_unless, finish_of}
 use Rattle.quic_streams_state.specs.declared.state.StreamsState.{StreamsState}
 use Rattle.quic_streams_state.specs.State.{sending_half, room}
-use Rattle.quic_streams_state.specs.Writing.{write_answer, chunks_of}
+use Rattle.quic_streams_state.specs.Writing.{write_answer, chunks_of, finish_answer}
 use Rattle.quic_machine.specs.declared.answers.State.{State}
 use Rattle.quic_machine.specs.declared.answers.State.TheVariants as states
 use Rattle.quic_machine.specs.declared.run.Call.{Call}
@@ -21,7 +24,7 @@ use Rattle.quic_machine.specs.Machine.{World, IsAnswer, reads_window, control_at
 use Rattle.quic_headline.specs.Runs.{Run, Intake, until, written_by, joined}
 use Rattle.quic_headline.specs.Headline.{IsHonest, IsRun}
 use Rattle.quic_headline.specs.Amounts.{was_stopped}
-use Rattle.quic_headline.specs.Stopped.{StoppedTakeNothing}
+use Rattle.quic_headline.specs.Stopped.{StoppedTakeNothing, is_told_stopped, StoppedOnlyWhereAsked}
 use Rattle.quic_headline.proofs.Places.Openings.{took_is}
 use Rattle.quic_headline.proofs.Places.Parties.{Party, came_to}
 use Rattle.quic_headline.proofs.Places.Placed.{Placed, placed, party_at, answered}
@@ -93,3 +96,102 @@ stopped_take_nothing r end honest run side i id call a served at stopped = by_ca
     by_call (calls.WriteChunks q chunks) a (inl is) = ap (written_by id (calls.WriteChunks q chunks)) is ∙ none_in_chunks id q chunks (write_answer (is_open x.end.closing.state) s q (bytes_of chunks.items)) (never_on q (bytes_of chunks.items))
     by_call (calls.WriteChunks q chunks) a (inr is) = ap (written_by id (calls.WriteChunks q chunks)) is
     by_call call a is = refl
+
+-- ---- what is said to be stopped
+
+-- a half that the peer stopped
+record IsHalted (o : Option SendHalf) : Type 0 where
+  half : SendHalf
+  there : o ≡ Some half
+  stopped : is_some half.stopped ≡ true
+
+finish_halted : (o : Option SendHalf) (code : ℕ) → finish_of o ≡ Err (finish_errors.Stopped code) → IsHalted o
+finish_halted None code is = cc
+finish_halted (Some h) code is = record { half = h; there = refl; stopped = by_stop h.stopped is }
+  where
+    by_ready : (u : Bool) → ◌≡◌ {A = Result (Unit {0}) FinishError} (if u then Ok tt else Err finish_errors.ClosedStream) (Err (finish_errors.Stopped code)) → ⊥
+    by_ready true e = cc
+    by_ready false e = cc
+
+    by_stop : (p : Option ℕ) → finish_unless p h ≡ Err (finish_errors.Stopped code) → is_some p ≡ true
+    by_stop None e = absurd (by_ready (is_ready h) e)
+    by_stop (Some c) e = refl
+
+write_halted : (o : Option SendHalf) (left len code : ℕ) → written_to o left len ≡ Err (write_errors.Stopped code) → IsHalted o
+write_halted None left len code is = cc
+write_halted (Some h) left len code is = record { half = h; there = refl; stopped = by_room (left == 0) (is_ready h) is }
+  where
+    takes : (b : Bool) (n : ℕ) → ◌≡◌ {A = Result ℕ WriteError} (if b then Err write_errors.Blocked else Ok n) (Err (write_errors.Stopped code)) → ⊥
+    takes true n e = cc
+    takes false n e = cc
+
+    by_stop : (p : Option ℕ) → taken_unless p h left len ≡ Err (write_errors.Stopped code) → is_some p ≡ true
+    by_stop None e = absurd (takes (room_on h == 0) (min len (min left (room_on h))) e)
+    by_stop (Some c) e = refl
+
+    by_room : (b u : Bool) → ◌≡◌ {A = Result ℕ WriteError} (if b then Err write_errors.Blocked else (if u then taken_unless h.stopped h left len else Err write_errors.ClosedStream)) (Err (write_errors.Stopped code)) → is_some h.stopped ≡ true
+    by_room true u e = cc
+    by_room false true e = by_stop h.stopped e
+    by_room false false e = cc
+
+-- so is that on which a call is said to be stopped
+told_by_write : (id q : ℕ) (bytes : List ℕ) (o : Result ℕ WriteError) → is_told_stopped id (calls.Write q bytes) (answers.Write o) ≡ true → (q ≡ id) × (code : ℕ) × (o ≡ Err (write_errors.Stopped code))
+told_by_write id q bytes (Ok n) told = cc
+told_by_write id q bytes (Err write_errors.Blocked) told = cc
+told_by_write id q bytes (Err (write_errors.Stopped code)) told = (eqb-true q id told, code, refl)
+told_by_write id q bytes (Err write_errors.ClosedStream) told = cc
+told_by_write id q bytes (Err write_errors.Memory) told = cc
+
+told_by_chunks : (id q : ℕ) (chunks : _) (o : Result ℕ WriteError) → is_told_stopped id (calls.WriteChunks q chunks) (answers.WriteChunks (chunks_of o chunks.items)) ≡ true → (q ≡ id) × (code : ℕ) × (o ≡ Err (write_errors.Stopped code))
+told_by_chunks id q chunks (Ok n) told = cc
+told_by_chunks id q chunks (Err write_errors.Blocked) told = cc
+told_by_chunks id q chunks (Err (write_errors.Stopped code)) told = (eqb-true q id told, code, refl)
+told_by_chunks id q chunks (Err write_errors.ClosedStream) told = cc
+told_by_chunks id q chunks (Err write_errors.Memory) told = cc
+
+told_by_finish : (id q : ℕ) (o : Result (Unit {0}) FinishError) → is_told_stopped id (calls.Finish q) (answers.Finish o) ≡ true → (q ≡ id) × (code : ℕ) × (o ≡ Err (finish_errors.Stopped code))
+told_by_finish id q (Ok x) told = cc
+told_by_finish id q (Err (finish_errors.Stopped code)) told = (eqb-true q id told, code, refl)
+told_by_finish id q (Err finish_errors.ClosedStream) told = cc
+told_by_finish id q (Err finish_errors.Memory) told = cc
+
+pub stopped_only_where_asked : (r : Run) (end : World) → IsHonest r → IsRun r end → StoppedOnlyWhereAsked r
+stopped_only_where_asked r end honest run side i id call a served opened at told =
+    let half = halted call a told (answered r p.world end i side call a p.goes_on at) in
+    ap (λ (k : Intake). was_stopped id k.took) (took_is r honest p.world i side p.sents p.theirs)
+    ∙ sym (half_tallied (tally_of x.made.streams (came_to x y).took (until r side i)) s id half.half half.there (p.gives.1.0.still is_open_now).halves).stopped
+    ∙ half.stopped
+  where
+    p : Placed Whole r end side i
+    p = placed Whole whole r end honest run side i served
+
+    x : Party
+    x = party_at r i p.world side p.sents
+
+    y : Party
+    y = party_at r i p.world (other_side side) p.theirs
+
+    s : StreamsState
+    s = x.end.streams
+
+    is_open_now : x.end.closing.state ≡ states.Open
+    is_open_now = p.state ∙ opened
+
+    by_write : (len code : ℕ) → write_answer (is_open x.end.closing.state) s id len ≡ Err (write_errors.Stopped code) → IsHalted (sending_half s id)
+    by_write len code is = write_halted (sending_half s id) (room s.sending) len code (ap (λ (t : State). write_answer (is_open t) s id len) (sym is_open_now) ∙ is)
+
+    halted : (call : Call) (a : Answer) → is_told_stopped id call a ≡ true → IsAnswer x.policy (reads_window (control_at side p.world) (heard_at side p.world) call x.end) y.given call a → IsHalted (sending_half s id)
+    halted (calls.Write q bytes) a so (inl is) =
+        let by = told_by_write id q bytes (write_answer (is_open x.end.closing.state) s q (length bytes)) (sym (ap (is_told_stopped id (calls.Write q bytes)) is) ∙ so) in
+        by_write (length bytes) by.1 (ap (λ (n : ℕ). write_answer (is_open x.end.closing.state) s n (length bytes)) (sym by.0) ∙ by.2)
+    halted (calls.Write q bytes) a so (inr is) = (let clash : false ≡ true = sym (ap (is_told_stopped id (calls.Write q bytes)) is) ∙ so in cc)
+    halted (calls.WriteChunks q chunks) a so (inl is) =
+        let len : ℕ = bytes_of chunks.items in
+        let by = told_by_chunks id q chunks (write_answer (is_open x.end.closing.state) s q len) (sym (ap (is_told_stopped id (calls.WriteChunks q chunks)) is) ∙ so) in
+        by_write len by.1 (ap (λ (n : ℕ). write_answer (is_open x.end.closing.state) s n len) (sym by.0) ∙ by.2)
+    halted (calls.WriteChunks q chunks) a so (inr is) = (let clash : false ≡ true = sym (ap (is_told_stopped id (calls.WriteChunks q chunks)) is) ∙ so in cc)
+    halted (calls.Finish q) a so (inl is) =
+        let by = told_by_finish id q (finish_answer s q) (sym (ap (is_told_stopped id (calls.Finish q)) is) ∙ so) in
+        finish_halted (sending_half s id) by.1 (ap (λ (n : ℕ). finish_answer s n) (sym by.0) ∙ by.2)
+    halted (calls.Finish q) a so (inr is) = (let clash : false ≡ true = sym (ap (is_told_stopped id (calls.Finish q)) is) ∙ so in cc)
+    halted call a so is = cc

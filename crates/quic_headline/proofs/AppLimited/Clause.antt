@@ -22,16 +22,10 @@ use Rattle.quic_machine.specs.Closing.{ticked}
 use Rattle.quic_machine.specs.Parts.{current_mtu}
 use Rattle.quic_machine.specs.End.{End, with_closing, closed_by}
 use Rattle.quic_machine.specs.Control.{bytes_in_flight, is_window_full}
-use Rattle.quic_machine.specs.Timeouts.{loss_judged}
 use Rattle.quic_machine.specs.Poll.{Polled, asks_to_go, is_held, rests, polled}
-use Rattle.quic_machine.specs.FrameCases.{Settling, Receives, named, acked_keeps, losses_keep, frame_keeps, frame_leaves, by_received, apart_leaves}
-use Rattle.quic_machine.specs.Steps as steps
 use Rattle.quic_machine.specs.PollCases.{ready_at, draft_at, by_poll_to}
-use Rattle.quic_machine.specs.CallCases.{Plain, is_poll, by_plain_call}
-use Rattle.quic_machine.specs.CallCases as cases
+use Rattle.quic_machine.specs.CallCases.{is_poll}
 use Rattle.quic_machine.specs.Machine.{World, after_call, end_at, given_by, policy_at}
-use Rattle.quic_machine.specs.LeaveCases.{by_timers, Expired}
-use Rattle.quic_machine.specs.LeaveCases as expiring
 use Rattle.quic_headline.proofs.Packets.Closes.{by_closes}
 use Rattle.quic_headline.specs.Runs.{Run, In, same_side, state_in, LeadsTo, AreServed}
 use Rattle.quic_headline.specs.Headline.{IsHonest, IsRun, IsAt}
@@ -39,8 +33,6 @@ use Rattle.quic_headline.specs.Polls.{window_in, mtu_in, pacing_timer, bytes_fly
 use Rattle.quic_headline.proofs.Packets.Quiet.{HaveHeardNothing}
 use Rattle.quic_headline.specs.AppLimited.{WasPolled, HasToGo, MayCount}
 use Rattle.quic_headline.specs.Telling.{ControllersAreTold}
-use Rattle.quic_headline.proofs.Packets.Apart.{by_waits, by_next_id}
-use Rattle.quic_headline.proofs.Packets.Moved.{by_migrated}
 use Rattle.quic_headline.proofs.Packets.Group.{has_room}
 use Rattle.quic_headline.proofs.Packets.Probes.{by_going}
 use Rattle.quic_headline.proofs.Packets.Sight.{Sight}
@@ -67,7 +59,9 @@ use Rattle.quic_headline.proofs.Timers.Still.{was_open}
 use Rattle.quic_headline.proofs.Timers.Watched.{Observed, timers_behind}
 use Rattle.quic_headline.proofs.Marking.Clause.{marked_at}
 use Rattle.quic_headline.proofs.AppLimited.Rests.{IsResting, paced, full, idle, resting, blocked_rests}
-use Rattle.quic_headline.proofs.Packets.Heard.{by_taken}
+use Rattle.quic_headline.proofs.Packets.EndMoves.{Cause, cause_of, IsPoll}
+use Rattle.quic_headline.proofs.Packets.EndMoves as moves
+use Rattle.quic_headline.proofs.Packets.ByMoves.{no_poll, behind_call}
 
 -- ---- any call but a poll
 
@@ -75,48 +69,13 @@ use Rattle.quic_headline.proofs.Packets.Heard.{by_taken}
 abbrev SameCount : End → End → Type 0
 SameCount e f = f.path.app_limited ≡ e.path.app_limited
 
-settling : (e : End) → Settling (SameCount e)
-settling e (steps.known n) x i = i
-settling e s x i = i
-
-receives_same : (e : End) → Receives (SameCount e)
-receives_same e = record {
-  notes = λ n x i. i;
-  begins = λ now n x i. i;
-  frame = frame_keeps (SameCount e) (record {
-    ack = λ rises a x i. acked_keeps (SameCount e) (settling e) rises a (named a x) i;
-    on_streams = λ f x on i. frame_leaves (SameCount e) f x on (λ t. i);
-    apart = λ f x is i. apart_leaves (SameCount e) f x is (λ c. i) (λ c most. i);
-    message = λ m x i. i;
-  });
-  takes = λ n asks urged mark x i. by_taken (SameCount e) n asks urged mark x (λ idle alive. i);
-  closes = λ reason x i. i;
-  drains = λ close x i. i;
-  asks_close = λ x i. i;
-  exhausts = λ now x i. i;
-  draws = λ words x i. i;
-  moves = λ p o remote x i. by_migrated (SameCount e) p o remote x (λ c. i) (λ c most. i);
-}
-
-judged_same : (e : End) (moment : Option ℕ) (x : End) → SameCount e x → SameCount e (loss_judged moment x)
-judged_same e None x i = i
-judged_same e (Some moment) x i = losses_keep (SameCount e) (settling e) x i
+same_count : (e : End) (by : Cause) → (IsPoll by → ⊥) → moves.Keeps by (SameCount e)
+same_count e by other (moves.limits limited) x may i = absurd (other may)
+same_count e by other (moves.went g) x may i = absurd (other may)
+same_count e by other m x may i = i
 
 count_stays : (p : Policy) (e : End) (theirs : List (List ℕ)) (call : Call) (a : Answer) → is_poll call ≡ false → SameCount e (after_call p e theirs call a)
-count_stays p e theirs call a other = by_plain_call p e theirs (SameCount e) call a keep
-  where
-    each : (s : Expired) (x : End) → SameCount e x → SameCount e (expiring.after s x)
-    each expiring.of_acks x i = i
-    each s x i = i
-
-    keep : Plain p e call (SameCount e)
-    keep (cases.times now expiry) may = by_timers p.words (SameCount e) (SameCount e) (λ o x i. judged_same e o x i) each (λ x i. i) (λ x i. i) expiry (with_closing e (ticked e.closing now)) refl
-    keep (cases.polls now) is = cc
-    keep (cases.hears arrival d) may = by_received (SameCount e) (receives_same e) p e arrival d refl
-    keep (cases.closes reason f now) may = refl
-    keep (cases.waits now b) may = by_waits (SameCount e) b (with_closing e (ticked e.closing now)) refl refl
-    keep (cases.changes_id a) may = by_next_id (SameCount e) e a refl (λ c. refl) (λ c most. refl)
-    keep c may = refl
+count_stays p e theirs call a other = behind_call (SameCount e) p e theirs call a (same_count e (cause_of call) (no_poll call other)) refl
 
 -- ---- a poll
 

@@ -1,6 +1,6 @@
 -- A key seals no more packets than it may, and keeps eight of these for closes: a group over the
 -- packets, and the clause.
-use Rattle.std.proofs.Common.{◌≡◌, ℕ, zero, suc, ◌+◌, ◌<◌, ◌≤◌, Bool, true, false, ◌||◌, List, [], ◌∷◌, ◌++◌, length, replicate, slice_get, Option, Some, None, refl, sym, ap, ◌∙◌, subst, arith}
+use Rattle.std.proofs.Common.{◌≡◌, ℕ, zero, suc, ◌+◌, ◌<◌, ◌≤◌, Bool, true, false, ◌||◌, List, [], ◌∷◌, ◌++◌, length, replicate, slice_get, Some, refl, sym, ap, ◌∙◌, subst, arith}
 use Rattle.std.specs.List.{list_any}
 use Rattle.std.proofs.lemmas.Bool.{ltb-true}
 use Rattle.std.proofs.lemmas.List.{length-append}
@@ -16,25 +16,16 @@ use Rattle.quic_machine.specs.Closing.{ticked}
 use Rattle.quic_machine.specs.End.{End, with_closing, closed_by}
 use Rattle.quic_machine.specs.Poll.{Polled, Draft, zeros_behind, draft_as, polled}
 use Rattle.quic_machine.specs.Poll as poll
-use Rattle.quic_machine.specs.Timeouts.{loss_judged}
-use Rattle.quic_machine.specs.FrameCases.{Settling, Receives, named, acked_keeps, losses_keep, frame_keeps, frame_leaves, by_received, apart_leaves}
-use Rattle.quic_machine.specs.Steps as steps
-use Rattle.quic_machine.specs.LeaveCases.{Expired, by_timers}
-use Rattle.quic_machine.specs.LeaveCases as expiring
-use Rattle.quic_machine.specs.CallCases.{Plain, is_poll, by_plain_call}
-use Rattle.quic_machine.specs.CallCases as cases
+use Rattle.quic_machine.specs.CallCases.{is_poll}
 use Rattle.quic_machine.specs.PollCases.{ready_at, ready_leaves, draft_at, composes, bounds_none, may_leave_at}
 use Rattle.quic_machine.specs.Machine.{World, IsAnswer, after_call, fails, gave, policy_at}
 use Rattle.quic_headline.specs.Runs.{Run, AreServed, given_until}
 use Rattle.quic_headline.specs.Observer.{Sent, is_close, closes_of, sents_until}
 use Rattle.quic_headline.specs.Headline.{IsHonest}
 use Rattle.quic_headline.specs.Causes.{seals_kept, KeysLast}
-use Rattle.quic_headline.proofs.Packets.Apart.{by_waits, by_next_id}
 use Rattle.quic_headline.proofs.Packets.CloseForms.{close_sealed}
 use Rattle.quic_headline.proofs.Packets.Group.{PacketsHold}
 use Rattle.quic_headline.proofs.Packets.Growth.{step_length}
-use Rattle.quic_headline.proofs.Packets.Heard.{by_taken}
-use Rattle.quic_headline.proofs.Packets.Moved.{by_migrated}
 use Rattle.quic_headline.proofs.Packets.Owing.{Owes, close_is, error_owes}
 use Rattle.quic_headline.proofs.Packets.Invariant.{IsSent}
 use Rattle.quic_headline.proofs.Packets.Probes.{by_going}
@@ -48,54 +39,22 @@ use Rattle.quic_headline.proofs.Places.Openings.{given_here}
 use Rattle.quic_headline.proofs.Places.Flights.{own_at}
 use Rattle.quic_headline.proofs.Places.Steps.{poll_answer}
 use Rattle.quic_headline.proofs.Timers.Watched.{Observed}
+use Rattle.quic_headline.proofs.Packets.EndMoves.{Cause, cause_of, IsPoll, Keeps}
+use Rattle.quic_headline.proofs.Packets.EndMoves as moves
+use Rattle.quic_headline.proofs.Packets.ByMoves.{no_poll, behind_call}
 
 -- ---- how many packets were sealed
 
 abbrev pub SameSeals : End → End → Type 0
 SameSeals e f = f.numbers.sealed ≡ e.numbers.sealed
 
-settling : (e : End) → Settling (SameSeals e)
-settling e (steps.known n) x i = i
-settling e s x i = i
-
-receives_same : (e : End) → Receives (SameSeals e)
-receives_same e = record {
-  notes = λ n x i. i;
-  begins = λ now n x i. i;
-  frame = frame_keeps (SameSeals e) (record {
-    ack = λ rises a x i. acked_keeps (SameSeals e) (settling e) rises a (named a x) i;
-    on_streams = λ f x on i. frame_leaves (SameSeals e) f x on (λ t. i);
-    apart = λ f x is i. apart_leaves (SameSeals e) f x is (λ c. i) (λ c most. i);
-    message = λ m x i. i;
-  });
-  takes = λ n asks urged mark x i. by_taken (SameSeals e) n asks urged mark x (λ idle alive. i);
-  closes = λ reason x i. i;
-  drains = λ close x i. i;
-  asks_close = λ x i. i;
-  exhausts = λ now x i. i;
-  draws = λ words x i. i;
-  moves = λ p o remote x i. by_migrated (SameSeals e) p o remote x (λ c. i) (λ c most. i);
-}
-
-judged_same : (e : End) (o : Option ℕ) (x : End) → SameSeals e x → SameSeals e (loss_judged o x)
-judged_same e None x i = i
-judged_same e (Some moment) x i = losses_keep (SameSeals e) (settling e) x i
-
 -- only a poll seals
-pub seals_stay : (p : Policy) (e : End) (theirs : List (List ℕ)) (call : Call) (a : Answer) → is_poll call ≡ false → SameSeals e (after_call p e theirs call a)
-seals_stay p e theirs call a other = by_plain_call p e theirs (SameSeals e) call a keep
-  where
-    each : (s : Expired) (x : End) → SameSeals e x → SameSeals e (expiring.after s x)
-    each expiring.of_acks x i = i
-    each s x i = i
+same_seals : (e : End) (by : Cause) → (IsPoll by → ⊥) → Keeps by (SameSeals e)
+same_seals e by other (moves.numbered word) x may i = absurd (other may)
+same_seals e by other m x may i = i
 
-    keep : Plain p e call (SameSeals e)
-    keep (cases.times now expiry) may = by_timers p.words (SameSeals e) (SameSeals e) (judged_same e) each (λ x i. i) (λ x i. i) expiry (with_closing e (ticked e.closing now)) refl
-    keep (cases.polls now) is = let clash : ◌≡◌ {A = Bool} true false = sym is ∙ other in cc
-    keep (cases.hears arrival d) may = by_received (SameSeals e) (receives_same e) p e arrival d refl
-    keep (cases.waits now b) may = by_waits (SameSeals e) b (with_closing e (ticked e.closing now)) refl refl
-    keep (cases.changes_id b) may = by_next_id (SameSeals e) e b refl (λ c. refl) (λ c most. refl)
-    keep c may = refl
+pub seals_stay : (p : Policy) (e : End) (theirs : List (List ℕ)) (call : Call) (a : Answer) → is_poll call ≡ false → SameSeals e (after_call p e theirs call a)
+seals_stay p e theirs call a other = behind_call (SameSeals e) p e theirs call a (same_seals e (cause_of call) (no_poll call other)) refl
 
 -- ---- what a key sealed
 

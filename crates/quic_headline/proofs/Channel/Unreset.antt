@@ -1,5 +1,5 @@
 -- Behind a reset no STREAM frame of its stream goes, at each place of an honest run.
-use Rattle.std.proofs.Common.{◌≡◌, ℕ, zero, suc, true, List, [], ◌∷◌, replicate, None, Some, Ok, sym, ap, ◌∙◌, subst, inl, inr}
+use Rattle.std.proofs.Common.{◌≡◌, ℕ, true, List, ◌∷◌, replicate, None, Some, Ok, subst, inl, inr}
 use Rattle.quic_wire_core.specs.declared.stream_id.Side.{Side}
 use Rattle.quic_wire_core.specs.StreamId.{other_side}
 use Rattle.quic_wire.specs.Value.{FrameValue, StreamValue, stream, padding, connection_close, application_close}
@@ -7,7 +7,7 @@ use Rattle.quic_machine.specs.declared.run.Call.TheVariants as calls
 use Rattle.quic_machine.specs.declared.run.Answer.{Answer}
 use Rattle.quic_machine.specs.declared.run.Answer.TheVariants as answers
 use Rattle.quic_machine.specs.Tracking.{TrackedPacket}
-use Rattle.quic_machine.specs.Machine.{World, policy_at, given_by}
+use Rattle.quic_machine.specs.Machine.{World, given_by}
 use Rattle.quic_headline.specs.Runs.{Run, In, until, reset}
 use Rattle.quic_headline.specs.Observer.{Sent, is_close}
 use Rattle.quic_headline.specs.Headline.{IsHonest, IsRun}

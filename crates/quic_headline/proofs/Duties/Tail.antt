@@ -1,35 +1,25 @@
 -- What was sent since the last datagram that asks asks for nothing: a packet that is forgotten
 -- carried nothing that has to reach the peer.
-use Rattle.std.proofs.Common.{◌≡◌, ℕ, ◌<◌, replicate, Bool, true, false, List, [], ◌∷◌, ◌++◌, Option, Some, None, refl, sym, ap, ◌∙◌, subst, inl, inr, arith, length}
+use Rattle.std.proofs.Common.{◌≡◌, ℕ, ◌<◌, replicate, Bool, true, false, List, [], ◌∷◌, ◌++◌, Option, refl, sym, ap, ◌∙◌, subst, inl, inr, arith}
 use Rattle.std.proofs.lemmas.Bool.{le-ltb}
 use Rattle.std.specs.List.{list_any}
-use Rattle.quic_wire.specs.Value.{FrameValue, AckValue, asks, padding}
+use Rattle.quic_wire.specs.Value.{FrameValue, asks, padding}
 use Rattle.quic_machine.specs.DraftLaws.{IsClose}
-use Rattle.quic_streams_parts.specs.Table.{Table}
-use Rattle.quic_machine.specs.Arrival.{Arrival}
 use Rattle.quic_machine.specs.declared.run.Call.{Call}
 use Rattle.quic_machine.specs.declared.run.Call.TheVariants as calls
 use Rattle.quic_machine.specs.declared.run.Answer.{Answer}
 use Rattle.quic_machine.specs.declared.run.Answer.TheVariants as answers
 use Rattle.quic_machine.specs.Policy.{Policy}
 use Rattle.quic_machine.specs.Closing.{ticked}
-use Rattle.quic_machine.specs.Tracking.{Tracking, TrackedPacket, is_behind, asking_sent, acked_by}
+use Rattle.quic_machine.specs.Tracking.{Tracking, TrackedPacket, is_behind, asking_sent}
 use Rattle.quic_machine.specs.End.{End, with_closing, closed_by, number_of}
-use Rattle.quic_machine.specs.Acked.{sampled, measured, without_acked, after_named, losses_taken}
-use Rattle.quic_machine.specs.Receive.{received}
 use Rattle.quic_machine.specs.Poll.{Polled, Draft, asking, polled, goes, tracked, Ready}
 use Rattle.quic_machine.specs.PollCases.{ready_at, ready_leaves, draft_at, composes, may_leave_at}
-use Rattle.quic_machine.specs.Timeouts.{Expiry, loss_judged}
-use Rattle.quic_machine.specs.LeaveCases.{at_expiry, Expired, by_timers}
-use Rattle.quic_machine.specs.FrameCases.{named, frame_keeps, frame_leaves, by_received, by_marks, apart_leaves}
-use Rattle.quic_machine.specs.CallCases.{Plain, is_poll, by_plain_call}
-use Rattle.quic_machine.specs.CallCases as cases
+use Rattle.quic_machine.specs.CallCases.{is_poll}
 use Rattle.quic_machine.specs.Machine.{IsAnswer, after_call, fails, gave}
 use Rattle.quic_headline.specs.Runs.{In}
 use Rattle.quic_headline.specs.Observer.{Sent, asks_of}
-use Rattle.quic_headline.proofs.Packets.Searches.{by_losses}
 use Rattle.quic_headline.proofs.Packets.Invariant.{IsCarriedFrom, AreTracked}
-use Rattle.quic_headline.proofs.Packets.Named.{sampled_tracking}
 use Rattle.quic_headline.proofs.Packets.Probes.{by_ready, by_going}
 use Rattle.quic_headline.proofs.Packets.Given.{allocated_near, draft_number}
 use Rattle.quic_headline.proofs.Packets.Flying.{asking_padded}
@@ -37,12 +27,12 @@ use Rattle.quic_headline.proofs.Places.Told.{in_append}
 use Rattle.quic_headline.proofs.Places.Parties.{sent_by, sent_if, sents_by, sent_as}
 use Rattle.quic_headline.proofs.Places.Steps.{poll_answer}
 use Rattle.quic_headline.proofs.Duties.Carrier.{IsNew, number_new}
-use Rattle.quic_machine.specs.LeaveCases as expiring
-use Rattle.quic_headline.proofs.Packets.Apart.{by_waits, by_next_id}
 use Rattle.quic_headline.proofs.Packets.Sends.{by_sends}
 use Rattle.quic_headline.proofs.Packets.Owing.{Owes, close_is, error_owes}
 use Rattle.quic_headline.proofs.Packets.Bare.{close_bare, asks_not}
-use Rattle.quic_headline.proofs.Packets.Moved.{by_migrated}
+use Rattle.quic_headline.proofs.Packets.EndMoves.{Cause, cause_of, IsPoll, Keeps}
+use Rattle.quic_headline.proofs.Packets.EndMoves as moves
+use Rattle.quic_headline.proofs.Packets.ByMoves.{no_poll, behind_call}
 
 -- those that ask aren't above the greatest that asks
 abbrev pub AskBefore : List Sent → Option ℕ → Type 0
@@ -81,58 +71,14 @@ tail_quiet sents t tracked before q i behind =
 abbrev Stays : Option ℕ → End → Type 0
 Stays greatest e = e.tracking.greatest_asking ≡ greatest
 
--- an ACK frame that names these leaves it
-named_stays : (greatest : Option ℕ) (ps : Table TrackedPacket) (rises : Bool) (a : AckValue) (e : End) → Stays greatest e → Stays greatest (after_named ps rises a e)
-named_stays greatest [] rises a e i = i
-named_stays greatest (p ∷ ps) rises a e i = by_marks rises (length (p ∷ ps)) a (losses_taken (p ∷ ps) rises a e) (Stays greatest) (λ m marking. by_losses (λ (x : End). x.tracking.greatest_asking ≡ greatest) (sampled (measured rises a (p ∷ ps)) a (without_acked (p ∷ ps) a e)) (λ discovery queues. ap (λ (t : Tracking). t.greatest_asking) (sampled_tracking (measured rises a (p ∷ ps)) a (without_acked (p ∷ ps) a e)) ∙ i))
-
--- so does whatever comes
-received_stays : (greatest : Option ℕ) (p : Policy) (e : End) (arrival : Arrival) (d : List ℕ) → Stays greatest e → Stays greatest (received p e arrival d).end
-received_stays greatest = by_received (Stays greatest) (record {
-  notes = λ n x i. i;
-  begins = λ now n x i. i;
-  frame = frame_keeps (Stays greatest) (record {
-    ack = λ rises a x i. named_stays greatest (acked_by a x.tracking.packets) rises a (named a x) i;
-    on_streams = λ f x on i. frame_leaves (Stays greatest) f x on (λ streams. i);
-    apart = λ f x is i. apart_leaves (Stays greatest) f x is (λ c. i) (λ c most. i);
-    message = λ m x i. i;
-  });
-  takes = λ n asks urged mark x i. i;
-  closes = λ reason x i. i;
-  drains = λ close x i. i;
-  asks_close = λ x i. i;
-  exhausts = λ now x i. i;
-  draws = λ words x i. i;
-  moves = λ p o remote x i. by_migrated (Stays greatest) p o remote x (λ c. i) (λ c most. i);
-})
-
--- and timers that expire
-expired_stays : (words : ℕ → ℕ) (e : End) (now : ℕ) (expiry : Expiry) → Stays e.tracking.greatest_asking (at_expiry words e now expiry)
-expired_stays words e now expiry = by_timers words Here Here judges each (λ f i. i) (λ f i. i) expiry (with_closing e (ticked e.closing now)) refl
-  where
-    Here : End → Type 0
-    Here = Stays e.tracking.greatest_asking
-
-    judges : (o : Option ℕ) (f : End) → Here f → Here (loss_judged o f)
-    judges None f i = i
-    judges (Some moment) f i = by_losses Here f (λ discovery queues. i)
-
-    each : (s : Expired) (f : End) → Here f → Here (expiring.after s f)
-    each expiring.of_acks f i = i
-    each s f i = i
+-- only a poll changes it
+greatest_kept : (greatest : Option ℕ) (by : Cause) → (IsPoll by → ⊥) → Keeps by (Stays greatest)
+greatest_kept greatest by other (moves.tracks n sent) x may i = absurd (other may.0)
+greatest_kept greatest by other m x may i = i
 
 -- another call than a poll
 other_stays : (p : Policy) (e : End) (theirs : List (List ℕ)) (call : Call) (a : Answer) → is_poll call ≡ false → Stays e.tracking.greatest_asking (after_call p e theirs call a)
-other_stays p e theirs call a apart = by_plain_call p e theirs (Stays e.tracking.greatest_asking) call a keep
-  where
-    keep : Plain p e call (Stays e.tracking.greatest_asking)
-    keep (cases.times now expiry) may = expired_stays p.words e now expiry
-    keep (cases.polls now) is = cc
-    keep (cases.hears arrival d) may = received_stays e.tracking.greatest_asking p e arrival d refl
-    keep (cases.closes reason f now) may = refl
-    keep (cases.waits now b) may = by_waits (Stays e.tracking.greatest_asking) b (with_closing e (ticked e.closing now)) refl refl
-    keep (cases.changes_id a) may = by_next_id (Stays e.tracking.greatest_asking) e a refl (λ c. refl) (λ c most. refl)
-    keep c may = refl
+other_stays p e theirs call a apart = behind_call (Stays e.tracking.greatest_asking) p e theirs call a (greatest_kept e.tracking.greatest_asking (cause_of call) (no_poll call apart)) refl
 
 -- ---- a datagram goes
 

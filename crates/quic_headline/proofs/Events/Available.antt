@@ -18,7 +18,6 @@ use Rattle.quic_streams_state.specs.State.{Opening, room}
 use Rattle.quic_streams_state.specs.Limits.{most_streams}
 use Rattle.quic_streams_state.specs.Opening.{opens, opened_if, opened_by, with_remote, with_own_limit, after_max_streams}
 use Rattle.quic_streams_state.specs.Telling.{Telling, passed, after_passing, told_next, told_behind, told_opened, told_writable, polled}
-use Rattle.quic_machine.specs.declared.answers.Event.{Event}
 use Rattle.quic_machine.specs.declared.answers.Event.TheVariants as events
 use Rattle.quic_machine.specs.declared.answers.State.TheVariants as states
 use Rattle.quic_machine.specs.declared.run.Call.{Call}

@@ -13,14 +13,10 @@ use Rattle.quic_machine.specs.declared.run.Answer.{Answer}
 use Rattle.quic_machine.specs.declared.run.Answer.TheVariants as answers
 use Rattle.quic_machine.specs.declared.run.EndView.{EndView}
 use Rattle.quic_machine.specs.Policy.{Policy}
-use Rattle.quic_machine.specs.Closing.{Closing, ticked, loss_to_tell, after_told}
-use Rattle.quic_machine.specs.End.{End, with_closing, closed_by}
+use Rattle.quic_machine.specs.Closing.{Closing, loss_to_tell, after_told}
+use Rattle.quic_machine.specs.End.{End}
 use Rattle.quic_machine.specs.Calls.{tells_of, streams_told, tells_message, tells_done, end_tells, closing_told, message_told, confirmation_told, others_told, end_after_event}
-use Rattle.quic_machine.specs.Poll.{Polled, polled}
-use Rattle.quic_machine.specs.CallCases.{asks_event, by_call, by_done}
-use Rattle.quic_machine.specs.LeaveCases.{by_expired}
-use Rattle.quic_machine.specs.FrameCases.{Receives, named, frame_keeps, frame_leaves, by_received, apart_leaves}
-use Rattle.quic_machine.specs.PollCases.{at_poll, by_poll, composes}
+use Rattle.quic_machine.specs.CallCases.{asks_event}
 use Rattle.quic_machine.specs.Machine.{World, IsAnswer, end_at, after_call}
 use Rattle.quic_headline.specs.Runs.{Run, Told, AreServed, until}
 use Rattle.quic_headline.specs.Headline.{IsHonest, IsRun, IsAt}
@@ -28,18 +24,15 @@ use Rattle.quic_headline.specs.Polls.{seen_at}
 use Rattle.quic_headline.specs.Reasons.{Explains}
 use Rattle.quic_headline.specs.FewEvents.{lost_in}
 use Rattle.quic_headline.specs.Events.{losses_told, LossIsToldAt, LossIsTold}
-use Rattle.quic_headline.proofs.Packets.Apart.{by_waits, by_next_id}
-use Rattle.quic_headline.proofs.Packets.Closes.{by_closes}
-use Rattle.quic_headline.proofs.Packets.Heard.{by_taken}
-use Rattle.quic_headline.proofs.Packets.Moved.{by_migrated}
-use Rattle.quic_headline.proofs.Packets.Probes.{may_leave}
-use Rattle.quic_headline.proofs.Packets.Stays.{settles_ack, settles_losses}
 use Rattle.quic_headline.proofs.Places.Groups.{Nothing, Calls, Group}
 use Rattle.quic_headline.proofs.Places.Moments.{last_seen}
 use Rattle.quic_headline.proofs.Places.Parties.{told_of, Party, called}
 use Rattle.quic_headline.proofs.Places.Placed.{Placed, placed, answered}
 use Rattle.quic_headline.proofs.Causes.Reasons.{IsExplained, call_keeps}
 use Rattle.quic_headline.proofs.Alone.Lost.{IsOver, call_over, call_none, reason_told, reason_shuts}
+use Rattle.quic_headline.proofs.Packets.EndMoves.{Cause, cause_of, IsEvent, Keeps}
+use Rattle.quic_headline.proofs.Packets.EndMoves as moves
+use Rattle.quic_headline.proofs.Packets.ByMoves.{no_event, behind_call}
 
 -- ---- what wasn't told
 
@@ -47,53 +40,15 @@ use Rattle.quic_headline.proofs.Alone.Lost.{IsOver, call_over, call_none, reason
 abbrev Untold : End → Type 0
 Untold e = e.closing.told ≡ false
 
-untold_receives : Receives Untold
-untold_receives = record {
-  notes = λ n f i. i;
-  begins = λ now n f i. i;
-  frame = frame_keeps Untold (record {
-    ack = λ rises a f i. ap (λ (c : Closing). c.told) (settles_ack rises a (named a f)).closing ∙ i;
-    on_streams = λ f g on i. frame_leaves Untold f g on (λ t. i);
-    apart = λ f g is i. apart_leaves Untold f g is (λ c. i) (λ c most. i);
-    message = λ m f i. i;
-  });
-  takes = λ n asks urged mark f i. by_taken Untold n asks urged mark f (λ idle alive. i);
-  closes = λ reason f i. refl;
-  drains = λ close f i. refl;
-  asks_close = λ f i. i;
-  exhausts = λ now f i. refl;
-  draws = λ words f i. i;
-  moves = λ p o remote f i. by_migrated Untold p o remote f (λ c. i) (λ c most. i);
-}
+-- only what is told changes that
+untold : (by : Cause) → (IsEvent by → ⊥) → Keeps by Untold
+untold by quiet (moves.tells told) e may i = absurd (quiet may)
+untold by quiet (moves.closes reason close) e may i = refl
+untold by quiet (moves.drains reason) e may i = refl
+untold by quiet m e may i = i
 
-untold_polled : (p : Policy) (e : End) (now : ℕ) → Untold e → Untold (polled p e now).end
-untold_polled p e now i = by_poll p e now (λ (q : Polled). Untold q.end) (record {
-  silent = i;
-  failed = i;
-  nothing = λ c. i;
-  repeats = λ is. by_closes p (with_closing e (ticked e.closing now)) (λ (q : Polled). Untold q.end) i (λ f goes. i);
-  closes = λ reason c bound. by_closes p (closed_by reason (at_poll e now c)) (λ (q : Polled). Untold q.end) refl (λ f goes. refl);
-  gives = λ leaving c left is may ready some.
-      let x : End = at_poll e now c in
-      ap (λ (c : Closing). c.told) (composes leaving x (may_leave e now leaving x ready)).closing ∙ i;
-})
-
--- a call that asks for no event tells none
 untold_call : (p : Policy) (e : End) (theirs : List (List ℕ)) (call : Call) (a : Answer) → asks_event call ≡ false → Untold e → Untold (after_call p e theirs call a)
-untold_call p e theirs call a quiet i = by_call p e theirs Untold call a (record {
-  same = i;
-  on_streams = λ is answer. i;
-  on_messages = λ is answer. i;
-  pings = i;
-  closes = λ reason f now own. refl;
-  waits = λ now b is. by_waits Untold b (with_closing e (ticked e.closing now)) i i;
-  changes_id = λ is answer. by_next_id Untold e a i (λ c. i) (λ c most. i);
-  says_handshake = λ is answer. by_done Untold e a i i;
-  times = λ now expiry is. by_expired p.words e now Untold (λ pending tracking timers waits asked runs packets. i) (λ pending timers waits asked runs. ap (λ (c : Closing). c.told) (settles_losses (with_closing e (ticked e.closing now))).closing ∙ i) (λ x j. refl) expiry;
-  polls = λ now is. untold_polled p e now i;
-  hears = λ arrival d is. by_received Untold untold_receives p e arrival d i;
-  tells = λ asks. (let clash : ◌≡◌ {A = Bool} true false = sym asks ∙ quiet in cc);
-})
+untold_call p e theirs call a quiet i = behind_call Untold p e theirs call a (untold (cause_of call) (no_event call quiet)) i
 
 quiet_lost : (call : Call) (a : Answer) → asks_event call ≡ false → lost_in call a ≡ 0
 quiet_lost calls.Event a quiet = cc

@@ -4,6 +4,7 @@ use Rattle.std.proofs.Common.{◌≡◌, ℕ, List, subst}
 use Rattle.quic_wire_core.specs.declared.stream_id.Side.{Side}
 use Rattle.quic_wire.specs.Value.{StreamValue, stream}
 use Rattle.quic_streams_laws.specs.Written.{IsStreamOf}
+use Rattle.quic_streams_laws.specs.ReadsLaws.{stands_within}
 use Rattle.quic_machine.specs.Machine.{World}
 use Rattle.quic_headline.specs.Runs.{Run, In, until, written, AreServed}
 use Rattle.quic_headline.specs.Observer.{Sent, sents_until}
@@ -30,5 +31,6 @@ says r end honest run side i sent f served among carried = at.gives.0.1.0.says s
 pub streams_say : (r : Run) (end : World) → IsHonest r → IsRun r end → StreamsSay r
 streams_say r end honest run = record {
   bytes = λ side i sent f served among carried. stands_slice (written f.id (until r side i)) f.offset f.bytes (says r end honest run side i sent f served among carried).stands;
+  within = λ side i sent f served among carried. stands_within (written f.id (until r side i)) f.offset f.bytes (says r end honest run side i sent f served among carried).stands;
   fin = λ side i sent f served among carried fin. (let said = says r end honest run side i sent f served among carried in (said.ended fin, said.last fin));
 }

@@ -1,6 +1,6 @@
 -- What calls leave of what an end marks: only a datagram that comes changes it; and what a poll
 -- gives is marked so.
-use Rattle.std.proofs.Common.{◌≡◌, ℕ, Bool, true, false, List, length, Option, Some, None, Ok, refl, sym, ap, ◌∙◌}
+use Rattle.std.proofs.Common.{◌≡◌, ℕ, Bool, true, false, List, length, Some, None, Ok, refl, sym, ap, ◌∙◌}
 use Rattle.std.specs.Prelude.{if◌then◌else◌}
 use Rattle.quic_wire_core.specs.declared.shared.EcnCodepoint.TheVariants.{Ect0}
 use Rattle.quic_machine.specs.declared.answers.Transmit.{Transmit}
@@ -9,70 +9,31 @@ use Rattle.quic_machine.specs.declared.run.Answer.{Answer}
 use Rattle.quic_machine.specs.Policy.{Policy}
 use Rattle.quic_machine.specs.Closing.{ticked}
 use Rattle.quic_machine.specs.End.{End, with_closing, closed_by}
-use Rattle.quic_machine.specs.Poll.{Polled, Draft, Leaving, mark_of, gives_datagram, datagram_of, draft_as, after_close, polled, closes}
+use Rattle.quic_machine.specs.Poll.{Polled, mark_of, gives_datagram, datagram_of, draft_as, after_close, polled, closes}
 use Rattle.quic_machine.specs.Poll as poll
-use Rattle.quic_machine.specs.Timeouts.{Expiry, loss_judged}
-use Rattle.quic_machine.specs.PollCases.{ready_at, ready_leaves, draft_at, at_poll, after_draft, by_poll, by_poll_to, composes, may_leave_at}
+use Rattle.quic_machine.specs.PollCases.{at_poll, after_draft, by_poll, composes}
 use Rattle.quic_machine.specs.Parts.{Path}
-use Rattle.quic_machine.specs.DraftLaws.{Writing, by_leave, MayLeave}
-use Rattle.quic_machine.specs.Puts as puts
-use Rattle.quic_machine.specs.LeaveCases.{at_expiry, Expired, by_timers}
-use Rattle.quic_machine.specs.LeaveCases as expiring
-use Rattle.quic_machine.specs.CallCases.{Plain, is_delivery, by_plain_call}
-use Rattle.quic_machine.specs.CallCases as cases
+use Rattle.quic_machine.specs.CallCases.{is_delivery}
 use Rattle.quic_machine.specs.Machine.{after_call}
 use Rattle.quic_headline.specs.Marking.{Marking}
-use Rattle.quic_headline.proofs.Packets.Apart.{by_waits, by_next_id}
 use Rattle.quic_headline.proofs.Packets.Closes.{by_closes}
-use Rattle.quic_headline.proofs.Packets.Probes.{by_going, may_leave}
-use Rattle.quic_headline.proofs.Marking.Judged.{IsMarked, lost_marked}
+use Rattle.quic_headline.proofs.Packets.Probes.{may_leave}
+use Rattle.quic_headline.proofs.Marking.Judged.{IsMarked}
+use Rattle.quic_headline.proofs.Packets.EndMoves.{Cause, cause_of, IsPacket}
+use Rattle.quic_headline.proofs.Packets.EndMoves as moves
+use Rattle.quic_headline.proofs.Packets.ByMoves.{no_packet, behind_call}
 
 -- ---- what calls leave
 
-module _ (k : Marking) where
-  judged_marked : (o : Option ℕ) (e : End) → IsMarked k e → IsMarked k (loss_judged o e)
-  judged_marked None e i = i
-  judged_marked (Some moment) e i = lost_marked k e i
+-- only a datagram that comes changes it
+marked : (k : Marking) (by : Cause) → (IsPacket by → ⊥) → moves.Keeps by (IsMarked k)
+marked k by apart (moves.marked seen marks) e may i = absurd (apart may)
+marked k by apart (moves.leads remote) e may i = absurd (apart may)
+marked k by apart m e may i = i
 
-  expired_marked : (words : ℕ → ℕ) (e : End) (now : ℕ) (expiry : Expiry) → IsMarked k e → IsMarked k (at_expiry words e now expiry)
-  expired_marked words e now expiry i = by_timers words (IsMarked k) (IsMarked k) judged_marked each (λ f j. j) (λ f j. j) expiry (with_closing e (ticked e.closing now)) i
-    where
-      each : (s : Expired) (f : End) → IsMarked k f → IsMarked k (expiring.after s f)
-      each expiring.of_acks f j = j
-      each s f j = j
-
-  draft_marked : (leaving : Leaving) (e : End) → MayLeave leaving e → IsMarked k e → IsMarked k (draft_as leaving e).end
-  draft_marked leaving e may i = by_leave (λ (d : Draft). IsMarked k d.end) keep leaving e may i
-    where
-      keep : Writing (λ (d : Draft). IsMarked k d.end)
-      keep puts.ping d may j = j
-      keep p d may j = j
-
-  polled_marked : (p : Policy) (e : End) (now : ℕ) → IsMarked k e → IsMarked k (polled p e now).end
-  polled_marked p e now i = by_poll_to p e now (λ (q : Polled). IsMarked k q.end) (record {
-    silent = i;
-    failed = i;
-    nothing = λ is none. ready;
-    repeats = λ is. by_closes p (with_closing e (ticked e.closing now)) (λ (q : Polled). IsMarked k q.end) i (λ f goes. i);
-    closes = λ reason bound. by_closes p (closed_by reason (ready_at e now).end) (λ (q : Polled). IsMarked k q.end) ready (λ f goes. ready);
-    gives = λ is may some. by_going (IsMarked k) p (draft_at e now) (λ pacing. draft_marked (ready_at e now).leaving (ready_at e now).end (may_leave_at e now) ready);
-  })
-    where
-      ready : IsMarked k (ready_at e now).end
-      ready = (ap (λ (x : End). x.path.marking) (ready_leaves e now) ∙ i.0, ap (λ (x : End). x.marks.told) (ready_leaves e now) ∙ i.1)
-
-  -- a call by which nothing comes leaves it
-  pub apart_marked : (p : Policy) (e : End) (theirs : List (List ℕ)) (call : Call) (a : Answer) → is_delivery call ≡ false → IsMarked k e → IsMarked k (after_call p e theirs call a)
-  apart_marked p e theirs call a apart i = by_plain_call p e theirs (IsMarked k) call a keep
-    where
-      keep : Plain p e call (IsMarked k)
-      keep (cases.times now expiry) may = expired_marked p.words e now expiry i
-      keep (cases.polls now) may = polled_marked p e now i
-      keep (cases.hears arrival d) is = (let clash : true ≡ false = sym is ∙ apart in cc)
-      keep (cases.closes reason f now) may = i
-      keep (cases.waits now b) may = by_waits (IsMarked k) b (with_closing e (ticked e.closing now)) i i
-      keep (cases.changes_id b) may = by_next_id (IsMarked k) e b i (λ c. i) (λ c most. i)
-      keep c may = i
+-- a call by which nothing comes leaves it
+pub apart_marked : (k : Marking) (p : Policy) (e : End) (theirs : List (List ℕ)) (call : Call) (a : Answer) → is_delivery call ≡ false → IsMarked k e → IsMarked k (after_call p e theirs call a)
+apart_marked k p e theirs call a apart i = behind_call (IsMarked k) p e theirs call a (marked k (cause_of call) (no_packet call apart)) i
 
 -- ---- what a poll gives
 

@@ -58,12 +58,12 @@ polled_leaves p e now = by_poll p e now (λ (q : Polled). q.end.messages.queues.
     })
 
 -- whether a call reads a message
-abbrev reads : Call → Bool
+abbrev pub reads : Call → Bool
 reads calls.Recv = true
 reads call = false
 
 -- any call that reads none, but a delivery
-call_leaves : (p : Policy) (e : End) (theirs : List (List ℕ)) (call : Call) (a : Answer) → is_delivery call ≡ false → reads call ≡ false → (after_call p e theirs call a).messages.queues.incoming ≡ e.messages.queues.incoming
+pub call_leaves : (p : Policy) (e : End) (theirs : List (List ℕ)) (call : Call) (a : Answer) → is_delivery call ≡ false → reads call ≡ false → (after_call p e theirs call a).messages.queues.incoming ≡ e.messages.queues.incoming
 call_leaves p e theirs (calls.Poll now) a apart unread = polled_leaves p e now
 call_leaves p e theirs (calls.Send x makes_room) (answers.Send (Ok done)) apart unread = sent_leaves (limits_of e) makes_room x e.messages.queues
 call_leaves p e theirs (calls.Send x makes_room) a apart unread = refl
@@ -113,7 +113,7 @@ first_message (datagram m) fs gs same = ap (λ (ms : List (List ℕ)). m ∷ ms)
 first_message f fs gs same = same
 
 -- those that are taken of a packet have the same messages, wherever it came from
-messages_at : (here : Bool) (fs : List FrameValue) → messages_in (frames_at here fs) ≡ messages_in fs
+pub messages_at : (here : Bool) (fs : List FrameValue) → messages_in (frames_at here fs) ≡ messages_in fs
 messages_at true fs = refl
 messages_at false [] = refl
 messages_at false (f ∷ fs) = elsewhere_leaves f (frames_at false fs) ∙ first_message f (frames_at false fs) fs (messages_at false fs)

@@ -86,15 +86,15 @@ quiet_sent r i side call a silent none told =
 
 module _ (r : Run) (end : World) (honest : IsHonest r) (run : IsRun r end) (side : Side) where
   -- what the lists say of the first so many answers, where the end gives these
-  abbrev outbox : ℕ → List Sent → Outbox
+  abbrev pub outbox : ℕ → List Sent → Outbox
   outbox i sents = outbox_all (queue_room r side) (longest_in r side) side r.events (take i r.answers) r.views (record { waiting = []; left = sents })
 
   -- An end as it is at a place: what bounds its messages but the size is as it was first, and those
   -- wait that the lists say.
-  record Waits (i : ℕ) (w : World) : Type 0 where
-    transport : (end_at side w).transport ≡ (end_at side r.start).transport
-    peer : (end_at side w).peer_params ≡ (end_at side r.start).peer_params
-    waits : (more : List Sent) → outbox i (sents_until r side i ++ more) ≡ record { waiting = (end_at side w).messages.queues.outgoing; left = more }
+  pub record Waits (i : ℕ) (w : World) : Type 0 where
+    pub transport : (end_at side w).transport ≡ (end_at side r.start).transport
+    pub peer : (end_at side w).peer_params ≡ (end_at side r.start).peer_params
+    pub waits : (more : List Sent) → outbox i (sents_until r side i ++ more) ≡ record { waiting = (end_at side w).messages.queues.outgoing; left = more }
 
   first_waits : Waits 0 r.start
   first_waits = record { transport = refl; peer = refl; waits = waits }
@@ -122,7 +122,7 @@ module _ (r : Run) (end : World) (honest : IsHonest r) (run : IsRun r end) (side
       subst (λ (u : World). IsShort (sizing (end_at side u))) same (at.gives.0.0.0.sized, at.gives.1.bounded)
 
   -- the ids that are known have the length of own ids
-  known_there : (i : ℕ) (w : World) → AreServed r i → LeadsTo r i w → KnownLong (end_at side w).ids.peer
+  pub known_there : (i : ℕ) (w : World) → AreServed r i → LeadsTo r i w → KnownLong (end_at side w).ids.peer
   known_there i w served leads =
       let at = placed Shortly shortly r end honest run side i served in
       let same : at.world ≡ w = (one_run r.keys (take i r.answers) r.start (take i r.events) (take i r.views) (take i r.views) at.world w served at.leads leads).1 in
@@ -267,7 +267,7 @@ module _ (r : Run) (end : World) (honest : IsHonest r) (run : IsRun r end) (side
           (subst (λ (by : Side). IsMade r i by event.call a w next) (side_is event.side side is) (record { at = record { event = at_event; answer = at_answer }; leads = there; step = step; served = served })) leads (before w there)
 
   -- at each place
-  waits_at : (i : ℕ) (w : World) → i ≤ length r.views → AreServed r i → LeadsTo r i w → Waits i w
+  pub waits_at : (i : ℕ) (w : World) → i ≤ length r.views → AreServed r i → LeadsTo r i w → Waits i w
   waits_at zero w within served leads = subst (λ (u : World). Waits 0 u) (sym leads) first_waits
   waits_at (suc i) next within served leads = elim (slice_get_cases r.views i).1 [
     | inl there ↦ next_waits i there.0 next there.2 served leads (λ w before. waits_at i w (omega (arith, within)) (served_before r.answers i served) before)

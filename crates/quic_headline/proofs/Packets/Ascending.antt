@@ -1,36 +1,24 @@
 -- The tracked packets stand by ascending numbers, whatever comes and whatever call is made.
-use Rattle.std.proofs.Common.{◌≡◌, ℕ, ◌+◌, ◌<◌, ◌≤◌, Bool, true, false, not, cond, List, [], ◌∷◌, ◌++◌, map, filter, Option, Some, None, refl, sym, ap, ◌∙◌, subst, inl, inr, arith, length}
+use Rattle.std.proofs.Common.{◌≡◌, ℕ, ◌+◌, ◌<◌, ◌≤◌, Bool, true, false, not, cond, List, [], ◌∷◌, ◌++◌, map, filter, Option, Some, None, refl, sym, ap, ◌∙◌, subst, inl, inr, arith}
 use Rattle.std.specs.Ordering.{nat_cmp, is_eq, match_ordering}
 use Rattle.std.specs.declared.cmp.Ordering.{Ordering}
 use Rattle.std.specs.declared.cmp.Ordering.TheVariants.{Less, Equal, Greater}
 use Rattle.std.specs.BTreeMap.{is_at}
 use Rattle.std.proofs.lemmas.Cmp.{ranked}
-use Rattle.quic_wire.specs.Value.{AckValue}
 use Rattle.quic_streams_parts.specs.Table.{Table, put, added, without}
 use Rattle.quic_machine.specs.Arrival.{Arrival}
 use Rattle.quic_machine.specs.Policy.{Policy}
-use Rattle.quic_machine.specs.Closing.{ticked}
-use Rattle.quic_machine.specs.Tracking.{Tracking, TrackedPacket, without_packet, forgotten, after_sent, without_record, names, acked_by, is_lost}
-use Rattle.quic_machine.specs.End.{End, with_closing, number_of, closed_by}
-use Rattle.quic_machine.specs.Acked.{verdict, losses_detected, measured, sampled, without_acked, after_named, losses_taken}
+use Rattle.quic_machine.specs.Tracking.{Tracking, TrackedPacket, without_packet, forgotten, after_sent, without_record, names, is_lost}
+use Rattle.quic_machine.specs.End.{End}
 use Rattle.quic_machine.specs.Receive.{received}
-use Rattle.quic_machine.specs.Poll.{Polled, Draft, packet_of, tracked, polled, goes, Ready}
-use Rattle.quic_machine.specs.PollCases.{ready_at, by_poll_to, composes, draft_at, may_leave_at}
-use Rattle.quic_machine.specs.LeaveCases.{by_expired}
-use Rattle.quic_machine.specs.FrameCases.{named, frame_keeps, frame_leaves, by_received, by_marks, apart_leaves}
-use Rattle.quic_machine.specs.CallCases.{Plain, by_plain_call}
-use Rattle.quic_machine.specs.CallCases as cases
 use Rattle.quic_machine.specs.Machine.{after_call}
 use Rattle.quic_machine.specs.declared.run.Call.{Call}
 use Rattle.quic_machine.specs.declared.run.Answer.{Answer}
 use Rattle.quic_headline.specs.Runs.{In}
-use Rattle.quic_headline.proofs.Packets.Closes.{by_closes}
-use Rattle.quic_headline.proofs.Packets.Apart.{by_waits, by_next_id}
-use Rattle.quic_headline.proofs.Packets.Searches.{by_losses}
-use Rattle.quic_headline.proofs.Packets.Named.{sampled_tracking}
-use Rattle.quic_headline.proofs.Packets.Probes.{by_ready, by_going}
 use Rattle.quic_headline.proofs.Packets.TrackedSteps.{asking_packets}
-use Rattle.quic_headline.proofs.Packets.Moved.{by_migrated}
+use Rattle.quic_headline.proofs.Packets.EndMoves.{Cause, cause_of, Keeps}
+use Rattle.quic_headline.proofs.Packets.EndMoves as moves
+use Rattle.quic_headline.proofs.Packets.ByMoves.{behind_datagram, behind_call}
 
 -- ---- tables
 
@@ -125,43 +113,6 @@ put_map {A} {B} f low ps p v a i same =
 abbrev pub Ascends : End → Type 0
 Ascends e = Ascending 0 e.tracking.packets
 
--- losses leave some
-pub ascends_losses : (e : End) → Ascends e → Ascends (losses_detected e)
-ascends_losses e a = by_losses Ascends e (λ discovery queues. ascends_filter (λ q. not (is_lost (verdict e) q)) 0 e.tracking.packets a)
-
--- an ACK frame that names these
-ascends_named : (ps : Table TrackedPacket) (rises : Bool) (k : AckValue) (e : End) → Ascends e → Ascends (after_named ps rises k e)
-ascends_named [] rises k e a = a
-ascends_named (p ∷ ps) rises k e a =
-    let o = measured rises k (p ∷ ps) in
-    let left = without_acked (p ∷ ps) k e in
-    let kept = ascends_losses (sampled o k left) (subst (λ (t : Tracking). Ascending 0 t.packets) (sym (sampled_tracking o k left)) (ascends_filter (λ q. not (names k q.0)) 0 e.tracking.packets a)) in
-    by_marks rises (length (p ∷ ps)) k (losses_taken (p ∷ ps) rises k e) Ascends (λ m marking. kept)
-
--- whatever comes
-pub ascends_received : (p : Policy) (e : End) (arrival : Arrival) (d : List ℕ) → Ascends e → Ascends (received p e arrival d).end
-ascends_received = by_received Ascends (record {
-  notes = λ n x a. a;
-  begins = λ now n x a. a;
-  frame = frame_keeps Ascends (record {
-    ack = λ rises k x a. ascends_named (acked_by k x.tracking.packets) rises k (named k x) a;
-    on_streams = λ f x on a. frame_leaves Ascends f x on (λ streams. a);
-    apart = λ f x is a. apart_leaves Ascends f x is (λ c. a) (λ c most. a);
-    message = λ m x a. a;
-  });
-  takes = λ n asks urged mark x a. a;
-  closes = λ reason x a. a;
-  drains = λ close x a. a;
-  asks_close = λ x a. a;
-  exhausts = λ now x a. a;
-  draws = λ words x a. a;
-  moves = λ p o remote x a. by_migrated Ascends p o remote x (λ c. a) (λ c most. a);
-})
-
--- an end that is ready to give
-pub ascends_ready : (e : End) (now : ℕ) → Ascends e → Ascends (ready_at e now).end
-ascends_ready e now a = by_ready Ascends e now a (λ ping immediate x b. b) (λ waits x b. b) (λ p i. ascends_put 0 e.tracking.packets p.0 (without_record p.1) a) (λ moment pacing discovery x b. b)
-
 -- one more is sent, before which the oldest may be forgotten
 ascends_sent : (t : Tracking) (n : ℕ) (p : TrackedPacket) → Ascending 0 t.packets → Ascending 0 (after_sent t n p).packets
 ascends_sent t n p a =
@@ -172,38 +123,17 @@ ascends_sent t n p a =
     forgets None = a
     forgets (Some q) = ascends_without 0 t.packets q.0 a
 
--- a poll
-ascends_polled : (p : Policy) (e : End) (now : ℕ) → Ascends e → Ascends (polled p e now).end
-ascends_polled p e now a = by_poll_to p e now (λ (q : Polled). Ascends q.end) (record {
-  silent = a;
-  failed = a;
-  nothing = λ is none. ready;
-  repeats = λ is. by_closes p (with_closing e (ticked e.closing now)) (λ (q : Polled). Ascends q.end) a (λ f goes. a);
-  closes = λ reason bound. by_closes p (closed_by reason (ready_at e now).end) (λ (q : Polled). Ascends q.end) ready (λ f goes. ready);
-  gives = λ is may some. by_going Ascends p d (λ pacing. gives some);
-})
-  where
-    g : Ready
-    g = ready_at e now
+-- each move keeps that
+ascends : (by : Cause) → Keeps by Ascends
+ascends by (moves.acknowledged a) e may i = ascends_filter (λ q. not (names a q.0)) 0 e.tracking.packets i
+ascends by (moves.detected v) e may i = ascends_filter (λ q. not (is_lost v q)) 0 e.tracking.packets i
+ascends by (moves.moved_again p) e may i = ascends_put 0 e.tracking.packets p.0 (without_record p.1) i
+ascends by (moves.tracks n p) e may i = ascends_sent e.tracking n p i
+ascends by m e may i = i
 
-    ready : Ascends g.end
-    ready = ascends_ready e now a
-
-    d : Draft
-    d = draft_at e now
-
-    gives : goes g ≡ true → Ascends (tracked d)
-    gives some = ascends_sent d.end.tracking (number_of d.end) (packet_of d) (subst (λ (t : Tracking). Ascending 0 t.packets) (sym (composes g.leaving g.end (may_leave_at e now)).tracking) ready)
+pub ascends_received : (p : Policy) (e : End) (arrival : Arrival) (d : List ℕ) → Ascends e → Ascends (received p e arrival d).end
+ascends_received = behind_datagram Ascends (ascends moves.packet)
 
 -- any call
 pub ascends_call : (p : Policy) (e : End) (theirs : List (List ℕ)) (call : Call) (answer : Answer) → Ascends e → Ascends (after_call p e theirs call answer)
-ascends_call p e theirs call answer a = by_plain_call p e theirs Ascends call answer keep
-  where
-    keep : Plain p e call Ascends
-    keep (cases.times now expiry) may = by_expired p.words e now Ascends (λ pending tracking timers waits asked runs packets. subst (λ (ps : Table TrackedPacket). Ascending 0 ps) (sym packets) a) (λ pending timers waits asked runs. ascends_losses (with_closing e (ticked e.closing now)) a) (λ x j. j) expiry
-    keep (cases.polls now) may = ascends_polled p e now a
-    keep (cases.hears arrival d) may = ascends_received p e arrival d a
-    keep (cases.closes reason f now) may = a
-    keep (cases.waits now b) may = by_waits Ascends b (with_closing e (ticked e.closing now)) a a
-    keep (cases.changes_id b) may = by_next_id Ascends e b a (λ c. a) (λ c most. a)
-    keep c may = a
+ascends_call p e theirs call answer a = behind_call Ascends p e theirs call answer (ascends (cause_of call)) a

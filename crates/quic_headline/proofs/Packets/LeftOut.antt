@@ -12,7 +12,7 @@ use Rattle.quic_machine.specs.declared.run.Answer.{Answer}
 use Rattle.quic_machine.specs.declared.run.Answer.TheVariants as answers
 use Rattle.quic_machine.specs.Policy.{Policy}
 use Rattle.quic_machine.specs.Closing.{ticked}
-use Rattle.quic_machine.specs.End.{End, number_of, words_drawn, with_closing, closed_by}
+use Rattle.quic_machine.specs.End.{End, words_drawn, with_closing, closed_by}
 use Rattle.quic_machine.specs.DraftLaws.{HasRoom, MayLeave}
 use Rattle.quic_machine.specs.Poll.{Polled, Draft, draft_as, polled, Leaving}
 use Rattle.quic_machine.specs.Poll as poll

@@ -1,6 +1,5 @@
 -- The numbers that an end left out are drawn of its random source, at each place of an honest run.
-use Rattle.std.proofs.Common.{◌≡◌, ℕ, List, sym, subst}
-use Rattle.quic_wire_core.specs.declared.stream_id.Side.{Side}
+use Rattle.std.proofs.Common.{List, sym, subst}
 use Rattle.quic_machine.specs.Machine.{World, policy_at, end_at}
 use Rattle.quic_headline.specs.Runs.{Run}
 use Rattle.quic_headline.specs.Observer.{Sent}

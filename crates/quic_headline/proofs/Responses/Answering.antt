@@ -1,6 +1,6 @@
 -- At each place of a run the answer that waits at an open end is one to the newest of the
 -- challenges that it is to answer, as its observer knows them.
-use Rattle.std.proofs.Common.{◌≡◌, ◌⊎◌, ℕ, zero, suc, ◌≤◌, Bool, true, false, ◌==◌, List, [], ◌∷◌, ◌++◌, length, Option, Some, None, refl, sym, ap, ◌∙◌, subst, inl, inr, eq-eqb}
+use Rattle.std.proofs.Common.{◌≡◌, ℕ, zero, suc, ◌≤◌, Bool, true, false, ◌==◌, List, [], ◌∷◌, ◌++◌, length, Option, Some, None, refl, sym, ap, ◌∙◌, subst, inl, inr, eq-eqb}
 use Rattle.std.specs.Prelude.{if◌then◌else◌, slice_get}
 use Rattle.std.proofs.lemmas.List.{append-nil}
 use Rattle.quic_wire_core.specs.declared.shared.EcnCodepoint.{EcnCodepoint}
@@ -23,9 +23,9 @@ use Rattle.quic_machine.specs.Migration.{is_there, has_moved}
 use Rattle.quic_machine.specs.Poll.{polled}
 use Rattle.quic_machine.specs.Receive.{Outcome}
 use Rattle.quic_machine.specs.CallCases.{is_delivery, is_poll}
-use Rattle.quic_machine.specs.Machine.{World, IsStep, after_call, end_at, control_at, heard_at, gave}
+use Rattle.quic_machine.specs.Machine.{World, IsStep, end_at, control_at, heard_at, gave}
 use Rattle.quic_headline.specs.Runs.{Run, Told, Packet, Intake, In, same_side, folded, until, given_of, state_at, LeadsTo, AreServed}
-use Rattle.quic_headline.specs.Observer.{Sent, Watch, Lens, watch, watch_told, watch_from, lens_of, news, has_changed, path_changes, peer_address}
+use Rattle.quic_headline.specs.Observer.{Sent, Watch, Lens, watch, watch_told, watch_from, lens_of, news, has_changed}
 use Rattle.quic_headline.specs.Headline.{IsHonest, IsRun}
 use Rattle.quic_headline.specs.Amounts.{making_at}
 use Rattle.quic_headline.specs.Moments.{went}
@@ -50,7 +50,7 @@ use Rattle.quic_headline.proofs.Steps.Made.{reads_either, whole}
 use Rattle.quic_headline.proofs.Steps.Along.{own_told, along}
 use Rattle.quic_headline.proofs.Timers.Watched.{Observed, went_is}
 use Rattle.quic_headline.proofs.Validated.Group.{AnswerFits}
-use Rattle.quic_headline.proofs.Validated.Standing.{Seen, seeing, call_sees}
+use Rattle.quic_headline.proofs.Validated.Standing.{Seen, call_sees}
 use Rattle.quic_headline.proofs.Validated.Went.{polled_left}
 use Rattle.quic_headline.proofs.Validated.Clause.{All, all}
 use Rattle.quic_headline.proofs.Validated.Clause as clause

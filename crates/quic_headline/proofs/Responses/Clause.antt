@@ -1,7 +1,6 @@
 -- So each PATH_RESPONSE answers a challenge, each challenge is answered, and datagrams with frames
 -- of path validation are long enough, at each place of an honest run.
-use Rattle.std.proofs.Common.{◌≡◌, ◌⊎◌, ℕ, suc, ◌≤◌, true, false, ◌||◌, List, [], ◌∷◌, replicate, Option, Some, None, Ok, refl, sym, ap, ◌∙◌, subst, inl, inr, arith}
-use Rattle.std.specs.Prelude.{Bool}
+use Rattle.std.proofs.Common.{◌≡◌, ◌⊎◌, ℕ, suc, ◌≤◌, true, List, [], ◌∷◌, replicate, Option, Some, None, Ok, refl, sym, ap, ◌∙◌, subst, inl, inr, arith}
 use Rattle.std.specs.List.{list_any}
 use Rattle.std.proofs.lemmas.Bool.{both_ways}
 use Rattle.std.proofs.lemmas.Option.{slice_get_within}
@@ -22,7 +21,7 @@ use Rattle.quic_machine.specs.Machine.{World, policy_at, end_at}
 use Rattle.quic_headline.specs.Runs.{Run, In, AreServed}
 use Rattle.quic_headline.specs.Observer.{Sent, asks_of, is_close}
 use Rattle.quic_headline.specs.Headline.{IsHonest, IsRun}
-use Rattle.quic_headline.specs.Polls.{GaveOne, GaveAsking, GaveNothing, IsHeldBack, IsLimited}
+use Rattle.quic_headline.specs.Polls.{GaveOne, GaveNothing, IsHeldBack, IsLimited}
 use Rattle.quic_headline.specs.Waited.{is_path_response, IsCloseAlone}
 use Rattle.quic_headline.specs.Responses.{Challenge, challenged, answers_in, IsNewest, ResponsesAnswer, ChallengesAnswered, validates_path, PathFramesFill}
 use Rattle.quic_headline.proofs.Packets.Quiet.{heard_nothing}

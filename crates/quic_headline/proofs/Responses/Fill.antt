@@ -1,30 +1,30 @@
 -- What a poll makes of the answer that waits: it goes with all that waits, and leaves none; and a
 -- datagram with a frame of path validation has 1200 bytes.
-use Rattle.std.proofs.Common.{◌≡◌, ◌⊎◌, ℕ, zero, suc, ◌≤◌, Bool, true, false, not, ◌||◌, List, [], ◌∷◌, ◌++◌, replicate, Option, Some, None, refl, sym, ap, ◌∙◌, subst, inl, inr, arith}
+use Rattle.std.proofs.Common.{◌≡◌, ◌⊎◌, ℕ, zero, suc, ◌≤◌, Bool, true, false, not, ◌||◌, List, [], ◌∷◌, replicate, Option, Some, None, refl, sym, ap, ◌∙◌, inl, inr, arith}
 use Rattle.std.specs.List.{list_any}
 use Rattle.std.specs.Option.{is_some}
 use Rattle.std.proofs.lemmas.Bool.{or_cases, or_left, or_right, both_ways}
 use Rattle.std.proofs.lemmas.List.Folds.{list_any-append}
-use Rattle.quic_wire.specs.Value.{FrameValue, padding, path_challenge, path_response}
+use Rattle.quic_wire.specs.Value.{FrameValue, padding}
 use Rattle.quic_recovery_core.specs.PendingAcks.{can_send}
 use Rattle.quic_streams_state.specs.Waiting.{is_empty, can_send_stream_data}
 use Rattle.quic_paths.specs.Responses.{Response}
 use Rattle.quic_machine.specs.Parts.{signals_wait}
 use Rattle.quic_machine.specs.Validation.{path_waits}
 use Rattle.quic_machine.specs.End.{End}
-use Rattle.quic_machine.specs.Poll.{Draft, no_frames, zeros_behind, datagram_size, challenge_if, response_if, ping_if, immediate_if, with_challenge_frame, with_response_frame, with_ping_frame, with_immediate_frame, with_signal_frames, with_frequency_frame, with_control_frames, with_message_frames, with_asking, with_ack, ack_fits, ack_if, composed_if, composed, lazied, lazied_as, least_by, message_waits, asks_to_go, waits, Leaving, Ready, whole, alone, probe, closing, nothing, draft_as, goes, goes_as, asking}
+use Rattle.quic_machine.specs.Poll.{Draft, no_frames, zeros_behind, datagram_size, response_if, ping_if, immediate_if, with_challenge_frame, with_response_frame, with_ping_frame, with_signal_frames, with_frequency_frame, with_control_frames, with_message_frames, with_asking, with_ack, ack_fits, ack_if, composed_if, composed, lazied, least_by, message_waits, asks_to_go, waits, Leaving, Ready, whole, alone, probe, closing, nothing, draft_as, goes, goes_as, asking}
 use Rattle.quic_machine.specs.DraftLaws.{by_entries, by_messages, by_streams, left_least}
 use Rattle.quic_machine.specs.PollCases.{ready_at, draft_at, may_leave_at, ready_closes_not}
-use Rattle.quic_headline.specs.Observer.{Sent, asks_of}
+use Rattle.quic_headline.specs.Observer.{asks_of}
 use Rattle.quic_headline.specs.Waited.{is_path_challenge, is_path_response}
-use Rattle.quic_headline.specs.Responses.{answers_in, validates_path}
+use Rattle.quic_headline.specs.Responses.{validates_path}
 use Rattle.quic_headline.proofs.Packets.Entries.{by_request}
 use Rattle.quic_headline.proofs.Packets.Flying.{asking_padded}
 use Rattle.quic_headline.proofs.Places.Parties.{sent_as}
 use Rattle.quic_headline.proofs.Steps.Probes.{begun}
 use Rattle.quic_headline.proofs.Steps.Probing.{IsProbing, probe_goes}
 use Rattle.quic_headline.proofs.Validated.Went.{draft_went, ready_replies}
-use Rattle.quic_headline.proofs.Responses.Drafts.{Says, NoneSaid, draft_says, none_answers, one_answers, padded_says, as_long}
+use Rattle.quic_headline.proofs.Responses.Drafts.{Says, draft_says, none_answers, one_answers, padded_says, as_long}
 
 -- ---- where it waits, it goes
 

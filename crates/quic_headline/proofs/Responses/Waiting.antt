@@ -5,7 +5,7 @@ use Rattle.std.specs.Prelude.{if◌then◌else◌}
 use Rattle.std.proofs.lemmas.Bool.{ltb-true, ltb-false}
 use Rattle.std.proofs.lemmas.List.{append-nil}
 use Rattle.quic_wire_core.specs.declared.shared.EcnCodepoint.{EcnCodepoint}
-use Rattle.quic_wire.specs.Value.{FrameValue, padding, path_challenge, path_response}
+use Rattle.quic_wire.specs.Value.{FrameValue, path_challenge, path_response}
 use Rattle.quic_wire.specs.Items.{items}
 use Rattle.quic_wire.specs.declared.frame.InvalidFrame.{InvalidFrame}
 use Rattle.quic_packet.specs.Datagram.{Opening}
@@ -15,15 +15,15 @@ use Rattle.quic_machine.specs.declared.answers.NextIdError.{NextIdError}
 use Rattle.quic_machine.specs.declared.answers.State.TheVariants as states
 use Rattle.quic_machine.specs.declared.run.Answer.TheVariants as answers
 use Rattle.quic_machine.specs.Policy.{Policy}
-use Rattle.quic_machine.specs.Validation.{token_of, word_of, validated_if, path_asked, path_answered, challenged_anew, most_challenges}
-use Rattle.quic_machine.specs.IdFrames.{drawn, next_id_answer}
+use Rattle.quic_machine.specs.Validation.{token_of, word_of, validated_if, path_asked, challenged_anew, most_challenges}
+use Rattle.quic_machine.specs.IdFrames.{next_id_answer}
 use Rattle.quic_machine.specs.End.{End}
 use Rattle.quic_machine.specs.Migration.{is_there, next_id_if, next_id_if_allowed, path_frames_taken, migrated}
 use Rattle.quic_machine.specs.Receive.{Outcome, asks_in}
 use Rattle.quic_machine.specs.FrameCases.{passed, begun}
 use Rattle.quic_headline.specs.Runs.{Packet, Intake, In}
 use Rattle.quic_headline.specs.Observer.{news}
-use Rattle.quic_headline.specs.Waited.{is_path_challenge, is_path_response}
+use Rattle.quic_headline.specs.Waited.{is_path_challenge}
 use Rattle.quic_headline.specs.Responses.{Challenge, challenges_in, challenges_of}
 use Rattle.quic_headline.proofs.Packets.Delivered.{frames_at, with_taken, ArrivalsFrom, arrived}
 use Rattle.quic_headline.proofs.Packets.Heard.{by_taken}
@@ -33,7 +33,7 @@ use Rattle.quic_headline.proofs.Packets.Watching.{none_new, one_new}
 use Rattle.quic_headline.proofs.Places.Told.{in_append}
 use Rattle.quic_headline.proofs.Moves.Comes.{Leads, those, urges, behind_frames, arrivals_lead}
 use Rattle.quic_headline.proofs.Validated.Group.{AnswerFits}
-use Rattle.quic_headline.proofs.Validated.Standing.{Seen, seeing, seen_asked, seen_answered, taken_sees, next_sees, frames_see}
+use Rattle.quic_headline.proofs.Validated.Standing.{Seen, seeing, seen_asked, taken_sees, next_sees, frames_see}
 
 -- ---- what waits
 

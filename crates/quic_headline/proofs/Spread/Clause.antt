@@ -22,21 +22,14 @@ use Rattle.quic_machine.specs.declared.run.Answer.TheVariants as answers
 use Rattle.quic_machine.specs.declared.run.EndView.{EndView}
 use Rattle.quic_machine.specs.declared.run.View.{View}
 use Rattle.quic_machine.specs.Policy.{Policy}
-use Rattle.quic_machine.specs.Closing.{ticked}
 use Rattle.quic_machine.specs.Parts.{current_mtu}
-use Rattle.quic_machine.specs.End.{End, with_closing}
+use Rattle.quic_machine.specs.End.{End}
 use Rattle.quic_machine.specs.Control.{Control, after_told}
 use Rattle.quic_machine.specs.Migration.{has_moved, pacing_moved}
-use Rattle.quic_machine.specs.Timeouts.{loss_judged}
 use Rattle.quic_machine.specs.Poll.{message_waits, polled}
-use Rattle.quic_machine.specs.FrameCases.{Settling, Receives, named, acked_keeps, losses_keep, frame_keeps, frame_leaves, by_received, apart_leaves}
-use Rattle.quic_machine.specs.Steps as steps
-use Rattle.quic_machine.specs.CallCases.{Plain, is_poll, is_delivery, by_plain_call}
-use Rattle.quic_machine.specs.CallCases as cases
+use Rattle.quic_machine.specs.CallCases.{is_poll, is_delivery}
 use Rattle.quic_machine.specs.Machine.{World, IsStep, IsTold, reads_window, pacing_left, after_call, tells, end_at, control_at, heard_at, given_by, policy_at, gave}
 use Rattle.quic_machine.specs.RunLaws.{as_many_views}
-use Rattle.quic_machine.specs.LeaveCases.{by_timers, Expired}
-use Rattle.quic_machine.specs.LeaveCases as expiring
 use Rattle.quic_headline.specs.Runs.{Run, In, same_side, folded, until, given_of, LeadsTo, AreServed}
 use Rattle.quic_headline.specs.Runs as runs
 use Rattle.quic_headline.specs.Observer.{terms_of, Watch, watch_from, watch, watch_told, lens_of, has_changed, path_changes}
@@ -47,8 +40,6 @@ use Rattle.quic_headline.specs.Waited.{Wants, wants}
 use Rattle.quic_headline.proofs.Packets.Quiet.{HaveHeardNothing}
 use Rattle.quic_headline.specs.Tokens.{names_for, spent_by}
 use Rattle.quic_headline.specs.Spread.{gone_at, paces_by, paces_in, paces_at, pacer_anew, first_pacer, pacer_at, named_at, HoldsToPacer, HoldsBy, SearchesApart, PacerIsOfHistory}
-use Rattle.quic_headline.proofs.Packets.Apart.{by_waits, by_next_id}
-use Rattle.quic_headline.proofs.Packets.Moved.{by_migrated}
 use Rattle.quic_headline.proofs.Packets.Flying.{Waits, held}
 use Rattle.quic_headline.proofs.Packets.Group.{has_room}
 use Rattle.quic_headline.proofs.Places.Parties.{sent_by, sent_if, sents_by, Party, watch_of, with_shown, shown_at}
@@ -79,7 +70,9 @@ use Rattle.quic_headline.proofs.Spread.Pings.{Pinging, ObservedWanting, pinging_
 use Rattle.quic_headline.proofs.Spread.Tokens.{full_same, begun_same, names_of, names_same, spent_same}
 use Rattle.quic_headline.proofs.Spread.Gates.{ask, names}
 use Rattle.quic_headline.proofs.Spread.Polls.{Knows, asked_alike, polled_spread}
-use Rattle.quic_headline.proofs.Packets.Heard.{by_taken}
+use Rattle.quic_headline.proofs.Packets.EndMoves.{Cause, cause_of, IsPoll, Keeps}
+use Rattle.quic_headline.proofs.Packets.EndMoves as moves
+use Rattle.quic_headline.proofs.Packets.ByMoves.{no_poll, behind_call}
 
 -- ---- any call but a poll
 
@@ -87,48 +80,13 @@ use Rattle.quic_headline.proofs.Packets.Heard.{by_taken}
 abbrev SamePacer : End → End → Type 0
 SamePacer e f = f.path.pacing ≡ e.path.pacing
 
-settling : (e : End) → Settling (SamePacer e)
-settling e (steps.known n) x i = i
-settling e s x i = i
-
-receives_same : (e : End) → Receives (SamePacer e)
-receives_same e = record {
-  notes = λ n x i. i;
-  begins = λ now n x i. i;
-  frame = frame_keeps (SamePacer e) (record {
-    ack = λ rises a x i. acked_keeps (SamePacer e) (settling e) rises a (named a x) i;
-    on_streams = λ f x on i. frame_leaves (SamePacer e) f x on (λ t. i);
-    apart = λ f x is i. apart_leaves (SamePacer e) f x is (λ c. i) (λ c most. i);
-    message = λ m x i. i;
-  });
-  takes = λ n asks urged mark x i. by_taken (SamePacer e) n asks urged mark x (λ idle alive. i);
-  closes = λ reason x i. i;
-  drains = λ close x i. i;
-  asks_close = λ x i. i;
-  exhausts = λ now x i. i;
-  draws = λ words x i. i;
-  moves = λ p o remote x i. by_migrated (SamePacer e) p o remote x (λ c. i) (λ c most. i);
-}
-
-judged_same : (e : End) (moment : Option ℕ) (x : End) → SamePacer e x → SamePacer e (loss_judged moment x)
-judged_same e None x i = i
-judged_same e (Some moment) x i = losses_keep (SamePacer e) (settling e) x i
+pacer_kept : (e : End) (by : Cause) → (IsPoll by → ⊥) → Keeps by (SamePacer e)
+pacer_kept e by other (moves.gates until pacing discovery) x may i = absurd (other may)
+pacer_kept e by other (moves.went g) x may i = absurd (other may)
+pacer_kept e by other m x may i = i
 
 pacer_stays : (p : Policy) (e : End) (theirs : List (List ℕ)) (call : Call) (a : Answer) → is_poll call ≡ false → SamePacer e (after_call p e theirs call a)
-pacer_stays p e theirs call a other = by_plain_call p e theirs (SamePacer e) call a keep
-  where
-    each : (s : Expired) (x : End) → SamePacer e x → SamePacer e (expiring.after s x)
-    each expiring.of_acks x i = i
-    each s x i = i
-
-    keep : Plain p e call (SamePacer e)
-    keep (cases.times now expiry) may = by_timers p.words (SamePacer e) (SamePacer e) (λ o x i. judged_same e o x i) each (λ x i. i) (λ x i. i) expiry (with_closing e (ticked e.closing now)) refl
-    keep (cases.polls now) is = cc
-    keep (cases.hears arrival d) may = by_received (SamePacer e) (receives_same e) p e arrival d refl
-    keep (cases.closes reason f now) may = refl
-    keep (cases.waits now b) may = by_waits (SamePacer e) b (with_closing e (ticked e.closing now)) refl refl
-    keep (cases.changes_id a) may = by_next_id (SamePacer e) e a refl (λ c. refl) (λ c most. refl)
-    keep c may = refl
+pacer_stays p e theirs call a other = behind_call (SamePacer e) p e theirs call a (pacer_kept e (cause_of call) (no_poll call other)) refl
 
 -- the pacer that a call leaves is made anew only where it leads to another path, as a delivery may
 pacing_stays : (window : ℕ) (call : Call) (before after : End) → has_moved before after ≡ false → pacing_left window call before after ≡ after.path.pacing

@@ -1,12 +1,7 @@
 -- The timer of the pacer of an open end: a poll sets it to the moment that the pacer names, or
 -- stops it; any other call leaves it or stops it.
 use Rattle.std.proofs.Common.{◌≡◌, ℕ, Bool, true, false, List, [], Option, Some, None, refl, sym, ap, ◌∙◌, subst, ◌⊎◌, inl, inr}
-use Rattle.std.specs.Prelude.{if◌then◌else◌}
 use Rattle.quic_wire_core.specs.StreamId.{other_side}
-use Rattle.quic_recovery_core.specs.Duplicates.{Seen}
-use Rattle.quic_recovery_core.specs.PendingAcks.{Pending, after_insert, packet_starts_wait}
-use Rattle.quic_time.specs.Timers.{Timers}
-use Rattle.quic_spaces.specs.Acknowledging.{ack_due}
 use Rattle.quic_machine.specs.declared.answers.State.{State}
 use Rattle.quic_machine.specs.declared.answers.State.TheVariants as states
 use Rattle.quic_machine.specs.declared.run.Call.{Call}
@@ -14,30 +9,23 @@ use Rattle.quic_machine.specs.declared.run.Call.TheVariants as calls
 use Rattle.quic_machine.specs.declared.run.Answer.{Answer}
 use Rattle.quic_machine.specs.Policy.{Policy}
 use Rattle.quic_machine.specs.Closing.{ticked}
-use Rattle.quic_machine.specs.End.{End, with_closing, with_ack_timer, with_window, closed_by}
+use Rattle.quic_machine.specs.End.{End, with_closing, with_window, closed_by}
 use Rattle.quic_machine.specs.Control.{Gated, paced_until, with_pacing_timer}
-use Rattle.quic_machine.specs.Timeouts.{loss_judged}
 use Rattle.quic_machine.specs.Poll.{gated, probed, goes, sends, polled_if, polled_in, polled, Ready, leaves_unless, bounds, request_queued}
-use Rattle.quic_machine.specs.Receive.{timers_after}
-use Rattle.quic_spaces.specs.Acknowledging.{with_due}
 use Rattle.quic_wire_core.specs.declared.stream_id.Side.{Side}
 use Rattle.quic_machine.specs.Machine.{World, after_call, end_at, control_at, given_by, policy_at}
-use Rattle.quic_machine.specs.CallCases.{Plain, is_poll, by_plain_call}
-use Rattle.quic_machine.specs.CallCases as cases
-use Rattle.quic_machine.specs.FrameCases.{Settling, Receives, named, acked_keeps, losses_keep, frame_keeps, frame_leaves, by_received, apart_leaves}
-use Rattle.quic_machine.specs.Steps as steps
+use Rattle.quic_machine.specs.CallCases.{is_poll}
 use Rattle.quic_machine.specs.PollCases.{ready_at, draft_at, probe_leaves, by_probed, by_gate, search_leaves, composes, may_leave_at}
 use Rattle.quic_headline.specs.Runs.{Run}
 use Rattle.quic_headline.specs.Polls.{PacerSetsItsTimer, pacing_at, pacer_names}
 use Rattle.quic_headline.proofs.Packets.Probes.{by_going}
 use Rattle.quic_headline.proofs.Steps.Made.{made_end}
-use Rattle.quic_machine.specs.LeaveCases.{Expired, by_timers}
-use Rattle.quic_machine.specs.LeaveCases as expiring
 use Rattle.quic_machine.specs.declared.answers.LostReason.{LostReason}
 use Rattle.quic_headline.proofs.Places.Parties.{with_shown, shown_at}
 use Rattle.quic_headline.proofs.Packets.Closes.{closes_left}
-use Rattle.quic_headline.proofs.Packets.Apart.{by_waits, by_next_id}
-use Rattle.quic_headline.proofs.Packets.Moved.{by_migrated}
+use Rattle.quic_headline.proofs.Packets.EndMoves.{Cause, cause_of, IsPoll, Keeps}
+use Rattle.quic_headline.proofs.Packets.EndMoves as moves
+use Rattle.quic_headline.proofs.Packets.ByMoves.{no_poll, behind_call}
 
 -- the timer isn't set, or is set as this says
 abbrev Paces : Option ℕ → End → Type 0
@@ -104,57 +92,19 @@ polled_paces p e now opened = subst (λ (s : State). Paces (names e now) (polled
 
 -- ---- any other call
 
--- a packet that is taken leaves the timer
-pacing_after : (delay : ℕ) (t : Timers) (p : Pending) (now n : ℕ) (asks : Bool) (s : Seen) → (timers_after delay t p now n asks s).pacing ≡ t.pacing
-pacing_after delay t p now n asks s = go (packet_starts_wait p n asks s)
-  where
-    go : (b : Bool) → (if b then with_ack_timer t (Some (ack_due delay now)) else t).pacing ≡ t.pacing
-    go true = refl
-    go false = refl
-
 module _ (o : Option ℕ) where
-  -- acknowledged and lost packets leave the timer
-  settling : Settling (Paces o)
-  settling (steps.known n) e i = i
-  settling s e i = i
+  -- the timer is left, or stopped
+  paces : (by : Cause) → (IsPoll by → ⊥) → Keeps by (Paces o)
+  paces by other (moves.gates until pacing discovery) e may i = absurd (other may)
+  paces by other moves.paced e may i = inl refl
+  paces by other (moves.closes reason close) e may i = inl refl
+  paces by other (moves.drains reason) e may i = inl refl
+  paces by other moves.over e may i = inl refl
+  paces by other m e may i = i
 
-  -- a datagram that comes does, and stops it where the end closes
-  receives : Receives (Paces o)
-  receives = record {
-    notes = λ n e i. i;
-    begins = λ now n e i. i;
-    frame = frame_keeps (Paces o) (record { ack = λ rises a e i. acked_keeps (Paces o) settling rises a (named a e) i; on_streams = λ f e on i. frame_leaves (Paces o) f e on (λ t. i); apart = λ f e is i. apart_leaves (Paces o) f e is (λ c. i) (λ c most. i); message = λ m e i. i });
-    takes = λ n asks urged mark e i. subst (λ (q : Option ℕ). (q ≡ None) ⊎ (q ≡ o)) (sym (pacing_after e.frequency.own_delay e.timers (with_due urged (after_insert e.acknowledging n e.closing.clock)) e.closing.clock n asks e.numbers.opened)) i;
-    closes = λ reason e i. inl refl;
-    drains = λ close e i. inl refl;
-    asks_close = λ e i. i;
-    exhausts = λ now e i. inl refl;
-    draws = λ words e i. i;
-    moves = λ p m remote e i. by_migrated (Paces o) p m remote e (λ c. i) (λ c most. i);
-  }
-
-  -- losses that are judged leave it
-  judged_paces : (moment : Option ℕ) (e : End) → Paces o e → Paces o (loss_judged moment e)
-  judged_paces None e i = i
-  judged_paces (Some moment) e i = losses_keep (Paces o) settling e i
-
-  -- so does that of acknowledgements; that of the pacer is stopped
-  expires_paces : (s : Expired) (e : End) → Paces o e → Paces o (expiring.after s e)
-  expires_paces expiring.of_pacer e i = inl refl
-  expires_paces s e i = i
-
-  -- so any call but a poll leaves the timer, or stops it
+  -- so it is by any call but a poll
   other_paces : (p : Policy) (e : End) (theirs : List (List ℕ)) (call : Call) (a : Answer) → is_poll call ≡ false → Paces o e → Paces o (after_call p e theirs call a)
-  other_paces p e theirs call a other i = by_plain_call p e theirs (Paces o) call a keep
-    where
-      keep : Plain p e call (Paces o)
-      keep (cases.times now expiry) may = by_timers p.words (Paces o) (Paces o) judged_paces expires_paces (λ f j. j) (λ f j. inl refl) expiry (with_closing e (ticked e.closing now)) i
-      keep (cases.polls now) is = cc
-      keep (cases.hears arrival d) may = by_received (Paces o) receives p e arrival d i
-      keep (cases.closes reason f now) may = inl refl
-      keep (cases.waits now b) may = by_waits (Paces o) b (with_closing e (ticked e.closing now)) (inl refl) i
-      keep (cases.changes_id a) may = by_next_id (Paces o) e a i (λ c. i) (λ c most. i)
-      keep c may = i
+  other_paces p e theirs call a other i = behind_call (Paces o) p e theirs call a (paces (cause_of call) (no_poll call other)) i
 
 -- ---- the clause
 

@@ -7,29 +7,20 @@ use Rattle.quic_machine.specs.declared.run.Call.{Call}
 use Rattle.quic_machine.specs.declared.run.Answer.{Answer}
 use Rattle.quic_machine.specs.Arrival.{Arrival}
 use Rattle.quic_machine.specs.Policy.{Policy}
-use Rattle.quic_machine.specs.Closing.{ticked}
 use Rattle.quic_machine.specs.Parts.{Path}
-use Rattle.quic_machine.specs.Tracking.{lost_by}
-use Rattle.quic_machine.specs.End.{End, with_closing, closed_by}
-use Rattle.quic_machine.specs.Acked.{verdict, losses_detected}
+use Rattle.quic_machine.specs.End.{End}
 use Rattle.quic_machine.specs.Receive.{take_frame}
 use Rattle.quic_machine.specs.Migration.{migrated}
-use Rattle.quic_machine.specs.Poll.{Polled}
-use Rattle.quic_machine.specs.Timeouts.{Expiry}
 use Rattle.quic_machine.specs.Machine.{after_delivered, after_call}
-use Rattle.quic_machine.specs.CallCases.{Plain, is_delivery, by_plain_call}
-use Rattle.quic_machine.specs.CallCases as cases
-use Rattle.quic_machine.specs.LeaveCases.{at_expiry, by_expired}
-use Rattle.quic_machine.specs.FrameCases.{packets_lost_keep, by_received}
-use Rattle.quic_machine.specs.PollCases.{at_poll, by_poll, composes}
+use Rattle.quic_machine.specs.CallCases.{is_delivery}
+use Rattle.quic_machine.specs.FrameCases.{by_received}
 use Rattle.quic_headline.specs.Telling.{Judging, measured_first}
-use Rattle.quic_headline.proofs.Packets.Apart.{by_waits, by_next_id}
-use Rattle.quic_headline.proofs.Packets.Closes.{by_closes}
-use Rattle.quic_headline.proofs.Packets.Probes.{may_leave}
-use Rattle.quic_headline.proofs.Packets.Searches.{losses_searched}
 use Rattle.quic_headline.proofs.Tellings.Acks.{IsSet, frame_set}
 use Rattle.quic_headline.proofs.Packets.Heard.{by_taken}
 use Rattle.quic_headline.proofs.Packets.Moved.{by_migrated}
+use Rattle.quic_headline.proofs.Packets.EndMoves.{Cause, cause_of, IsPacket, Keeps}
+use Rattle.quic_headline.proofs.Packets.EndMoves as moves
+use Rattle.quic_headline.proofs.Packets.ByMoves.{no_packet, behind_call}
 
 -- ---- calls that are no deliveries
 
@@ -37,34 +28,13 @@ use Rattle.quic_headline.proofs.Packets.Moved.{by_migrated}
 abbrev pub Measured : Path → Path → Type 0
 Measured p q = (q.first_after_rtt ≡ p.first_after_rtt) × (q.rtt ≡ p.rtt)
 
--- losses leave it
-losses_measured : (e : End) → Measured e.path (losses_detected e).path
-losses_measured e = losses_searched (λ (x : End). Measured e.path x.path) (λ d x i. i) (λ most x i. i) e (packets_lost_keep (λ (x : End). Measured e.path x.path) (λ m x i. i) (λ c x i. i) (lost_by (verdict e) e.tracking.packets) e (refl, refl))
+-- only an ACK frame measures one
+measured_kept : (path : Path) (by : Cause) → (IsPacket by → ⊥) → Keeps by (λ (x : End). Measured path x.path)
+measured_kept path by apart (moves.measured_as r first) x may i = absurd (apart may)
+measured_kept path by apart m x may i = i
 
-expired_measured : (words : ℕ → ℕ) (e : End) (now : ℕ) (expiry : Expiry) → Measured e.path (at_expiry words e now expiry).path
-expired_measured words e now = by_expired words e now (λ (x : End). Measured e.path x.path) (λ pending tracking timers waits asked runs packets. (refl, refl)) (λ pending timers waits asked runs. losses_measured (with_closing e (ticked e.closing now))) (λ x j. j)
-
--- and so does each such call
 pub call_measured : (p : Policy) (e : End) (theirs : List (List ℕ)) (call : Call) (a : Answer) → is_delivery call ≡ false → Measured e.path (after_call p e theirs call a).path
-call_measured p e theirs call a apart = by_plain_call p e theirs (λ (x : End). Measured e.path x.path) call a keep
-  where
-    keep : Plain p e call (λ (x : End). Measured e.path x.path)
-    keep (cases.times now expiry) may = expired_measured p.words e now expiry
-    keep (cases.polls now) may = by_poll p e now (λ (q : Polled). Measured e.path q.end.path) (record {
-      silent = (refl, refl);
-      failed = (refl, refl);
-      nothing = λ c. (refl, refl);
-      repeats = λ is. by_closes p (with_closing e (ticked e.closing now)) (λ (q : Polled). Measured e.path q.end.path) (refl, refl) (λ f goes. (refl, refl));
-      closes = λ reason c bound. by_closes p (closed_by reason (at_poll e now c)) (λ (q : Polled). Measured e.path q.end.path) (refl, refl) (λ f goes. (refl, refl));
-      gives = λ leaving c left is may ready some.
-          let x : End = at_poll e now c in
-          let path = (composes leaving x (may_leave e now leaving x ready)).path in
-          (ap (λ (q : Path). q.first_after_rtt) path, ap (λ (q : Path). q.rtt) path);
-    })
-    keep (cases.hears arrival d) is = cc
-    keep (cases.waits now b) may = by_waits (λ (x : End). Measured e.path x.path) b (with_closing e (ticked e.closing now)) (refl, refl) (refl, refl)
-    keep (cases.changes_id a) may = by_next_id (λ (x : End). Measured e.path x.path) e a (refl, refl) (λ c. (refl, refl)) (λ c most. (refl, refl))
-    keep c may = (refl, refl)
+call_measured p e theirs call a apart = behind_call (λ (x : End). Measured e.path x.path) p e theirs call a (measured_kept e.path (cause_of call) (no_packet call apart)) (refl, refl)
 
 -- ---- a delivery
 

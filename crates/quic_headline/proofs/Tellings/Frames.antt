@@ -23,7 +23,8 @@ use Rattle.quic_headline.proofs.Packets.Waited.{AreWaited, waited_filter}
 use Rattle.quic_headline.proofs.Packets.Flying.{Tells, Waits, held, apart_filter, above_same, counted, frames_fly}
 use Rattle.quic_headline.proofs.Sizes.Moving.{Moves, moving_flies}
 use Rattle.quic_headline.proofs.Marking.Judged.{IsMarked}
-use Rattle.quic_headline.proofs.Marking.Frames.{one_passed, frame_marked}
+use Rattle.quic_headline.proofs.Marking.Frames.{frame_marked}
+use Rattle.quic_headline.proofs.Packets.Folds.{one_passed}
 use Rattle.quic_headline.proofs.Tellings.Asked.{IsUnasked, frame_unasked}
 use Rattle.quic_headline.proofs.Tellings.Acks.{IsSet, frame_set, named_told}
 

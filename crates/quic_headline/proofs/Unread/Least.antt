@@ -186,7 +186,7 @@ frame_resets id (f ∷ fs) is = elim (or_cases (resets_stream id f) (list_any (r
     one (reset_stream g) here = (g, inl refl, eqb-true g.id id here)
     one g here = cc
 
-was_cut : (id : ℕ) (ps : List Packet) → was_reset id ps ≡ true → (f : ResetStreamValue) × WasIn ps (reset_stream f) × (f.id ≡ id)
+pub was_cut : (id : ℕ) (ps : List Packet) → was_reset id ps ≡ true → (f : ResetStreamValue) × WasIn ps (reset_stream f) × (f.id ≡ id)
 was_cut id [] is = cc
 was_cut id (p ∷ ps) is = elim (or_cases (list_any (resets_stream id) p.frames) (was_reset id ps) is) [
   | inl here ↦ (let found = frame_resets id p.frames here in (found.0, record { packet = p; was_taken = inl refl; carried = found.1 }, found.2))

@@ -11,7 +11,9 @@ use Rattle.quic_headline.proofs.Amounts.Blocked.{blocked_say}
 use Rattle.quic_headline.proofs.Amounts.Clause.{writes_take_what_limits_allow}
 use Rattle.quic_headline.proofs.Amounts.InOrder.{opens_in_order}
 use Rattle.quic_headline.proofs.Amounts.Opening.{opening_is_exact}
-use Rattle.quic_headline.proofs.Amounts.Stopped.{stopped_take_nothing}
+use Rattle.quic_headline.proofs.Amounts.Buffers.{buffers_are_counted}
+use Rattle.quic_headline.proofs.Amounts.Closed.{closed_take_nothing}
+use Rattle.quic_headline.proofs.Amounts.Stopped.{stopped_only_where_asked, stopped_take_nothing}
 use Rattle.quic_headline.proofs.Amounts.PeerLimits.{limits_are_the_peers}
 use Rattle.quic_headline.proofs.AppLimited.Clause.{controllers_are_told}
 use Rattle.quic_headline.proofs.Begins.Clause.{waiting_begins}
@@ -19,6 +21,7 @@ use Rattle.quic_headline.proofs.Causes.Applied.{application_closed}
 use Rattle.quic_headline.proofs.Causes.Followed.{peer_closed}
 use Rattle.quic_headline.proofs.Causes.Idled.{idle_expired}
 use Rattle.quic_headline.proofs.Causes.Limited.{key_limited}
+use Rattle.quic_headline.proofs.Causes.OnlyCloses.{closes_go_alone}
 use Rattle.quic_headline.proofs.Causes.Owed.{closes_are_owed, drained_are_silent, owed_closes_go}
 use Rattle.quic_headline.proofs.Causes.Pieces.{too_many_came}
 use Rattle.quic_headline.proofs.Causes.Reasons.{closed_has_a_reason}
@@ -42,14 +45,17 @@ use Rattle.quic_headline.proofs.Events.Mail.{messages_are_told}
 use Rattle.quic_headline.proofs.Events.Openings.{openings_are_told}
 use Rattle.quic_headline.proofs.Events.Readables.{readables_are_told}
 use Rattle.quic_headline.proofs.Events.Writables.{writables_are_told}
+use Rattle.quic_headline.proofs.Halves.Nexts.{reads_answer}
 use Rattle.quic_headline.proofs.Halves.Spelled.{streams_say}
 use Rattle.quic_headline.proofs.Held.Clause.{polls_send_messages, polls_send_what_waits}
 use Rattle.quic_headline.proofs.Held.Control.{control_goes, retirements_go}
 use Rattle.quic_headline.proofs.Held.Limits.{limits_go}
 use Rattle.quic_headline.proofs.Held.Threefold.{threefold}
 use Rattle.quic_headline.proofs.Marking.Clause.{marks_go}
+use Rattle.quic_headline.proofs.Messages.Let.{sends_are_let}
 use Rattle.quic_headline.proofs.Messages.Lists.{messages_go}
 use Rattle.quic_headline.proofs.Messages.Order.{messages_go_in_order}
+use Rattle.quic_headline.proofs.Messages.Inbox.{receives_oldest}
 use Rattle.quic_headline.proofs.Moves.Changes.{path_changes_exactly}
 use Rattle.quic_headline.proofs.Moves.Clause.{drops_other_addresses, goes_to_path}
 use Rattle.quic_headline.proofs.NextIds.Clause.{no_id_is_exact, too_many_is_exact}
@@ -63,6 +69,7 @@ use Rattle.quic_headline.proofs.Rest.Delivered.{delivered_at_rest, done_at_rest}
 use Rattle.quic_headline.proofs.Rest.Control.{resets_at_rest, stops_at_rest, retirements_at_rest, limits_at_rest, stream_limits_at_rest}
 use Rattle.quic_headline.proofs.Rest.Owed.{nothing_owed_at_rest}
 use Rattle.quic_headline.proofs.Settled.Clause.{finished_is_told}
+use Rattle.quic_headline.proofs.Sizes.Follows.{searches_rest, sizes_follow}
 use Rattle.quic_headline.proofs.Spread.Clause.{pacer_is_of_history}
 use Rattle.quic_headline.proofs.Spread.Hastens.{probes_hasten}
 use Rattle.quic_headline.proofs.Spread.PingsGo.{pings_go}
@@ -76,6 +83,7 @@ use Rattle.quic_headline.proofs.Timers.IdleMoments.{idle_moments}
 use Rattle.quic_headline.proofs.Timers.PathMoments.{path_moments}
 use Rattle.quic_headline.proofs.Timers.Shown.{views_tell}
 use Rattle.quic_headline.proofs.Unread.Clause.{blocked_only_for_unread}
+use Rattle.quic_headline.proofs.Unread.Heeded.{resets_are_heeded}
 use Rattle.quic_headline.proofs.Unread.OpeningClause.{none_opened_only_for_undone}
 use Rattle.quic_headline.proofs.Validated.Clause.{answers_validate, validated_by_answer}
 use Rattle.quic_headline.proofs.Validated.Goes.{challenges_go}
@@ -90,9 +98,11 @@ returns c = λ r end honest is. (let heard = heard_nothing r honest in record {
     ordered_prefix = ordered_prefix r end honest is;
     slices = slices r end honest is;
     once = once r end honest is;
+    reads_answer = reads_answer r end honest is;
     end_after_all = end_after_all r end honest is;
     blocked_only_without_bytes = blocked_only_without_bytes r end honest is;
     resets_are_told = resets_are_told r end honest is;
+    resets_are_heeded = resets_are_heeded r end honest is;
     finished_means_arrived = finished_means_arrived r end honest is;
     finished_is_told = finished_is_told r end honest is;
   };
@@ -105,12 +115,15 @@ returns c = λ r end honest is. (let heard = heard_nothing r honest in record {
     reads_are_over = reads_are_over r end honest is;
     writes_are_allowed = writes_are_allowed r end honest is;
     stopped_take_nothing = stopped_take_nothing r end honest is;
+    stopped_only_where_asked = stopped_only_where_asked r end honest is;
+    closed_take_nothing = closed_take_nothing r end honest is;
     resets_are_allowed = resets_are_allowed r end honest is;
   };
   limits = record {
     limits_are_the_peers = limits_are_the_peers r end honest is;
     opening_is_exact = opening_is_exact r end honest is;
     writes_take_what_limits_allow = writes_take_what_limits_allow r end honest is;
+    buffers_are_counted = buffers_are_counted r end honest is;
     blocked_say = blocked_say r end honest is;
     grown_limits_wait = grown_limits_wait r end honest is;
     credit_is_bounded = credit_is_bounded r end honest is;
@@ -132,6 +145,8 @@ returns c = λ r end honest is. (let heard = heard_nothing r honest in record {
   };
   messages = record {
     messages_at_most_once = messages_at_most_once r end honest is;
+    sends_are_let = sends_are_let r end honest is;
+    receives_oldest = receives_oldest r end honest is;
     polls_send_messages = polls_send_messages r end honest is heard;
     messages_go = messages_go r end honest is heard;
     messages_go_in_order = messages_go_in_order r end honest is;
@@ -179,6 +194,8 @@ returns c = λ r end honest is. (let heard = heard_nothing r honest in record {
     datagrams_are_sized = datagrams_are_sized r end honest is;
     size_is_of_history = size_is_of_history r end honest is;
     sizes_move = sizes_move r end honest is;
+    sizes_follow = sizes_follow r end honest is;
+    searches_rest = searches_rest r end honest is;
   };
   numbers = record {
     numbers_rise = numbers_rise r end honest is;
@@ -231,6 +248,7 @@ returns c = λ r end honest is. (let heard = heard_nothing r honest in record {
   };
   closes = record {
     closes_say_why = closes_say_why r end honest is;
+    closes_go_alone = closes_go_alone r end honest is;
     peer_closes_come = peer_closes_come r end honest is;
     closes_are_owed = closes_are_owed r end honest is;
     owed_closes_go = owed_closes_go r end honest is;
