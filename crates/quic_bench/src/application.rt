@@ -2,7 +2,8 @@
 use crate::endpoint::Endpoint;
 use crate::fault::Fault;
 use quic_connection::{
-    Chunk, Chunks, Dir, Event, ReadError, ReadableError, StreamEvent, StreamId, WriteError,
+    Chunk, Chunks, Dir, Event, ReadError, ReadableError, StreamEvent, StreamId, UpdateError,
+    WriteError,
 };
 use std::alloc::{AllocError, Global};
 use std::mem;
@@ -65,6 +66,21 @@ pub fn write_all(end: &mut impl Endpoint, id: StreamId, data: &[u8]) -> Result<(
         return Err(Fault::WriteBlocked);
     }
     finish(end, id)
+}
+
+/// Gives a stream a priority: streams of a higher one are sent first.
+///
+/// # Errors
+///
+/// - [`Fault::ClosedStream`]: there is no such stream, or it was finished or reset. Nothing
+///   changes.
+/// - [`Fault::Memory`]: an allocation fails. Nothing changes.
+pub fn prioritize(end: &mut impl Endpoint, id: StreamId, priority: i32) -> Result<(), Fault> {
+    match end.send_stream(id).set_priority(priority) {
+        Ok(()) => Ok(()),
+        Err(UpdateError::ClosedStream) => Err(Fault::ClosedStream),
+        Err(UpdateError::Memory) => Err(Fault::Memory),
+    }
 }
 
 /// Ends a stream.

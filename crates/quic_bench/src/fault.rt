@@ -9,7 +9,7 @@ use thiserror::Error;
 
 /// Why work stops. It is handed on by each call, so it has no text and no number of its own, and
 /// fits into a register.
-#[derive(Clone, Copy, Debug, PartialEq, Eq, Error)]
+#[derive(Clone, Copy, Debug, Error)]
 pub enum Fault {
     /// Out of memory: an allocation failed.
     #[error("out of memory")]

@@ -120,12 +120,8 @@ fn told_kb<R: Files + Alloc>(rt: &R, name: &str) -> u64 {
     }
 }
 
-/// The number in the line of this name.
+/// The number behind this name.
 fn told_in(status: &str, name: &str) -> Option<u64> {
-    for line in status.lines() {
-        if line.starts_with(name) {
-            return line.split_whitespace().nth(1)?.parse::<u64>().ok();
-        }
-    }
-    None
+    let (_, behind) = status.split_once(name)?;
+    behind.split_whitespace().next()?.parse::<u64>().ok()
 }

@@ -19,6 +19,8 @@
 //!   has by then, and how many black holes it found.
 //! - `streams count= size= open= idle=`: so many streams of so many bytes, `open` at once, beside
 //!   `idle` that stay open.
+//! - `prio count= size= levels=`: so many streams of so many bytes, all at once, of so many
+//!   priorities.
 //! - `idle count=`: so many streams are opened, have a byte each, and stay open.
 //! - `requests count= size= answer= open=`: so many two-way streams, `open` at once, with `size`
 //!   bytes one way and then `answer` bytes the other way.
@@ -89,61 +91,61 @@ use std::time::CpuClock;
 /// What `check` does: each line is a task. Where slow start ends on the three fat networks, more
 /// than 2048 pieces of the stream wait. With 17,000 streams beside an idle one, its id falls out of
 /// the ring in which the others stand.
-const CHECKS: [&str; 53] = [
-    "bulk bytes=300001 verify=1",
-    "bulk bytes=300001 verify=1 loss=50 reorder=50 seed=7",
-    "bulk bytes=300001 verify=1 threshold=9",
-    "bulk bytes=1000001 verify=1 rate=10000000 queue=12000",
-    "bulk bytes=67108864 window=32000000 rate=1000000000 delay=50",
-    "bulk bytes=33554432 window=16000000 rate=300000000 delay=50",
-    "bulk bytes=33554432 window=16000000 rate=100000000 delay=100",
-    "bulk bytes=20001 verify=1 write=50 read=50 idle=3",
-    "unread bytes=100000 window=100000",
-    "duplex bytes=100000",
-    "growth bytes=100000 times=2 batch=32",
-    "shrink first=1200",
-    "shrink",
-    "shrink first=1200 back=1",
-    "shrink back=1",
-    "shrink first=1200 loss=20 seed=1",
-    "shrink loss=20 seed=1",
-    "shrink first=1200 loss=20 seed=1 back=1",
-    "shrink loss=20 seed=1 back=1",
-    "streams count=200 size=100 open=10",
-    "streams count=200 size=100 open=10 idle=200",
-    "streams count=17000 size=1 open=100 idle=1",
-    "idle count=200",
-    "requests count=200 open=10",
-    "messages count=500 size=100 ahead=100",
-    "hostile honest count=20",
-    "hostile unopened count=20",
-    "hostile repeated count=20",
-    "hostile forgotten count=2",
-    "hostile gaps count=100 size=0",
-    "hostile pieces-up count=12",
-    "hostile pieces-down count=12",
-    "hostile pieces-spread count=12",
-    "hostile pieces-joined count=24",
-    "hostile pieces-covered count=20",
-    "hostile padding count=2",
-    "hostile pings count=2",
-    "hostile at-once count=2",
-    "hostile bytes count=2",
-    "hostile starts count=2",
-    "hostile resets count=2",
-    "hostile stops count=4 acks=1",
-    "hostile limits count=4 streams=100",
-    "hostile challenges count=4 acks=1",
-    "hostile new-ids count=4 acks=1",
-    "hostile longer-ids count=1",
-    "hostile late-ids count=4 acks=1",
-    "hostile retirements count=4 acks=1",
-    "hostile empty-messages count=2 reads=0",
-    "hostile byte-messages count=2",
-    "hostile streams count=2 size=0",
-    "hostile mutated count=2000 streams=4",
-    "floor count=1000",
-];
+const CHECKS: &str = "\
+bulk bytes=300001 verify=1
+bulk bytes=300001 verify=1 loss=50 reorder=50 seed=7
+bulk bytes=300001 verify=1 threshold=9
+bulk bytes=1000001 verify=1 rate=10000000 queue=12000
+bulk bytes=67108864 window=32000000 rate=1000000000 delay=50
+bulk bytes=33554432 window=16000000 rate=300000000 delay=50
+bulk bytes=33554432 window=16000000 rate=100000000 delay=100
+bulk bytes=20001 verify=1 write=50 read=50 idle=3
+unread bytes=100000 window=100000
+duplex bytes=100000
+growth bytes=100000 times=2 batch=32
+shrink first=1200
+shrink
+shrink first=1200 back=1
+shrink back=1
+shrink first=1200 loss=20 seed=1
+shrink loss=20 seed=1
+shrink first=1200 loss=20 seed=1 back=1
+shrink loss=20 seed=1 back=1
+streams count=200 size=100 open=10
+streams count=200 size=100 open=10 idle=200
+streams count=17000 size=1 open=100 idle=1
+prio count=200
+idle count=200
+requests count=200 open=10
+messages count=500 size=100 ahead=100
+hostile honest count=20
+hostile unopened count=20
+hostile repeated count=20
+hostile forgotten count=2
+hostile gaps count=100 size=0
+hostile pieces-up count=12
+hostile pieces-down count=12
+hostile pieces-spread count=12
+hostile pieces-joined count=24
+hostile pieces-covered count=20
+hostile padding count=2
+hostile pings count=2
+hostile at-once count=2
+hostile bytes count=2
+hostile starts count=2
+hostile resets count=2
+hostile stops count=4 acks=1
+hostile limits count=4 streams=100
+hostile challenges count=4 acks=1
+hostile new-ids count=4 acks=1
+hostile longer-ids count=1
+hostile late-ids count=4 acks=1
+hostile retirements count=4 acks=1
+hostile empty-messages count=2 reads=0
+hostile byte-messages count=2
+hostile streams count=2 size=0
+hostile mutated count=2000 streams=4
+floor count=1000";
 
 /// Whether figures that vary are printed.
 #[derive(Clone, Copy, PartialEq, Eq)]
@@ -177,12 +179,7 @@ fn work(
         Workload::Bulk { plan } => bulk::run(rt, pair, &plan),
         Workload::Growth { bytes, .. } => bulk::run(rt, pair, &Plan::of(bytes)),
         Workload::Shrink { plan } => shrink::run(rt, pair, &plan),
-        Workload::Streams {
-            count,
-            size,
-            open,
-            idle,
-        } => streams::run(rt, pair, count, size, open, idle),
+        Workload::Streams { plan } => streams::run(rt, pair, &plan),
         Workload::Requests {
             count,
             size,
@@ -229,13 +226,27 @@ fn repeat(
     Ok(())
 }
 
+/// Does what a line asks for: whether it is known.
+fn perform_line<E: Endpoint>(
+    rt: &(impl Runtime + CpuClock + AllocGlobal),
+    form: Form,
+    line: &str,
+) -> Result<bool> {
+    match Task::read(rt.alloc(), line)? {
+        Some(task) => {
+            perform::<E>(rt, form, &task)?;
+            Ok(true)
+        }
+        None => Ok(false),
+    }
+}
+
 /// Does a little of each workload.
 fn check<E: Endpoint>(rt: &(impl Runtime + CpuClock + AllocGlobal)) -> Result<bool> {
-    for line in CHECKS {
-        let Some(task) = Task::read(rt.alloc(), line)? else {
+    for line in CHECKS.lines() {
+        if !perform_line::<E>(rt, Form::Counts, line)? {
             return Ok(false);
-        };
-        perform::<E>(rt, Form::Counts, &task)?;
+        }
     }
     Ok(true)
 }
@@ -253,14 +264,10 @@ fn arguments<R: Runtime + AllocGlobal>(rt: &R) -> Result<String> {
 /// Does what the arguments ask for: whether it is known.
 fn run<E: Endpoint>(rt: &(impl Runtime + CpuClock + AllocGlobal)) -> Result<bool> {
     let line = arguments(rt)?;
-    if line.as_str() == "check " {
-        return check::<E>(rt);
+    match line.as_str() {
+        "check " => check::<E>(rt),
+        line => perform_line::<E>(rt, Form::All, line),
     }
-    let Some(task) = Task::read(rt.alloc(), line.as_str())? else {
-        return Ok(false);
-    };
-    perform::<E>(rt, Form::All, &task)?;
-    Ok(true)
 }
 
 fn main(rt: HostRuntime) -> ExitCode {

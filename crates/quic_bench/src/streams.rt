@@ -1,5 +1,7 @@
 //! Streams are opened, written, finished and read to their ends, beside others that stay open.
-use crate::application::{Events, PATTERN, Reader, open, pattern, take_events, write, write_all};
+use crate::application::{
+    Events, PATTERN, Reader, open, pattern, prioritize, take_events, write, write_all,
+};
 use crate::endpoint::Endpoint;
 use crate::fault::Fault;
 use crate::figures::Figures;
@@ -7,6 +9,10 @@ use crate::pair::{Pair, Work};
 use quic_connection::Dir;
 use std::rt::Clock;
 use std::time::CpuClock;
+
+/// By how many levels the priority of a stream lies above that of the one before, around the
+/// highest.
+const STRIDE: u64 = 7;
 
 /// So many streams are opened and have a byte each, and stay open.
 #[derive(Drop)]
@@ -52,11 +58,12 @@ impl Work for Idle {
     }
 }
 
-/// So many streams have so many bytes each, so many at once.
+/// So many streams have so many bytes each, so many at once, of so many priorities.
 #[derive(Drop)]
 struct Streams {
     count: u64,
     at_once: u64,
+    levels: u64,
     data: Vec<u8>,
     opened: u64,
     events: Events,
@@ -64,11 +71,16 @@ struct Streams {
 }
 
 impl Streams {
-    /// Opens a stream, writes all its bytes and finishes it: whether one may be opened.
+    /// Opens a stream, gives it its priority if there are several, writes all its bytes and
+    /// finishes it: whether one may be opened.
     fn send_one(&mut self, end: &mut impl Endpoint) -> Result<bool, Fault> {
         let Some(id) = open(end, Dir::Uni) else {
             return Ok(false);
         };
+        if self.levels > 1 {
+            let level = self.opened.wrapping_mul(STRIDE) % self.levels;
+            prioritize(end, id, i32::try_from(level).unwrap_or(i32::MAX))?;
+        }
         write_all(end, id, &self.data)?;
         self.opened = self.opened.wrapping_add(1);
         Ok(true)
@@ -105,7 +117,22 @@ impl Work for Streams {
     }
 }
 
-/// So many streams of so many bytes, so many at once, beside so many that are held open.
+/// Streams are sent.
+#[derive(Clone, Copy)]
+pub struct Plan {
+    /// How many.
+    pub count: u64,
+    /// How many bytes each has.
+    pub size: u64,
+    /// How many are open at once.
+    pub open: u64,
+    /// How many others are held open.
+    pub idle: u64,
+    /// How many priorities they have; those of a single one aren't given any.
+    pub levels: u64,
+}
+
+/// Streams are sent and read.
 ///
 /// # Errors
 ///
@@ -115,18 +142,16 @@ impl Work for Streams {
 pub fn run<R: Clock + CpuClock + AllocGlobal>(
     rt: &R,
     pair: &mut Pair<impl Endpoint>,
-    count: u64,
-    size: u64,
-    at_once: u64,
-    idle: u64,
+    plan: &Plan,
 ) -> Result<Figures, Fault> {
-    hold_open(pair, idle)?;
+    hold_open(pair, plan.idle)?;
     let mut data = pattern(rt.alloc())?;
     // A task has no size above that of the pattern.
-    data.truncate(size.min(PATTERN as u64) as usize);
+    data.truncate(plan.size.min(PATTERN as u64) as usize);
     let mut work = Streams {
-        count,
-        at_once,
+        count: plan.count,
+        at_once: plan.open,
+        levels: plan.levels,
         data,
         opened: 0,
         events: Events::new(),

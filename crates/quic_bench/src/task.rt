@@ -4,7 +4,7 @@ use crate::bulk::Plan;
 use crate::hostile::attack::{self, Attack};
 use crate::lane::{LEAST_MTU, Link, ONE_WAY};
 use crate::pair::{Limits, Network};
-use crate::shrink;
+use crate::{shrink, streams};
 use anyhow::Result;
 use quic_wire_core::VarInt;
 use std::alloc::{AllocError, Global};
@@ -19,6 +19,46 @@ const FOUND_MTU: u16 = 1452;
 
 /// How many nanoseconds a millisecond has.
 const MILLISECOND: u64 = 1_000_000;
+
+/// The name of a workload.
+#[derive(Clone, Copy)]
+enum Kind {
+    Bulk,
+    Unread,
+    Duplex,
+    Growth,
+    Shrink,
+    Streams,
+    Priorities,
+    Idle,
+    Requests,
+    Messages,
+    Connections,
+    Hostile,
+    Floor,
+}
+
+impl Kind {
+    /// The one that a word says, if there is one.
+    fn read(word: &str) -> Option<Self> {
+        Some(match word {
+            "bulk" => Kind::Bulk,
+            "unread" => Kind::Unread,
+            "duplex" => Kind::Duplex,
+            "growth" => Kind::Growth,
+            "shrink" => Kind::Shrink,
+            "streams" => Kind::Streams,
+            "prio" => Kind::Priorities,
+            "idle" => Kind::Idle,
+            "requests" => Kind::Requests,
+            "messages" => Kind::Messages,
+            "connections" => Kind::Connections,
+            "hostile" => Kind::Hostile,
+            "floor" => Kind::Floor,
+            _ => return None,
+        })
+    }
+}
 
 /// A workload, with its values.
 #[derive(Clone, Copy)]
@@ -36,12 +76,9 @@ pub enum Workload {
     Shrink {
         plan: shrink::Plan,
     },
-    /// So many streams of so many bytes, so many open at once, beside so many that stay open.
+    /// Streams, of one priority or of several.
     Streams {
-        count: u64,
-        size: u64,
-        open: u64,
-        idle: u64,
+        plan: streams::Plan,
     },
     /// So many requests of so many bytes on two-way streams, so many open at once, each with an
     /// answer of so many.
@@ -176,10 +213,27 @@ impl Values {
     /// Streams, as they say.
     fn streams(&mut self) -> Workload {
         Workload::Streams {
-            count: self.take("count", 100_000),
-            size: self.take("size", 100),
-            open: self.take("open", 100),
-            idle: self.take("idle", 0),
+            plan: streams::Plan {
+                count: self.take("count", 100_000),
+                size: self.take("size", 100),
+                open: self.take("open", 100),
+                idle: self.take("idle", 0),
+                levels: 1,
+            },
+        }
+    }
+
+    /// Streams of several priorities, all at once, as they say.
+    fn priorities(&mut self) -> Workload {
+        let count = self.take("count", 1000);
+        Workload::Streams {
+            plan: streams::Plan {
+                count,
+                size: self.take("size", 1000),
+                open: count,
+                idle: 0,
+                levels: self.take("levels", 10),
+            },
         }
     }
 
@@ -197,41 +251,41 @@ impl Values {
         }
     }
 
-    /// The workload of this name with its values, if there is one; of `hostile` with this attack.
-    fn workload(&mut self, name: &str, attack: Option<Attack>) -> Option<Workload> {
-        Some(match name {
-            "bulk" => Workload::Bulk {
+    /// The workload of this kind, as they say; of `hostile` with this attack, and none without one.
+    fn workload(&mut self, kind: Kind, attack: Option<Attack>) -> Option<Workload> {
+        Some(match kind {
+            Kind::Bulk => Workload::Bulk {
                 plan: self.plan(64 << 20, false),
             },
-            "unread" => Workload::Bulk {
+            Kind::Unread => Workload::Bulk {
                 plan: self.plan(1_200_000, true),
             },
-            "requests" => self.requests(),
-            "duplex" => Workload::Duplex {
+            Kind::Requests => self.requests(),
+            Kind::Duplex => Workload::Duplex {
                 bytes: self.take("bytes", 64 << 20),
             },
-            "idle" => Workload::Idle {
+            Kind::Idle => Workload::Idle {
                 count: self.take("count", 10_000),
             },
-            "connections" => Workload::Connections {
+            Kind::Connections => Workload::Connections {
                 count: self.take("count", 1000),
             },
-            "growth" => Workload::Growth {
+            Kind::Growth => Workload::Growth {
                 bytes: self.take("bytes", 16 << 20),
                 times: self.take("times", 4),
             },
-            "shrink" => self.shrink(),
-            "streams" => self.streams(),
-            "messages" => Workload::Messages {
+            Kind::Shrink => self.shrink(),
+            Kind::Streams => self.streams(),
+            Kind::Priorities => self.priorities(),
+            Kind::Messages => Workload::Messages {
                 count: self.take("count", 1_000_000),
                 size: self.take("size", 100),
                 ahead: self.take("ahead", 10_000),
             },
-            "floor" => Workload::Floor {
+            Kind::Floor => Workload::Floor {
                 count: self.take("count", 1_000_000),
             },
-            "hostile" => self.hostile(attack?),
-            _ => return None,
+            Kind::Hostile => self.hostile(attack?),
         })
     }
 
@@ -257,14 +311,37 @@ impl Values {
             delay: delay.saturating_mul(MILLISECOND),
         }
     }
+
+    /// What is asked for of this kind, of `hostile` with this attack; none where they have a name
+    /// that isn't known, or the work can't be done.
+    fn task(&mut self, kind: Kind, attack: Option<Attack>) -> Option<Task> {
+        let workload = self.workload(kind, attack)?;
+        let task = Task {
+            workload,
+            network: self.network(),
+            link: self.link(workload.mtu()),
+            window: self.take("window", DEFAULT_WINDOW),
+            threshold: self.given.remove("threshold"),
+        };
+        if self.given.is_empty() && task.can_be_done() {
+            Some(task)
+        } else {
+            None
+        }
+    }
 }
 
-/// The attack that the word behind the name `hostile` says.
-fn attack_in(name: &str, words: &mut SplitWhitespace<'_>) -> Option<Attack> {
-    if name != "hostile" {
-        return None;
+/// The kind of workload that the next word says.
+fn kind_in(words: &mut SplitWhitespace<'_>) -> Option<Kind> {
+    Kind::read(words.next()?)
+}
+
+/// The attack that the next word says, for a workload that is one.
+fn attack_in(kind: Kind, words: &mut SplitWhitespace<'_>) -> Option<Attack> {
+    match kind {
+        Kind::Hostile => Attack::read(words.next()?),
+        _ => None,
     }
-    Attack::read(words.next()?)
 }
 
 impl Task {
@@ -276,28 +353,14 @@ impl Task {
     /// - [`AllocError`]: an allocation fails.
     pub fn read(alloc: Global, line: &str) -> Result<Option<Self>, AllocError> {
         let mut words = line.split_whitespace();
-        let Some(name) = words.next() else {
+        let Some(kind) = kind_in(&mut words) else {
             return Ok(None);
         };
-        let attack = attack_in(name, &mut words);
+        let attack = attack_in(kind, &mut words);
         let Some(mut values) = Values::read(alloc, words)? else {
             return Ok(None);
         };
-        let Some(workload) = values.workload(name, attack) else {
-            return Ok(None);
-        };
-        let task = Task {
-            workload,
-            network: values.network(),
-            link: values.link(workload.mtu()),
-            window: values.take("window", DEFAULT_WINDOW),
-            threshold: values.given.remove("threshold"),
-        };
-        if values.given.is_empty() && task.can_be_done() {
-            Ok(Some(task))
-        } else {
-            Ok(None)
-        }
+        Ok(values.task(kind, attack))
     }
 
     /// Whether the work can be done as it is asked for: it has an end (lost messages don't come
@@ -310,7 +373,7 @@ impl Task {
         }
         match self.workload {
             Workload::Bulk { plan } => plan.can_be_done(self.window),
-            Workload::Streams { size, .. } => size <= PATTERN as u64,
+            Workload::Streams { plan } => plan.size <= PATTERN as u64,
             Workload::Requests { size, answer, .. } => {
                 size <= PATTERN as u64 && answer <= PATTERN as u64
             }
@@ -345,8 +408,9 @@ impl Task {
     /// count, and the ends of the few others don't raise it so far.
     fn streams(&self) -> u64 {
         match self.workload {
-            Workload::Streams { open, idle: 0, .. } | Workload::Requests { open, .. } => open,
-            Workload::Streams { open, idle, .. } => open.saturating_add(idle).saturating_mul(2),
+            Workload::Streams { plan } if plan.idle == 0 => plan.open,
+            Workload::Streams { plan } => plan.open.saturating_add(plan.idle).saturating_mul(2),
+            Workload::Requests { open, .. } => open,
             Workload::Bulk { plan } => plan.idle.saturating_add(100),
             Workload::Idle { count } => count,
             Workload::Hostile { plan } => plan.streams,
@@ -372,7 +436,7 @@ impl Task {
             Workload::Connections { .. } => "connections",
             Workload::Growth { .. } => "growth",
             Workload::Shrink { .. } => "shrink",
-            Workload::Streams { .. } => "streams",
+            Workload::Streams { plan } => if plan.levels > 1 { "prio" } else { "streams" },
             Workload::Messages { .. } => "messages",
             Workload::Hostile { plan } => plan.attack.name(),
             Workload::Floor { .. } => "floor",

@@ -62,42 +62,42 @@ pub enum Attack {
     Mutated,
 }
 
-/// All of them, by their names.
-const NAMES: [(&str, Attack); 27] = [
-    ("honest", Attack::Honest),
-    ("unopened", Attack::Unopened),
-    ("repeated", Attack::Repeated),
-    ("forgotten", Attack::Forgotten),
-    ("gaps", Attack::Gaps),
-    ("pieces-up", Attack::PiecesUp),
-    ("pieces-down", Attack::PiecesDown),
-    ("pieces-spread", Attack::PiecesSpread),
-    ("pieces-joined", Attack::PiecesJoined),
-    ("pieces-covered", Attack::PiecesCovered),
-    ("padding", Attack::Padding),
-    ("pings", Attack::Pings),
-    ("at-once", Attack::AtOnce),
-    ("bytes", Attack::Bytes),
-    ("starts", Attack::Starts),
-    ("resets", Attack::Resets),
-    ("stops", Attack::Stops),
-    ("limits", Attack::Limits),
-    ("challenges", Attack::Challenges),
-    ("new-ids", Attack::NewIds),
-    ("longer-ids", Attack::LongerIds),
-    ("late-ids", Attack::LateIds),
-    ("retirements", Attack::Retirements),
-    ("empty-messages", Attack::EmptyMessages),
-    ("byte-messages", Attack::ByteMessages),
-    ("streams", Attack::Streams),
-    ("mutated", Attack::Mutated),
+/// All of them.
+const ALL: [Attack; 27] = [
+    Attack::Honest,
+    Attack::Unopened,
+    Attack::Repeated,
+    Attack::Forgotten,
+    Attack::Gaps,
+    Attack::PiecesUp,
+    Attack::PiecesDown,
+    Attack::PiecesSpread,
+    Attack::PiecesJoined,
+    Attack::PiecesCovered,
+    Attack::Padding,
+    Attack::Pings,
+    Attack::AtOnce,
+    Attack::Bytes,
+    Attack::Starts,
+    Attack::Resets,
+    Attack::Stops,
+    Attack::Limits,
+    Attack::Challenges,
+    Attack::NewIds,
+    Attack::LongerIds,
+    Attack::LateIds,
+    Attack::Retirements,
+    Attack::EmptyMessages,
+    Attack::ByteMessages,
+    Attack::Streams,
+    Attack::Mutated,
 ];
 
 impl Attack {
     /// The one of this name, if there is one.
     pub fn read(name: &str) -> Option<Self> {
-        for (known, attack) in NAMES {
-            if known == name {
+        for attack in ALL {
+            if attack.name() == name {
                 return Some(attack);
             }
         }
@@ -106,12 +106,35 @@ impl Attack {
 
     /// Its name.
     pub fn name(self) -> &'static str {
-        for (name, attack) in NAMES {
-            if attack == self {
-                return name;
-            }
+        match self {
+            Attack::Honest => "honest",
+            Attack::Unopened => "unopened",
+            Attack::Repeated => "repeated",
+            Attack::Forgotten => "forgotten",
+            Attack::Gaps => "gaps",
+            Attack::PiecesUp => "pieces-up",
+            Attack::PiecesDown => "pieces-down",
+            Attack::PiecesSpread => "pieces-spread",
+            Attack::PiecesJoined => "pieces-joined",
+            Attack::PiecesCovered => "pieces-covered",
+            Attack::Padding => "padding",
+            Attack::Pings => "pings",
+            Attack::AtOnce => "at-once",
+            Attack::Bytes => "bytes",
+            Attack::Starts => "starts",
+            Attack::Resets => "resets",
+            Attack::Stops => "stops",
+            Attack::Limits => "limits",
+            Attack::Challenges => "challenges",
+            Attack::NewIds => "new-ids",
+            Attack::LongerIds => "longer-ids",
+            Attack::LateIds => "late-ids",
+            Attack::Retirements => "retirements",
+            Attack::EmptyMessages => "empty-messages",
+            Attack::ByteMessages => "byte-messages",
+            Attack::Streams => "streams",
+            Attack::Mutated => "mutated",
         }
-        "hostile"
     }
 }
 
