@@ -1,24 +1,17 @@
 //! What an endpoint counts of frames, which no clause reads, and of its datagrams and its path.
-use crate::ends::{PEER, Pair, arrives, asking, event, sealed_for, stream, unset, with_pair};
+use crate::ends::{
+    Counts, PEER, Pair, Start, arrives, count, counted, event, sealed_for, stream, unset, with_pair,
+};
 use bytes::Bytes;
 use quic_connection::{
     Call, ConnectionStats, Dir, DropStats, Duration, FrameStats, Injection, Instant, PathStats,
     Received, RunEvent, Side, UdpStats, VarInt,
 };
-use std::alloc::AllocError;
-use std::process::Abort;
-use std::test::Fail;
+use std::alloc::Global;
 
 /// A time, in milliseconds.
 fn at(millis: u64) -> Instant {
     Instant::from_nanos(0) + Duration::from_millis(millis)
-}
-
-fn make_all(pair: &mut Pair, events: &[RunEvent]) -> Result<(), AllocError> {
-    for event in events {
-        pair.make(event)?;
-    }
-    Ok(())
 }
 
 /// One datagram of so many bytes.
@@ -80,73 +73,72 @@ fn came() -> ConnectionStats {
     }
 }
 
-/// The client writes `hello` on its first stream.
-fn writes() -> [RunEvent; 2] {
+/// The client writes `hello` on its first stream, and ends it; that comes in one datagram.
+fn whole_stream() -> [RunEvent; 5] {
     [
         event(Side::Client, Call::Open(Dir::Bi)),
-        event(
-            Side::Client,
-            Call::Write(stream(), Bytes::from_static(b"hello")),
-        ),
+        event(Side::Client, hello()),
+        event(Side::Client, Call::Finish(stream())),
+        event(Side::Client, Call::Poll(at(0))),
+        event(Side::Server, arrives(0)),
     ]
 }
 
-/// The client ends the stream behind these bytes, and they come in one datagram.
-fn assert_counted<R: Abort>(rt: &R, pair: &mut Pair) -> Result<(), Fail> {
-    make_all(pair, &writes())?;
-    make_all(
-        pair,
-        &[
-            event(Side::Client, Call::Finish(stream())),
-            event(Side::Client, Call::Poll(at(0))),
-            event(Side::Server, arrives(0)),
-        ],
-    )?;
-    assert!(rt; pair.ends.client.stats() == sent());
-    assert!(rt; pair.ends.server.stats() == came());
-    Ok(())
+/// The client writes `hello` on its first stream.
+fn hello() -> Call {
+    Call::Write(stream(), Bytes::from_static(b"hello"))
+}
+
+fn is_stream_counted(alloc: Global) -> bool {
+    match counted(alloc, Start::Usual, &whole_stream()) {
+        Some(counts) => counts.client == sent() && counts.server == came(),
+        None => false,
+    }
 }
 
 #[test]
-fn a_datagram_is_counted(rt: HostRuntime) -> Result<(), Fail> {
-    with_pair(rt.alloc(), unset(), unset(), true, |pair| {
-        assert_counted(&rt, pair)
-    })?
+fn a_datagram_is_counted(rt: HostRuntime) {
+    assert!(rt; is_stream_counted(rt.alloc()));
 }
 
-/// These frames went from either endpoint, and came to the other.
-fn assert_frames<R: Abort>(rt: &R, pair: &Pair, client: FrameStats, server: FrameStats) {
-    let (at_client, at_server) = (pair.ends.client.stats(), pair.ends.server.stats());
-    assert!(rt; at_client.frame_tx == client);
-    assert!(rt; at_server.frame_rx == client);
-    assert!(rt; at_server.frame_tx == server);
-    assert!(rt; at_client.frame_rx == server);
+/// Whether these frames went from either endpoint, and came to the other.
+fn are_frames(counts: Option<Counts>, client: &FrameStats, server: &FrameStats) -> bool {
+    match counts {
+        Some(counts) => {
+            counts.client.frame_tx == *client
+                && counts.server.frame_rx == *client
+                && counts.server.frame_tx == *server
+                && counts.client.frame_rx == *server
+        }
+        None => false,
+    }
 }
 
 /// A datagram of the client with PING, a message and bytes of a stream; one of the server, which
 /// acknowledges it and stops the stream; and the client's, which resets it and acknowledges that.
-/// The first one of either has its IDs.
-fn assert_each_counted<R: Abort>(rt: &R, pair: &mut Pair) -> Result<(), Fail> {
+fn stopped_stream() -> [RunEvent; 12] {
     let code = VarInt::from_u32(7);
-    make_all(pair, &writes())?;
-    make_all(
-        pair,
-        &[
-            event(Side::Client, Call::Ping),
-            event(
-                Side::Client,
-                Call::Send(Bytes::from_static(b"message"), false),
-            ),
-            event(Side::Client, Call::Poll(at(0))),
-            event(Side::Server, arrives(0)),
-            event(Side::Server, Call::Stop(stream(), code)),
-            event(Side::Server, Call::Poll(at(0))),
-            event(Side::Client, arrives(0)),
-            event(Side::Client, Call::Reset(stream(), code)),
-            event(Side::Client, Call::Poll(at(0))),
-            event(Side::Server, arrives(1)),
-        ],
-    )?;
+    [
+        event(Side::Client, Call::Open(Dir::Bi)),
+        event(Side::Client, hello()),
+        event(Side::Client, Call::Ping),
+        event(
+            Side::Client,
+            Call::Send(Bytes::from_static(b"message"), false),
+        ),
+        event(Side::Client, Call::Poll(at(0))),
+        event(Side::Server, arrives(0)),
+        event(Side::Server, Call::Stop(stream(), code)),
+        event(Side::Server, Call::Poll(at(0))),
+        event(Side::Client, arrives(0)),
+        event(Side::Client, Call::Reset(stream(), code)),
+        event(Side::Client, Call::Poll(at(0))),
+        event(Side::Server, arrives(1)),
+    ]
+}
+
+/// The first datagram of either endpoint has its IDs.
+fn is_each_counted(alloc: Global) -> bool {
     let mut client = ids_and_stream();
     client.ping = 1;
     client.datagram = 1;
@@ -155,109 +147,123 @@ fn assert_each_counted<R: Abort>(rt: &R, pair: &mut Pair) -> Result<(), Fail> {
     let mut server = ids();
     server.stop_sending = 1;
     server.acks = 1;
-    assert_frames(rt, pair, client, server);
-    Ok(())
+    let counts = counted(alloc, Start::Usual, &stopped_stream());
+    are_frames(counts, &client, &server)
 }
 
 #[test]
-fn each_frame_is_counted(rt: HostRuntime) -> Result<(), Fail> {
-    with_pair(rt.alloc(), unset(), unset(), true, |pair| {
-        assert_each_counted(&rt, pair)
-    })?
+fn each_frame_is_counted(rt: HostRuntime) {
+    assert!(rt; is_each_counted(rt.alloc()));
+}
+
+/// Bytes come that an endpoint didn't give.
+fn comes(bytes: Bytes) -> Call {
+    Call::Inject(Injection {
+        now: at(0),
+        remote: PEER,
+        ecn: None,
+        bytes,
+    })
 }
 
 /// Bytes come that don't open, and the server challenges the client's address; the client answers,
 /// and acknowledges the challenge with it (RFC 9000, section 8.2).
-fn assert_path_counted<R: Abort>(rt: &R, pair: &mut Pair) -> Result<(), Fail> {
-    let bytes = Injection {
-        now: at(0),
-        remote: PEER,
-        ecn: None,
-        bytes: Bytes::from_static(&[0; 400]),
-    };
-    make_all(
-        pair,
-        &[
-            event(Side::Server, Call::Inject(bytes)),
-            event(Side::Server, Call::Poll(at(0))),
-            event(Side::Client, arrives(0)),
-            event(Side::Client, Call::Poll(at(0))),
-            event(Side::Server, arrives(0)),
-        ],
-    )?;
+fn validation() -> [RunEvent; 5] {
+    let bytes = Bytes::from_static(&[0; 400]);
+    [
+        event(Side::Server, comes(bytes)),
+        event(Side::Server, Call::Poll(at(0))),
+        event(Side::Client, arrives(0)),
+        event(Side::Client, Call::Poll(at(0))),
+        event(Side::Server, arrives(0)),
+    ]
+}
+
+fn is_path_counted(alloc: Global) -> bool {
     let mut client = ids();
     client.path_response = 1;
     client.acks = 1;
     let mut server = ids();
     server.path_challenge = 1;
-    assert_frames(rt, pair, client, server);
-    Ok(())
+    let counts = counted(alloc, Start::NotValidated, &validation());
+    are_frames(counts, &client, &server)
 }
 
 #[test]
-fn path_validation_is_counted(rt: HostRuntime) -> Result<(), Fail> {
-    with_pair(rt.alloc(), unset(), unset(), false, |pair| {
-        assert_path_counted(&rt, pair)
-    })?
+fn path_validation_is_counted(rt: HostRuntime) {
+    assert!(rt; is_path_counted(rt.alloc()));
 }
 
 /// The first datagram, which asks how often to acknowledge, is lost: each of the two probes asks
 /// anew, and for an acknowledgement at once. All have the IDs, and the probes come.
-fn assert_requests_counted<R: Abort>(rt: &R, pair: &mut Pair) -> Result<(), Fail> {
-    make_all(
-        pair,
-        &[
-            event(Side::Client, Call::Poll(at(0))),
-            event(Side::Client, Call::Timeout(at(1024))),
-            event(Side::Client, Call::Poll(at(1024))),
-            event(Side::Client, Call::Poll(at(1024))),
-            event(Side::Server, arrives(1)),
-            event(Side::Server, arrives(2)),
-        ],
-    )?;
-    let (client, server) = (pair.ends.client.stats(), pair.ends.server.stats());
-    assert_eq!(rt; client.frame_tx.ack_frequency, 3);
-    assert_eq!(rt; client.frame_tx.immediate_ack, 2);
-    assert_eq!(rt; client.frame_tx.new_connection_id, 21);
-    assert_eq!(rt; server.frame_rx.ack_frequency, 2);
-    assert_eq!(rt; server.frame_rx.immediate_ack, 2);
-    assert_eq!(rt; server.frame_rx.new_connection_id, 14);
-    Ok(())
+fn probes() -> [RunEvent; 6] {
+    [
+        event(Side::Client, Call::Poll(at(0))),
+        event(Side::Client, Call::Timeout(at(1024))),
+        event(Side::Client, Call::Poll(at(1024))),
+        event(Side::Client, Call::Poll(at(1024))),
+        event(Side::Server, arrives(1)),
+        event(Side::Server, arrives(2)),
+    ]
+}
+
+/// Whether so many requests how often to acknowledge are counted, so many for an acknowledgement at
+/// once, and so many IDs.
+fn are_requests(frames: &FrameStats, often: u64, at_once: u64, ids: u64) -> bool {
+    frames.ack_frequency == often
+        && frames.immediate_ack == at_once
+        && frames.new_connection_id == ids
+}
+
+fn are_requests_counted(alloc: Global) -> bool {
+    match counted(alloc, Start::Asking, &probes()) {
+        Some(counts) => {
+            are_requests(&counts.client.frame_tx, 3, 2, 21)
+                && are_requests(&counts.server.frame_rx, 2, 2, 14)
+        }
+        None => false,
+    }
 }
 
 #[test]
-fn requests_are_counted(rt: HostRuntime) -> Result<(), Fail> {
-    with_pair(rt.alloc(), asking(), unset(), true, |pair| {
-        assert_requests_counted(&rt, pair)
-    })?
+fn requests_are_counted(rt: HostRuntime) {
+    assert!(rt; are_requests_counted(rt.alloc()));
+}
+
+/// A packet with this payload comes to an endpoint of this side: what it answers; none where memory
+/// lacks.
+fn receive(pair: &mut Pair, side: Side, payload: &[u8]) -> Option<Received> {
+    let mut datagram = sealed_for(pair.alloc, side, 0x43, payload).ok()?;
+    Some(pair.receive(side, &mut datagram))
+}
+
+/// Whether the client heard of a close behind a PING, and the server told of one.
+fn are_closes(counts: &Counts) -> bool {
+    let (heard, server) = (&counts.client.frame_rx, &counts.server);
+    heard.connection_close == 1
+        && heard.ping == 1
+        && server.frame_tx.connection_close == 1
+        && server.udp_tx.datagrams == 1
 }
 
 /// A close comes to the client between two PINGs, of which the one behind isn't read; and a packet
 /// that breaks a rule comes to the server, which closes for it.
-fn assert_closes_counted<R: Abort + AllocGlobal>(rt: &R, pair: &mut Pair) -> Result<(), Fail> {
+fn closes(pair: &mut Pair) -> bool {
     let close = [0x01, 0x1c, 0x03, 0x08, 0x04, b'l', b'a', b't', b'e', 0x01];
-    let mut datagram = sealed_for(rt.alloc(), Side::Client, 0x43, &close)?;
-    assert!(rt; matches!(pair.receive(Side::Client, &mut datagram), Received::Taken));
-    let heard = pair.ends.client.stats().frame_rx;
-    assert_eq!(rt; heard.connection_close, 1);
-    assert_eq!(rt; heard.ping, 1);
-    let mut datagram = sealed_for(rt.alloc(), Side::Server, 0x43, &[0x0a, 0x00, 0x05, 0x68])?;
-    assert!(rt;
-        matches!(
-            pair.receive(Side::Server, &mut datagram),
-            Received::Closed(_)
-        )
-    );
-    pair.make(&event(Side::Server, Call::Poll(at(0))))?;
-    let stats = pair.ends.server.stats();
-    assert_eq!(rt; stats.frame_tx.connection_close, 1);
-    assert_eq!(rt; stats.udp_tx.datagrams, 1);
-    Ok(())
+    let told = receive(pair, Side::Client, &close);
+    let refused = receive(pair, Side::Server, &[0x0a, 0x00, 0x05, 0x68]);
+    let counts = count(pair, &[event(Side::Server, Call::Poll(at(0)))]);
+    match (told, refused, counts) {
+        (Some(Received::Taken), Some(Received::Closed(_)), Ok(counts)) => are_closes(&counts),
+        _ => false,
+    }
+}
+
+fn are_closes_counted(alloc: Global) -> bool {
+    with_pair(alloc, unset(), unset(), true, closes) == Ok(true)
 }
 
 #[test]
-fn closes_are_counted(rt: HostRuntime) -> Result<(), Fail> {
-    with_pair(rt.alloc(), unset(), unset(), true, |pair| {
-        assert_closes_counted(&rt, pair)
-    })?
+fn closes_are_counted(rt: HostRuntime) {
+    assert!(rt; are_closes_counted(rt.alloc()));
 }

@@ -9,9 +9,9 @@ ghost use Rattle.quic_keys.specs.Plain.{plain_protection, plain_aead};
 ghost use Rattle.quic_keys.specs.Words.{stream_from};
 
 use quic_connection::{
-    AckFrequencyConfig, Address, Answer, Call, Config, ConfigError, Connection, Delivery, Dir,
-    Duration, Ends, Given, Instant, Making, NewReno, NewRenoConfig, Received, RunEvent, Side,
-    StreamId, TransportConfig, VarInt, step,
+    AckFrequencyConfig, Address, Answer, Call, Config, ConfigError, Connection, ConnectionStats,
+    Delivery, Dir, Duration, Ends, Given, Instant, Making, NewReno, NewRenoConfig, Received,
+    RunEvent, Side, StreamId, TransportConfig, VarInt, step,
 };
 use quic_keys::laws::keys_meet_the_premises;
 use quic_keys::{PlainHeaderKey, PlainKey, Words, keys_for};
@@ -154,6 +154,68 @@ pub(crate) fn with_pair<T, F: FnOnce(&mut Pair) -> T>(
         Ok(mut pair) => Ok(act(pair.as_mut())),
         Err(AllocError) => Err(ConfigError::Memory),
     }
+}
+
+/// How two endpoints begin.
+#[derive(Clone, Copy)]
+pub(crate) enum Start {
+    /// Nothing is set, and the address of the server's peer is validated.
+    Usual,
+    /// The same, but that the client asks how often to acknowledge.
+    Asking,
+    /// The same as the first, but that the address of the server's peer isn't validated.
+    NotValidated,
+}
+
+/// What two endpoints counted.
+#[derive(Drop)]
+pub(crate) struct Counts {
+    pub(crate) client: ConnectionStats,
+    pub(crate) server: ConnectionStats,
+}
+
+/// Makes the call of each event in turn: what is counted then. An `Err` is want of memory.
+pub(crate) fn count(pair: &mut Pair, events: &[RunEvent]) -> Result<Counts, AllocError> {
+    for event in events {
+        pair.make(event)?;
+    }
+    Ok(Counts {
+        client: pair.ends.client.stats(),
+        server: pair.ends.server.stats(),
+    })
+}
+
+/// What is counted behind these events at two new endpoints; none where memory lacks. Tests that
+/// are lists of events ask for it, so that few functions reach what an endpoint holds.
+pub(crate) fn counted(alloc: Global, start: Start, events: &[RunEvent]) -> Option<Counts> {
+    let client = match start {
+        Start::Asking => asking(),
+        _ => unset(),
+    };
+    let validated = !matches!(start, Start::NotValidated);
+    let counts = with_pair(
+        alloc,
+        client,
+        unset(),
+        validated,
+        |pair| count(pair, events),
+    );
+    counts.ok()?.ok()
+}
+
+/// What a datagram is answered by a new endpoint of this side where this is set; none where memory
+/// lacks.
+pub(crate) fn answer_of(
+    alloc: Global,
+    transport: TransportConfig,
+    side: Side,
+    datagram: &mut [u8],
+) -> Option<Received> {
+    let config = config_of(transport);
+    let answer = with_pair(alloc, config, config, true, |pair| {
+        pair.receive(side, datagram)
+    });
+    answer.ok()
 }
 
 /// The stream that the client opens first.

@@ -1,69 +1,77 @@
 //! The reasons of the errors with which endpoints close, which no clause reads: each payload comes
 //! to a new endpoint.
-use crate::ends::{Pair, config_of, sealed_for, with_pair};
+use crate::ends::{answer_of, sealed_for};
 use quic_connection::{Code, Reason, Received, Side, TransportConfig, VarInt};
 use std::alloc::{AllocError, Global};
-use std::process::Abort;
-use std::test::Fail;
 
 /// What comes of a packet: none where it is taken, else why its endpoint closes.
 type Refusal = Option<(Code, Reason)>;
-
-/// What an endpoint answers to a datagram.
-fn answered<R: Abort>(
-    rt: &R,
-    pair: &mut Pair,
-    side: Side,
-    datagram: &mut [u8],
-) -> Result<Refusal, Fail> {
-    match pair.receive(side, datagram) {
-        Received::Taken => Ok(None),
-        Received::Closed(error) => Ok(Some((error.code(), error.reason()))),
-        Received::Dropped(reason) => panic!(rt; "dropped: {reason:?}"),
-        Received::Failed => panic!(rt; "failed"),
-    }
-}
-
-/// A packet with this first byte and this payload comes to an endpoint of this side, which answers
-/// so.
-#[derive(Clone, Copy)]
-struct Row<'a> {
-    side: Side,
-    first: u8,
-    payload: &'a [u8],
-    wanted: Refusal,
-}
-
-/// A row whose packet has no reserved bit.
-fn plain_row(side: Side, payload: &[u8], wanted: Refusal) -> Row<'_> {
-    Row {
-        side,
-        first: 0x43,
-        payload,
-        wanted,
-    }
-}
 
 /// PROTOCOL_VIOLATION, for this reason.
 fn violation(reason: Reason) -> Refusal {
     Some((Code::PROTOCOL_VIOLATION, reason))
 }
 
-/// Each row is answered as it says, where this is set.
-fn assert_answered<R: Abort + AllocGlobal>(
-    rt: &R,
-    transport: TransportConfig,
-    rows: &[Row],
-) -> Result<(), Fail> {
-    let config = config_of(transport);
-    for row in rows {
-        let mut datagram = sealed_for(rt.alloc(), row.side, row.first, row.payload)?;
-        let refusal = with_pair(rt.alloc(), config, config, true, |pair| {
-            answered(rt, pair, row.side, &mut datagram)
-        })??;
-        assert_eq!(rt; refusal, row.wanted, "{:?}", row.payload);
+/// Whether a datagram is answered so.
+fn is_wanted(answer: Option<Received>, wanted: Refusal) -> bool {
+    match answer {
+        Some(Received::Taken) => wanted.is_none(),
+        Some(Received::Closed(error)) => wanted == Some((error.code(), error.reason())),
+        _ => false,
     }
-    Ok(())
+}
+
+/// Whether a packet with this first byte and this payload is answered so by an endpoint of this
+/// side where this is set.
+fn is_answered(
+    alloc: Global,
+    transport: TransportConfig,
+    side: Side,
+    first: u8,
+    payload: &[u8],
+    wanted: Refusal,
+) -> bool {
+    match sealed_for(alloc, side, first, payload) {
+        Ok(mut datagram) => {
+            let answer = answer_of(alloc, transport, side, &mut datagram);
+            is_wanted(answer, wanted)
+        }
+        Err(AllocError) => false,
+    }
+}
+
+/// The same of a packet with no reserved bit, where nothing is set.
+fn is_usual(alloc: Global, side: Side, payload: &[u8], wanted: Refusal) -> bool {
+    let transport = TransportConfig::default();
+    is_answered(alloc, transport, side, 0x43, payload, wanted)
+}
+
+/// An ACK of the number 0 at an endpoint that gave none.
+fn is_ack_refused(alloc: Global) -> bool {
+    let payload = [0x02, 0x00, 0x00, 0x00, 0x00];
+    is_usual(alloc, Side::Client, &payload, violation(Reason::NeverSent))
+        && is_usual(alloc, Side::Server, &payload, violation(Reason::NeverSent))
+}
+
+/// A frame that only servers send.
+fn is_of_servers(alloc: Global, payload: &[u8]) -> bool {
+    is_usual(alloc, Side::Client, payload, None)
+        && is_usual(alloc, Side::Server, payload, violation(Reason::OfServers))
+}
+
+/// Payloads that have no frame, one that is cut short, and PADDING whose type has two bytes.
+fn are_frames_read(alloc: Global) -> bool {
+    let cut = Some((Code::FRAME_ENCODING_ERROR, Reason::UnexpectedEnd));
+    is_usual(alloc, Side::Server, &[], violation(Reason::NoFrame))
+        && is_usual(alloc, Side::Server, &[0x0a, 0x00, 0x05, 0x68, 0x69], cut)
+        && is_usual(alloc, Side::Server, &[0x40, 0x00, 0x01], None)
+}
+
+/// A PING under a reserved bit that isn't 0.
+fn is_reserved(alloc: Global) -> bool {
+    let wanted = violation(Reason::ReservedBits);
+    let transport = TransportConfig::default();
+    is_answered(alloc, transport, Side::Server, 0x4b, &[0x01], wanted)
 }
 
 // RFC 9000, section 13.1: an ACK of the number 0 at an endpoint that gave none. Sections 19.7 and
@@ -71,93 +79,67 @@ fn assert_answered<R: Abort + AllocGlobal>(
 // five bytes were cut to two; PADDING whose type has two bytes, and a PING. Section 17.3.1:
 // reserved bits that aren't 0.
 #[test]
-fn of_packets(rt: HostRuntime) -> Result<(), Fail> {
-    let cut = Some((Code::FRAME_ENCODING_ERROR, Reason::UnexpectedEnd));
-    let reserved = Row {
-        side: Side::Server,
-        first: 0x4b,
-        payload: &[0x01],
-        wanted: violation(Reason::ReservedBits),
-    };
-    let rows = [
-        plain_row(
-            Side::Client,
-            &[0x02, 0x00, 0x00, 0x00, 0x00],
-            violation(Reason::NeverSent),
-        ),
-        plain_row(
-            Side::Server,
-            &[0x02, 0x00, 0x00, 0x00, 0x00],
-            violation(Reason::NeverSent),
-        ),
-        plain_row(Side::Client, &[0x07, 0x01, 0xaa], None),
-        plain_row(
-            Side::Server,
-            &[0x07, 0x01, 0xaa],
-            violation(Reason::OfServers),
-        ),
-        plain_row(Side::Client, &[0x1e], None),
-        plain_row(Side::Server, &[0x1e], violation(Reason::OfServers)),
-        plain_row(Side::Server, &[], violation(Reason::NoFrame)),
-        plain_row(Side::Server, &[0x0a, 0x00, 0x05, 0x68, 0x69], cut),
-        plain_row(Side::Server, &[0x40, 0x00, 0x01], None),
-        reserved,
-    ];
-    assert_answered(&rt, TransportConfig::default(), &rows)
+fn of_packets(rt: HostRuntime) {
+    let alloc = rt.alloc();
+    assert!(rt;
+        is_ack_refused(alloc)
+            && is_of_servers(alloc, &[0x07, 0x01, 0xaa])
+            && is_of_servers(alloc, &[0x1e])
+            && are_frames_read(alloc)
+            && is_reserved(alloc)
+    );
 }
 
-// RFC 9000, sections 4.1, 4.5, 4.6 and 19.8: a byte at the offset 1250000, one behind the end, one
-// on a stream that the client didn't open, and the first stream where none may be opened.
-#[test]
-fn of_streams(rt: HostRuntime) -> Result<(), Fail> {
+/// A byte at the offset 1250000, one behind the end, and one on a stream that the client didn't
+/// open.
+fn are_bytes_refused(alloc: Global) -> bool {
     let window = Some((Code::FLOW_CONTROL_ERROR, Reason::TooManyBytes));
     let size = Some((Code::FINAL_SIZE_ERROR, Reason::FinalSize));
     let own = Some((Code::STREAM_STATE_ERROR, Reason::NotSendable));
     let beyond = [0x0e, 0x00, 0x80, 0x13, 0x12, 0xd0, 0x01, 0x78];
     let behind = [0x0b, 0x00, 0x01, 0x78, 0x0e, 0x00, 0x01, 0x01, 0x78];
-    let opens = [0x0a, 0x00, 0x01, 0x78];
-    let rows = [
-        plain_row(Side::Server, &beyond, window),
-        plain_row(Side::Server, &behind, size),
-        plain_row(Side::Client, &opens, own),
-    ];
-    assert_answered(&rt, TransportConfig::default(), &rows)?;
-    let mut no_streams = TransportConfig::default();
-    no_streams.max_concurrent_bidi_streams(VarInt::from_u32(0));
-    let limit = Some((Code::STREAM_LIMIT_ERROR, Reason::TooManyStreams));
-    assert_answered(&rt, no_streams, &[plain_row(Side::Server, &opens, limit)])
+    is_usual(alloc, Side::Server, &beyond, window)
+        && is_usual(alloc, Side::Server, &behind, size)
+        && is_usual(alloc, Side::Client, &OPENS, own)
 }
 
-/// Messages of two bytes, one of either type, at an endpoint that keeps so many bytes unread.
-fn assert_messages<R: Abort + AllocGlobal>(
-    rt: &R,
-    size: Option<usize>,
-    first: Refusal,
-    second: Refusal,
-) -> Result<(), Fail> {
+/// A byte of the client's first stream.
+const OPENS: [u8; 4] = [0x0a, 0x00, 0x01, 0x78];
+
+/// The first stream where none may be opened.
+fn is_limit_kept(alloc: Global) -> bool {
+    let mut transport = TransportConfig::default();
+    transport.max_concurrent_bidi_streams(VarInt::from_u32(0));
+    let limit = Some((Code::STREAM_LIMIT_ERROR, Reason::TooManyStreams));
+    is_answered(alloc, transport, Side::Server, 0x43, &OPENS, limit)
+}
+
+// RFC 9000, sections 4.1, 4.5, 4.6 and 19.8: a byte at the offset 1250000, one behind the end, one
+// on a stream that the client didn't open, and the first stream where none may be opened.
+#[test]
+fn of_streams(rt: HostRuntime) {
+    assert!(rt; are_bytes_refused(rt.alloc()) && is_limit_kept(rt.alloc()));
+}
+
+/// Messages of two bytes, one of either type, are answered so by an endpoint that keeps so many
+/// bytes unread.
+fn are_messages(alloc: Global, size: Option<usize>, wanted: Refusal) -> bool {
     let mut transport = TransportConfig::default();
     transport.datagram_receive_buffer_size(size);
-    let rows = [
-        plain_row(Side::Client, &[0x31, 0x02, 0x68, 0x69], first),
-        plain_row(Side::Client, &[0x30, 0x68, 0x69], second),
-    ];
-    assert_answered(rt, transport, &rows)
+    let (sized, unsized_one) = ([0x31, 0x02, 0x68, 0x69], [0x30, 0x68, 0x69]);
+    is_answered(alloc, transport, Side::Client, 0x43, &sized, wanted)
+        && is_answered(alloc, transport, Side::Client, 0x43, &unsized_one, wanted)
 }
 
 // RFC 9221, section 3: at an endpoint that keeps as many bytes unread, fewer, or none.
 #[test]
-fn of_messages(rt: HostRuntime) -> Result<(), Fail> {
-    assert_messages(&rt, Some(2), None, None)?;
-    let (first, second) = (
-        violation(Reason::TooManyBytes),
-        violation(Reason::TooManyBytes),
+fn of_messages(rt: HostRuntime) {
+    let alloc = rt.alloc();
+    assert!(rt;
+        are_messages(alloc, Some(2), None)
+            && are_messages(alloc, Some(1), violation(Reason::TooManyBytes))
+            && are_messages(alloc, None, violation(Reason::TooManyBytes))
     );
-    assert_messages(&rt, Some(1), first, second)?;
-    let (first, second) = (
-        violation(Reason::TooManyBytes),
-        violation(Reason::TooManyBytes),
-    );
-    assert_messages(&rt, None, first, second)
 }
 
 /// 2048 STREAM frames, each of one byte behind a gap of one byte.
@@ -171,16 +153,27 @@ fn pieces(alloc: Global) -> Result<Vec<u8>, AllocError> {
     Ok(payload)
 }
 
+/// The same, and one more.
+fn more_pieces(alloc: Global) -> Result<Vec<u8>, AllocError> {
+    let mut payload = pieces(alloc)?;
+    payload.extend_from_slice(&[0x0e, 0x00, 0x50, 0x01, 0x01, 0x78])?;
+    Ok(payload)
+}
+
+/// Whether these pieces are answered so in one datagram.
+fn are_pieces(alloc: Global, pieces: Result<Vec<u8>, AllocError>, wanted: Refusal) -> bool {
+    match pieces {
+        Ok(payload) => is_usual(alloc, Side::Server, &payload, wanted),
+        Err(AllocError) => false,
+    }
+}
+
 // RFC 9000, section 21.7: 2048 pieces in one datagram, and one more.
 #[test]
-fn of_pieces(rt: HostRuntime) -> Result<(), Fail> {
-    let many = pieces(rt.alloc())?;
-    let mut more = pieces(rt.alloc())?;
-    more.extend_from_slice(&[0x0e, 0x00, 0x50, 0x01, 0x01, 0x78])?;
+fn of_pieces(rt: HostRuntime) {
+    let alloc = rt.alloc();
     let refused = Some((Code::INTERNAL_ERROR, Reason::TooManyPieces));
-    let rows = [
-        plain_row(Side::Server, &many, None),
-        plain_row(Side::Server, &more, refused),
-    ];
-    assert_answered(&rt, TransportConfig::default(), &rows)
+    assert!(rt;
+        are_pieces(alloc, pieces(alloc), None) && are_pieces(alloc, more_pieces(alloc), refused)
+    );
 }

@@ -10,8 +10,6 @@ use quic_connection::{
 };
 use quic_keys::{PlainHeaderKey, PlainKey, Words};
 use std::alloc::{AllocError, Global};
-use std::process::Abort;
-use std::test::Fail;
 
 /// When all happens.
 fn now() -> Instant {
@@ -24,12 +22,12 @@ fn hello() -> Call {
 }
 
 /// The client writes `hello` on its stream, ends it, and gives a datagram.
-fn writing() -> [Call; 4] {
+fn writing() -> [RunEvent; 4] {
     [
-        Call::Open(Dir::Bi),
-        hello(),
-        Call::Finish(stream()),
-        Call::Poll(now()),
+        event(Side::Client, Call::Open(Dir::Bi)),
+        event(Side::Client, hello()),
+        event(Side::Client, Call::Finish(stream())),
+        event(Side::Client, Call::Poll(now())),
     ]
 }
 
@@ -130,19 +128,30 @@ fn is_whole(from: usize, count: usize, answers: &[Answer]) -> bool {
     answers.len() == count && answers.iter().enumerate().all(served)
 }
 
-/// What is seen of both endpoints behind the event of this index, where memory serves: why they
-/// were lost, the server with the text.
-fn assert_seen<R: Abort>(rt: &R, index: usize, view: &View, close: &Close) {
-    match &view.client.reason {
-        Some(LostReason::Application) => assert!(rt; index >= 7),
-        Some(_) => panic!(rt; "another reason"),
-        None => assert!(rt; index < 7),
+/// Whether both endpoints are seen as they have to be behind the event of this index, where memory
+/// serves: why they were lost, the server with the text.
+fn is_seen(index: usize, view: &View, close: &Close) -> bool {
+    let client = match &view.client.reason {
+        Some(LostReason::Application) => index >= 7,
+        Some(_) => false,
+        None => index < 7,
+    };
+    let server = match &view.server.reason {
+        Some(LostReason::Peer(told)) => index == 9 && *told.as_close() == *close,
+        Some(_) => false,
+        None => index < 9,
+    };
+    client && server
+}
+
+/// Whether they are behind each event.
+fn are_seen(views: &[View], close: &Close) -> bool {
+    for (index, view) in views.iter().enumerate() {
+        if !is_seen(index, view, close) {
+            return false;
+        }
     }
-    match &view.server.reason {
-        Some(LostReason::Peer(told)) => assert!(rt; index == 9 && *told.as_close() == *close),
-        Some(_) => panic!(rt; "another reason"),
-        None => assert!(rt; index < 9),
-    }
+    true
 }
 
 /// Runs endpoints over these events.
@@ -187,19 +196,38 @@ fn seen_of(alloc: Global, events: &[RunEvent]) -> Result<Seen, ConfigError> {
     Ok(seen_in(run_ends(alloc, ends, events)))
 }
 
-/// A run says what it has to: whether it is whole.
-fn assert_run<R: Abort>(rt: &R, seen: &Seen, close: &Close) -> bool {
+/// Whether a run says what it has to.
+fn is_right(seen: &Seen, close: &Close) -> bool {
     let answers = seen.answers.as_slice();
-    assert!(rt; are_right(0, answers, seen.cut_short));
-    assert_eq!(rt; seen.cut_short, answers.len() < 10);
-    assert_eq!(rt; seen.views.len(), answers.len());
-    let whole = is_whole(0, 10, answers);
-    if whole {
-        for (index, view) in seen.views.iter().enumerate() {
-            assert_seen(rt, index, view, close);
+    are_right(0, answers, seen.cut_short)
+        && seen.cut_short == (answers.len() < 10)
+        && seen.views.len() == answers.len()
+        && (!is_whole(0, 10, answers) || are_seen(&seen.views, close))
+}
+
+/// Runs new endpoints over these events: whether memory served; none where a run says anything else
+/// than it has to.
+fn served(alloc: Global, events: &[RunEvent], close: &Close) -> Option<bool> {
+    match seen_of(alloc, events) {
+        Ok(seen) => {
+            let whole = is_whole(0, 10, &seen.answers);
+            if is_right(&seen, close) {
+                Some(whole)
+            } else {
+                None
+            }
         }
+        Err(ConfigError::Memory) => Some(false),
+        Err(_) => None,
     }
-    whole
+}
+
+/// Whether memory served one time of two at least, and nothing else was wrong.
+fn one_served(first: Option<bool>, second: Option<bool>) -> bool {
+    match (first, second) {
+        (Some(first), Some(second)) => first || second,
+        _ => false,
+    }
 }
 
 /// Makes so many allocations, so that the one which fails comes so much earlier in what follows.
@@ -210,50 +238,39 @@ fn allocate(alloc: Global, times: u8) -> Result<(), AllocError> {
     Ok(())
 }
 
-/// Of two runs behind so many allocations one lacks memory at most.
-fn assert_runs<R: Abort + AllocGlobal>(rt: &R, before: u8) -> Result<(), Fail> {
-    let events = worked(rt.alloc())?;
-    let bye = ApplicationClose::new(rt.alloc(), VarInt::from_u32(7), b"bye")?;
+/// Whether of two runs behind so many allocations one lacks memory at most.
+fn runs_serve(alloc: Global, before: u8) -> Result<bool, AllocError> {
+    let events = worked(alloc)?;
+    let bye = ApplicationClose::new(alloc, VarInt::from_u32(7), b"bye")?;
     let close = Close::Application(bye);
-    allocate(rt.alloc(), before)?;
-    let mut lacked = false;
-    for _ in 0..2 {
-        let whole = match seen_of(rt.alloc(), &events) {
-            Ok(seen) => assert_run(rt, &seen, &close),
-            Err(error) => {
-                assert_eq!(rt; error, ConfigError::Memory);
-                false
-            }
-        };
-        assert!(rt; whole || !lacked);
-        lacked = lacked || !whole;
-    }
-    Ok(())
+    allocate(alloc, before)?;
+    let first = served(alloc, &events, &close);
+    Ok(one_served(first, served(alloc, &events, &close)))
 }
 
 #[test]
-fn a_run(rt: HostRuntime) -> Result<(), Fail> {
-    assert_runs(&rt, 0)
+fn a_run(rt: HostRuntime) {
+    assert!(rt; runs_serve(rt.alloc(), 0) == Ok(true));
 }
 
 #[test]
-fn a_run_behind_one(rt: HostRuntime) -> Result<(), Fail> {
-    assert_runs(&rt, 1)
+fn a_run_behind_one(rt: HostRuntime) {
+    assert!(rt; runs_serve(rt.alloc(), 1) == Ok(true));
 }
 
 #[test]
-fn a_run_behind_two(rt: HostRuntime) -> Result<(), Fail> {
-    assert_runs(&rt, 2)
+fn a_run_behind_two(rt: HostRuntime) {
+    assert!(rt; runs_serve(rt.alloc(), 2) == Ok(true));
 }
 
 #[test]
-fn a_run_behind_three(rt: HostRuntime) -> Result<(), Fail> {
-    assert_runs(&rt, 3)
+fn a_run_behind_three(rt: HostRuntime) {
+    assert!(rt; runs_serve(rt.alloc(), 3) == Ok(true));
 }
 
 #[test]
-fn a_run_behind_four(rt: HostRuntime) -> Result<(), Fail> {
-    assert_runs(&rt, 4)
+fn a_run_behind_four(rt: HostRuntime) {
+    assert!(rt; runs_serve(rt.alloc(), 4) == Ok(true));
 }
 
 /// Makes these calls at one endpoint.
@@ -267,17 +284,24 @@ fn run_end(
     run_alone(alloc, end, given, theirs, calls)
 }
 
-/// The client's calls are made, and then the server's on their own: whether nothing lacked.
-fn assert_alone<R: Abort>(rt: &R, pair: &mut Pair, calls: &[Call]) -> bool {
-    for (index, call) in writing().into_iter().enumerate() {
-        match pair.make(&event(Side::Client, call)) {
+/// The client's calls are made: whether memory served; none where one is answered wrongly.
+fn makes(pair: &mut Pair) -> Option<bool> {
+    for (index, event) in writing().iter().enumerate() {
+        match pair.make(event) {
             Ok(answer) if is_served(index, &answer) => {}
-            Ok(answer) => {
-                assert!(rt; lacks_memory(&answer));
-                return false;
-            }
-            Err(AllocError) => return false,
+            Ok(answer) if lacks_memory(&answer) => return Some(false),
+            Ok(_) => return None,
+            Err(AllocError) => return Some(false),
         }
+    }
+    Some(true)
+}
+
+/// The client's calls are made, and then the server's on their own: whether memory served; none
+/// where one is answered wrongly.
+fn makes_alone(pair: &mut Pair, calls: &[Call]) -> Option<bool> {
+    if !makes(pair)? {
+        return Some(false);
     }
     let Pair { alloc, ends, given } = pair;
     let alone = run_end(
@@ -288,55 +312,54 @@ fn assert_alone<R: Abort>(rt: &R, pair: &mut Pair, calls: &[Call]) -> bool {
         calls,
     );
     let answers = alone.answers.as_slice();
-    assert!(rt; are_right(4, answers, alone.cut_short));
-    assert_eq!(rt; alone.cut_short, answers.len() < calls.len());
-    assert!(rt; given.server.is_empty());
-    is_whole(4, calls.len(), answers)
+    let right = are_right(4, answers, alone.cut_short)
+        && alone.cut_short == (answers.len() < calls.len())
+        && given.server.is_empty();
+    let whole = is_whole(4, calls.len(), answers);
+    if right { Some(whole) } else { None }
 }
 
-/// Of two such endpoints behind so many allocations one lacks memory at most.
-fn assert_ends<R: Abort + AllocGlobal>(rt: &R, before: u8) -> Result<(), Fail> {
-    let calls = reading(rt.alloc())?;
-    allocate(rt.alloc(), before)?;
-    let mut lacked = false;
-    for _ in 0..2 {
-        let made = with_pair(rt.alloc(), unset(), unset(), true, |pair| {
-            assert_alone(rt, pair, &calls)
-        });
-        let whole = match made {
-            Ok(whole) => whole,
-            Err(error) => {
-                assert_eq!(rt; error, ConfigError::Memory);
-                false
-            }
-        };
-        assert!(rt; whole || !lacked);
-        lacked = lacked || !whole;
+/// The same at new endpoints.
+fn served_alone(alloc: Global, calls: &[Call]) -> Option<bool> {
+    let made = with_pair(alloc, unset(), unset(), true, |pair| {
+        makes_alone(pair, calls)
+    });
+    match made {
+        Ok(served) => served,
+        Err(ConfigError::Memory) => Some(false),
+        Err(_) => None,
     }
-    Ok(())
+}
+
+/// Whether of two such endpoints behind so many allocations one lacks memory at most.
+fn ends_serve(alloc: Global, before: u8) -> Result<bool, AllocError> {
+    let calls = reading(alloc)?;
+    allocate(alloc, before)?;
+    let first = served_alone(alloc, &calls);
+    Ok(one_served(first, served_alone(alloc, &calls)))
 }
 
 #[test]
-fn alone(rt: HostRuntime) -> Result<(), Fail> {
-    assert_ends(&rt, 0)
+fn alone(rt: HostRuntime) {
+    assert!(rt; ends_serve(rt.alloc(), 0) == Ok(true));
 }
 
 #[test]
-fn alone_behind_one(rt: HostRuntime) -> Result<(), Fail> {
-    assert_ends(&rt, 1)
+fn alone_behind_one(rt: HostRuntime) {
+    assert!(rt; ends_serve(rt.alloc(), 1) == Ok(true));
 }
 
 #[test]
-fn alone_behind_two(rt: HostRuntime) -> Result<(), Fail> {
-    assert_ends(&rt, 2)
+fn alone_behind_two(rt: HostRuntime) {
+    assert!(rt; ends_serve(rt.alloc(), 2) == Ok(true));
 }
 
 #[test]
-fn alone_behind_three(rt: HostRuntime) -> Result<(), Fail> {
-    assert_ends(&rt, 3)
+fn alone_behind_three(rt: HostRuntime) {
+    assert!(rt; ends_serve(rt.alloc(), 3) == Ok(true));
 }
 
 #[test]
-fn alone_behind_four(rt: HostRuntime) -> Result<(), Fail> {
-    assert_ends(&rt, 4)
+fn alone_behind_four(rt: HostRuntime) {
+    assert!(rt; ends_serve(rt.alloc(), 4) == Ok(true));
 }
