@@ -4,15 +4,36 @@ use crate::network::Lane;
 use crate::{Endpoint, MANY, PEER};
 use anyhow::{Result, bail};
 use quic_connection::{
-    Bytes, Chunks, Connection, Datagrams, Event, Instant, ReadError, ReadableError, Received,
-    RecvStream, SendStream, StreamId, Streams, VarInt,
+    Bytes, Chunks, Connection, Datagrams, EcnCodepoint, Event, Failed, Instant, ReadError,
+    ReadableError, Received, RecvStream, SendStream, State, StreamId, Streams, Transmit, VarInt,
 };
 use std::alloc::Global;
 
-/// What an application may ask of its endpoint. Its calls are those of a connection: an application
-/// names neither the keys of one nor its congestion controller, and is proved without a look at
-/// what one holds.
+/// What is asked of an endpoint. Its calls are those of a connection: what asks names neither the
+/// keys of one nor its congestion controller, and is proved without a look at what one holds.
 pub(crate) trait Calls {
+    /// Takes a datagram that came at this time, and opens it in place: what becomes of it.
+    fn receive(&mut self, now: Instant, ecn: Option<EcnCodepoint>, datagram: &mut [u8]) -> Received;
+
+    /// Appends the next datagram that is to be sent, if there is one. Fails if out of memory.
+    fn poll_transmit(
+        &mut self,
+        now: Instant,
+        out: &mut Vec<u8>,
+    ) -> Result<Option<Transmit>, Failed>;
+
+    /// When its next timer expires, if one is set.
+    fn poll_timeout(&self) -> Option<Instant>;
+
+    /// Lets timers expire. Fails if out of memory.
+    fn handle_timeout(&mut self, now: Instant) -> Result<(), Failed>;
+
+    /// The next event, if there is one.
+    fn poll(&mut self) -> Option<Event>;
+
+    /// Where its life has come to.
+    fn state(&self) -> State;
+
     /// All streams, by which one is opened or accepted.
     fn streams(&mut self) -> Streams<'_>;
 
@@ -30,6 +51,39 @@ pub(crate) trait Calls {
 }
 
 impl Calls for Endpoint {
+    fn receive(
+        &mut self,
+        now: Instant,
+        ecn: Option<EcnCodepoint>,
+        datagram: &mut [u8],
+    ) -> Received {
+        Connection::receive(self, now, PEER, ecn, datagram)
+    }
+
+    fn poll_transmit(
+        &mut self,
+        now: Instant,
+        out: &mut Vec<u8>,
+    ) -> Result<Option<Transmit>, Failed> {
+        Connection::poll_transmit(self, now, out)
+    }
+
+    fn poll_timeout(&self) -> Option<Instant> {
+        Connection::poll_timeout(self)
+    }
+
+    fn handle_timeout(&mut self, now: Instant) -> Result<(), Failed> {
+        Connection::handle_timeout(self, now)
+    }
+
+    fn poll(&mut self) -> Option<Event> {
+        Connection::poll(self)
+    }
+
+    fn state(&self) -> State {
+        Connection::state(self)
+    }
+
     fn streams(&mut self) -> Streams<'_> {
         Connection::streams(self)
     }
@@ -66,7 +120,7 @@ pub(crate) trait Application {
 /// What is done whenever something was handed in: sends all datagrams, and tells all events.
 pub(crate) fn serve(
     rt: &(impl Print + AllocGlobal),
-    endpoint: &mut Endpoint,
+    endpoint: &mut impl Calls,
     application: &mut impl Application,
     lane: &mut Lane,
     now: Instant,
@@ -83,7 +137,7 @@ pub(crate) fn serve(
 }
 
 /// Sends datagrams until the endpoint gives none.
-fn send(alloc: Global, endpoint: &mut Endpoint, lane: &mut Lane, now: Instant) -> Result<()> {
+fn send(alloc: Global, endpoint: &mut impl Calls, lane: &mut Lane, now: Instant) -> Result<()> {
     for _ in 0..MANY {
         let mut bytes = Vec::new(alloc);
         let Some(transmit) = endpoint.poll_transmit(now, &mut bytes)? else {
@@ -95,19 +149,19 @@ fn send(alloc: Global, endpoint: &mut Endpoint, lane: &mut Lane, now: Instant) -
 }
 
 /// When something is to be done next for the endpoint: a datagram arrives, or a timer expires.
-pub(crate) fn next_time(endpoint: &Endpoint, lane: &Lane) -> Option<Instant> {
+pub(crate) fn next_time(endpoint: &impl Calls, lane: &Lane) -> Option<Instant> {
     let times = [endpoint.poll_timeout(), lane.next_arrival()];
     times.iter().copied().flatten().min()
 }
 
 /// Hands in the datagrams that have arrived, and the time, by which timers expire.
-pub(crate) fn take(endpoint: &mut Endpoint, lane: &mut Lane, now: Instant) -> Result<()> {
+pub(crate) fn take(endpoint: &mut impl Calls, lane: &mut Lane, now: Instant) -> Result<()> {
     for _ in 0..MANY {
         let Some(mut flight) = lane.pop_due(now) else {
             break;
         };
         // It is opened in place.
-        match endpoint.receive(now, PEER, flight.ecn, &mut flight.bytes) {
+        match endpoint.receive(now, flight.ecn, &mut flight.bytes) {
             // Why a datagram is dropped is for logs: a closed endpoint drops each.
             Received::Taken | Received::Dropped(_) => {}
             Received::Closed(error) => bail!("the peer broke a rule: {error}"),

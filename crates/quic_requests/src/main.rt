@@ -12,8 +12,8 @@ mod network;
 mod server;
 
 use crate::client::Client;
-use crate::endpoint::{Application, next_time, serve, take};
-use crate::network::Lane;
+use crate::endpoint::{Application, Calls, next_time, serve, take};
+use crate::network::{Lane, Network};
 use crate::server::Server;
 use anyhow::Result;
 use quic_connection::{
@@ -83,25 +83,25 @@ fn endpoints(alloc: Global) -> Result<Box<Endpoints>> {
 /// Lets both applications talk, until no datagram is under way and no timer is set.
 fn talk(
     rt: &(impl Print + AllocGlobal),
-    endpoints: &mut Endpoints,
-    client: &mut impl Application,
-    server: &mut impl Application,
-    up: &mut Lane,
-    down: &mut Lane,
+    client: &mut impl Calls,
+    server: &mut impl Calls,
+    asking: &mut impl Application,
+    answering: &mut impl Application,
+    network: &mut Network,
 ) -> Result<()> {
     let mut now = Instant::from_nanos(0);
     for _ in 0..MANY {
-        serve(rt, &mut endpoints.client, client, up, now)?;
-        serve(rt, &mut endpoints.server, server, down, now)?;
-        let client_time = next_time(&endpoints.client, down);
-        let server_time = next_time(&endpoints.server, up);
+        serve(rt, client, asking, &mut network.up, now)?;
+        serve(rt, server, answering, &mut network.down, now)?;
+        let client_time = next_time(client, &network.down);
+        let server_time = next_time(server, &network.up);
         let Some(next) = [client_time, server_time].iter().copied().flatten().min() else {
             break;
         };
         // A timer may be set to a time that is over.
         now = now.later(next);
-        take(&mut endpoints.client, down, now)?;
-        take(&mut endpoints.server, up, now)?;
+        take(client, &mut network.down, now)?;
+        take(server, &mut network.up, now)?;
     }
     Ok(())
 }
@@ -109,14 +109,14 @@ fn talk(
 /// Makes all requests, and answers them.
 fn request(
     rt: &(impl Print + AllocGlobal),
-    endpoints: &mut Endpoints,
-    up: &mut Lane,
-    down: &mut Lane,
+    client: &mut impl Calls,
+    server: &mut impl Calls,
+    network: &mut Network,
 ) -> Result<()> {
-    let mut client = Client::new(rt.alloc());
-    let mut server = Server::new(rt.alloc());
-    client.begin(rt, &mut endpoints.client)?;
-    talk(rt, endpoints, &mut client, &mut server, up, down)
+    let mut asking = Client::new(rt.alloc());
+    let mut answering = Server::new(rt.alloc());
+    asking.begin(rt, client)?;
+    talk(rt, client, server, &mut asking, &mut answering, network)
 }
 
 /// Prints how many datagrams of this side a lane lost.
@@ -128,9 +128,17 @@ fn print_losses(rt: &impl Print, side: Side, lane: &Lane) -> Result<()> {
     Ok(())
 }
 
-/// Prints what became of both endpoints.
-fn print_states(rt: &impl Print, endpoints: &Endpoints) -> Result<()> {
-    let (client, server) = (endpoints.client.state(), endpoints.server.state());
+/// Makes all requests, answers them, and prints what became of the datagrams and of both endpoints.
+fn show(
+    rt: &(impl Print + AllocGlobal),
+    client: &mut impl Calls,
+    server: &mut impl Calls,
+) -> Result<()> {
+    let mut network = Network::new(rt.alloc());
+    request(rt, client, server, &mut network)?;
+    print_losses(rt, Side::Client, &network.up)?;
+    print_losses(rt, Side::Server, &network.down)?;
+    let (client, server) = (client.state(), server.state());
     println!(rt; "the client is {client}, the server is {server}")?;
     Ok(())
 }
@@ -138,11 +146,9 @@ fn print_states(rt: &impl Print, endpoints: &Endpoints) -> Result<()> {
 fn main(rt: HostRuntime) -> Result<()> {
     println!(rt; "the keys of this program hide nothing")?;
     let mut endpoints = endpoints(rt.alloc())?;
-    // Of what the client sends every fifth datagram is lost, of what the server sends every fourth.
-    let mut up = Lane::new(rt.alloc(), 5);
-    let mut down = Lane::new(rt.alloc(), 4);
-    request(&rt, endpoints.as_mut(), &mut up, &mut down)?;
-    print_losses(&rt, Side::Client, &up)?;
-    print_losses(&rt, Side::Server, &down)?;
-    print_states(&rt, endpoints.as_ref())
+    let Endpoints { client, server } = endpoints.as_mut();
+    let shown = show(&rt, client, server);
+    // By name, since a proof takes long where a function lets two endpoints go at its end.
+    drop(endpoints);
+    shown
 }

@@ -23,9 +23,29 @@ pub(crate) struct Lane {
     pub(crate) lost: u64,
 }
 
+/// Both ways of the network.
+#[derive(Drop)]
+pub(crate) struct Network {
+    /// From the client to the server.
+    pub(crate) up: Lane,
+    /// From the server to the client.
+    pub(crate) down: Lane,
+}
+
+impl Network {
+    /// Of what the client sends every fifth datagram is lost, of what the server sends every
+    /// fourth.
+    pub(crate) fn new(alloc: Global) -> Self {
+        Network {
+            up: Lane::new(alloc, 5),
+            down: Lane::new(alloc, 4),
+        }
+    }
+}
+
 impl Lane {
     /// A lane with no datagram. It loses each of this number; none where that is 0.
-    pub(crate) fn new(alloc: Global, loses_each: u64) -> Self {
+    fn new(alloc: Global, loses_each: u64) -> Self {
         Lane {
             flights: VecDeque::new(alloc),
             loses_each,
