@@ -2,8 +2,10 @@
 //! program is the network, the clock and both applications, and shows what each end needs of them.
 #![tactic(auto)]
 
+mod calls;
 mod party;
 
+use crate::calls::Calls;
 use crate::party::{MANY, Party};
 use anyhow::{Result, bail};
 use quic_connection::{
@@ -70,7 +72,7 @@ fn boxed(alloc: Global, end: End) -> Result<Box<End>, AllocError> {
 
 /// An end, as a handshake leaves it at moment 0: ids and parameters are exchanged, both ends have
 /// the keys, and the peer's address is validated.
-fn make_end(alloc: Global, side: Side) -> Result<Box<End>> {
+pub(crate) fn make_end(alloc: Global, side: Side) -> Result<Box<End>> {
     let told = parameters(alloc, !side)?;
     let making = Making {
         config: config(),
@@ -87,10 +89,10 @@ fn make_end(alloc: Global, side: Side) -> Result<Box<End>> {
 }
 
 /// An end whose application has these bytes to write.
-fn make(alloc: Global, side: Side, unwritten: &'static [u8]) -> Result<Party> {
+fn make<E: Calls>(alloc: Global, side: Side, unwritten: &'static [u8]) -> Result<Party<E>> {
     Ok(Party {
         side,
-        end: make_end(alloc, side)?,
+        end: E::new(alloc, side)?,
         sent: VecDeque::new(alloc),
         unwritten,
     })
@@ -98,7 +100,11 @@ fn make(alloc: Global, side: Side, unwritten: &'static [u8]) -> Result<Party> {
 
 /// Lets the client ask, the server answer and the client close, until no datagram is under way and
 /// no timer is set.
-fn talk(rt: &(impl Print + AllocGlobal), client: &mut Party, server: &mut Party) -> Result<()> {
+fn talk<E: Calls>(
+    rt: &(impl Print + AllocGlobal),
+    client: &mut Party<E>,
+    server: &mut Party<E>,
+) -> Result<()> {
     let mut now = Instant::from_nanos(0);
     let Some(id) = client.end.streams().open(Dir::Bi) else {
         bail!("the server lets no stream be opened");
@@ -125,10 +131,15 @@ fn talk(rt: &(impl Print + AllocGlobal), client: &mut Party, server: &mut Party)
     Ok(())
 }
 
+/// Makes both ends, and lets them talk.
+fn run<E: Calls>(rt: &(impl Print + AllocGlobal)) -> Result<()> {
+    let answer = b"42, but what was the question, once more?";
+    let mut client = make::<E>(rt.alloc(), Side::Client, b"What is the answer?")?;
+    let mut server = make::<E>(rt.alloc(), Side::Server, answer)?;
+    talk(rt, &mut client, &mut server)
+}
+
 fn main(rt: HostRuntime) -> Result<()> {
     println!(rt; "the keys of this program hide nothing")?;
-    let answer = b"42, but what was the question, once more?";
-    let mut client = make(rt.alloc(), Side::Client, b"What is the answer?")?;
-    let mut server = make(rt.alloc(), Side::Server, answer)?;
-    talk(&rt, &mut client, &mut server)
+    run::<End>(&rt)
 }

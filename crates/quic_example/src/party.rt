@@ -1,6 +1,6 @@
 //! An end with its application, as a program holds them.
 
-use crate::{End, PEER};
+use crate::calls::Calls;
 use anyhow::{Result, bail};
 use quic_connection::{
     Bytes, Duration, EcnCodepoint, Event, Instant, LostReason, ReadError, ReadableError, Side,
@@ -21,14 +21,14 @@ pub(crate) struct Flight {
 
 /// An end, its datagrams that are under way, and what its application has still to write.
 #[derive(Drop)]
-pub(crate) struct Party {
+pub(crate) struct Party<E> {
     pub(crate) side: Side,
-    pub(crate) end: Box<End>,
+    pub(crate) end: Box<E>,
     pub(crate) sent: VecDeque<Flight>,
     pub(crate) unwritten: &'static [u8],
 }
 
-impl Party {
+impl<E: Calls> Party<E> {
     /// What is done whenever a datagram, a moment or a call of the application was handed in: asks
     /// for datagrams until there is none, and for events until there is none.
     pub(crate) fn serve(&mut self, rt: &(impl Print + AllocGlobal), now: Instant) -> Result<()> {
@@ -69,11 +69,16 @@ impl Party {
     }
 
     /// Hands in what has come: a datagram of the peer, and a moment, by which timers expire.
-    pub(crate) fn take(&mut self, rt: &impl Print, peer: &mut Party, now: Instant) -> Result<()> {
+    pub(crate) fn take(
+        &mut self,
+        rt: &impl Print,
+        peer: &mut Party<E>,
+        now: Instant,
+    ) -> Result<()> {
         let has_arrived = peer.sent.front().is_some_and(|next| next.arrives <= now);
         if has_arrived && let Some(mut flight) = peer.sent.pop_front() {
             // It is opened in place.
-            let received = self.end.receive(now, PEER, flight.ecn, &mut flight.bytes);
+            let received = self.end.receive(now, flight.ecn, &mut flight.bytes);
             println!(rt; "  {} receives: {received}", self.side)?;
         }
         Ok(self.end.handle_timeout(now)?)
