@@ -243,8 +243,10 @@ impl Reader {
     pub fn read(&mut self, end: &mut impl Endpoint, id: StreamId) -> Result<bool, Fault> {
         match end.recv_stream(id).read(true) {
             Ok(mut chunks) => {
-                let ended = self.take_all(&mut chunks)?;
+                let ended = self.take_all(&mut chunks);
+                // Before an early return, since a proof takes longer where one lets it go.
                 let _ = chunks.finalize();
+                let ended = ended?;
                 self.ended = self.ended.wrapping_add(u64::from(ended));
                 Ok(ended)
             }
@@ -258,7 +260,13 @@ impl Reader {
     fn take_all(&mut self, chunks: &mut Chunks<'_>) -> Result<bool, Fault> {
         for _ in 0..u64::MAX {
             match chunks.next(self.piece) {
-                Ok(Some(chunk)) => self.take(&chunk)?,
+                Ok(Some(chunk)) => {
+                    let is_expected = self.take(&chunk);
+                    drop(chunk);
+                    if !is_expected {
+                        return Err(Fault::OtherBytes);
+                    }
+                }
                 Ok(None) => return Ok(true),
                 Err(ReadError::Blocked) => break,
                 Err(error) => return Err(error.into()),
@@ -267,19 +275,25 @@ impl Reader {
         Ok(false)
     }
 
-    /// Takes a piece.
-    fn take(&mut self, chunk: &Chunk) -> Result<(), Fault> {
+    /// Takes a piece, unless other bytes are expected: whether it was taken.
+    fn take(&mut self, chunk: &Chunk) -> bool {
         let bytes = chunk.bytes.as_slice();
-        if let Some(expected) = &self.expected
-            && (chunk.offset != self.bytes || !is_there(expected, chunk.offset, bytes))
-        {
-            return Err(Fault::OtherBytes);
+        if !self.is_expected(chunk.offset, bytes) {
+            return false;
         }
         let last = bytes.last().copied().unwrap_or(0);
         let mixed = self.checksum.wrapping_mul(31).wrapping_add(chunk.offset);
         self.checksum = mixed.wrapping_add(u64::from(last));
         self.bytes = self.bytes.wrapping_add(bytes.len() as u64);
-        Ok(())
+        true
+    }
+
+    /// Whether these bytes are to come next, at this offset.
+    fn is_expected(&self, offset: u64, bytes: &[u8]) -> bool {
+        match &self.expected {
+            Some(expected) => offset == self.bytes && is_there(expected, offset, bytes),
+            None => true,
+        }
     }
 }
 
