@@ -12,7 +12,7 @@ ghost use Rattle.quic_streams_halves.specs.Halves.{Halves, no_halves, has_place,
 use crate::places::Places;
 use quic_assembler::{Chunk, IllegalOrderedRead};
 use quic_copies::Copies;
-use quic_streams_parts::{Numbered, ReadError, Recv};
+use quic_streams_parts::{Kept, Numbered, ReadError, Recv};
 use quic_wire::frame::Stream;
 use quic_wire_core::{Side, StreamId, VarInt};
 use std::alloc::{AllocError, Global};
@@ -29,7 +29,8 @@ pub struct RecvHalves {
     consumed: u64,
     // Frames that come in order are copied here.
     copies: Copies,
-    // For the idle part that stands in a place that waits to be used again.
+    // For the idle part that stands in a place that waits to be used again, where the part that
+    // stood there may hold memory.
     alloc: Global,
 }
 
@@ -70,6 +71,18 @@ fn take_on(half: &mut Recv, frame: &Stream<'_>, copies: &mut Copies) -> Result<(
         return Ok(());
     }
     half.insert(frame, copies)
+}
+
+// The place of a part that is done may be used again. One that was read up holds no memory, and
+// another gives way to an idle one.
+fn give_back(live: &mut Numbered<Recv>, mut kept: Kept<Recv>, alloc: Global)
+    ensures { live.new ≡ live.old }
+{
+    let half = kept.get();
+    if half.is_stopped() || half.reset_code().is_some() {
+        kept.set(Recv::new(alloc, 0));
+    }
+    live.give_back(kept);
 }
 
 impl RecvHalves {
@@ -153,7 +166,7 @@ impl RecvHalves {
         let (seen, consumed) = (half.end(), half.credit());
         self.seen -= seen;
         self.consumed -= consumed;
-        self.live.give_back(kept, Recv::new(self.alloc, 0));
+        give_back(&mut self.live, kept, self.alloc);
         seen
     }
 
@@ -257,22 +270,22 @@ impl RecvHalves {
         half.begin(ordered)
     }
 
-    /// Reads on of a part, which is in use. An answer without bytes changes nothing.
+    /// Reads on of a part. An answer without bytes changes nothing.
     ///
     /// # Errors
     ///
     /// - [`ReadError::Reset`]: the peer reset the stream. Nothing changes.
-    /// - [`ReadError::Blocked`]: no byte waits that may be given, and not all up to the final size
-    ///   were read. Nothing changes.
+    /// - [`ReadError::Blocked`]: the part isn't in use, or no byte waits that may be given, and not
+    ///   all up to the final size were read. Nothing changes.
     /// - [`ReadError::Memory`]: an allocation fails. Nothing changes.
     pub fn next(&mut self, id: StreamId, max: usize) -> Result<Option<Chunk>, ReadError>
-        requires { IsSome (at self.old.live id) }
         ensures answer { result ≢ Err read_errors.Memory → IfSome (at self.old.live id) (λ h. result ≡ next_of h max) }
+        ensures none { at self.old.live id ≡ None → result ≡ Err read_errors.Blocked }
         ensures new { self.new ≡ changed (λ h. half_after_next result h max) self.old id }
         ensures lacking { result ≡ Err read_errors.Memory → IfSome (at self.old.live id) (λ h. read_may_lack h.arrived max ≡ true) }
     {
         let Some(half) = self.live.get_mut(u64::from(id)) else {
-            return Ok(None);
+            return Err(ReadError::Blocked);
         };
         let consumed = half.credit();
         let answer = half.next(max);

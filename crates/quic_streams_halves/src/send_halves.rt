@@ -16,10 +16,14 @@ use crate::queued;
 use bytes::Bytes;
 use quic_copies::Copies;
 use quic_send_buffer::StreamMeta;
-use quic_streams_parts::{Numbered, Place, Send, WriteError};
+use quic_streams_parts::{Kept, Numbered, Place, Send, WriteError};
 use quic_wire_core::{Side, StreamId, VarInt};
 use std::alloc::{AllocError, Global};
 use std::marker::Model;
+
+// On how many bytes at most a part was written whose place is used again as it is: so what is left
+// of their pieces, of which none holds a byte any more, is little memory.
+const MOST_AS_IT_IS: u64 = 256;
 
 /// The sending parts of all streams of one end.
 #[derive(Drop)]
@@ -30,7 +34,8 @@ pub struct SendHalves {
     buffered: u64,
     // What is written is copied here.
     copies: Copies,
-    // For the idle part that stands in a place that waits to be used again.
+    // For the idle part that stands in a place that waits to be used again, where much was written
+    // on the part that stood there.
     alloc: Global,
 }
 
@@ -46,6 +51,17 @@ impl Model for SendHalves {
     ghost use Rattle.std.specs.Prelude.{◌≡◌};
 
     ghost invariant = { λ h. h.buffered ≡ buffered_in h.live };
+}
+
+// The place of a part that is done may be used again. One on which little was written holds next to
+// no memory, and another gives way to an idle one.
+fn give_back(live: &mut Numbered<Send>, mut kept: Kept<Send>, alloc: Global)
+    ensures { live.new ≡ live.old }
+{
+    if kept.get().offset() > MOST_AS_IT_IS {
+        kept.set(Send::new(alloc, VarInt::from_u32(0)));
+    }
+    live.give_back(kept);
 }
 
 impl SendHalves {
@@ -123,8 +139,7 @@ impl SendHalves {
     {
         if let Some(half) = self.live.remove(u64::from(id)) {
             self.buffered -= half.get().buffered();
-            let idle = Send::new(self.alloc, VarInt::from_u32(0));
-            self.live.give_back(half, idle);
+            give_back(&mut self.live, half, self.alloc);
         }
     }
 

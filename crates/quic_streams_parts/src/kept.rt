@@ -52,7 +52,7 @@ impl<T> Kept<T> {
     }
 
     /// The value gives way to another, which stands at its place.
-    pub(crate) fn set(&mut self, value: T)
+    pub fn set(&mut self, value: T)
     where
         T: Drop,
         ensures { self.new ≡ value }

@@ -14,7 +14,7 @@ use std::alloc::{AllocError, Global};
 use std::marker::Model;
 
 /// How many places wait to be used again at most: as many as streams of a few bytes come and go
-/// within a round trip, and 40 KB of both halves at most.
+/// within a round trip, and 40 KB of both halves at most, beside what memory their values hold.
 const MAX_SPARE: usize = 64;
 
 /// Values by number, of numbers of four kinds, which their last two bits tell apart, where those of
@@ -25,7 +25,7 @@ const MAX_SPARE: usize = 64;
 pub struct Numbered<T> {
     // Each kind by its numbers without these bits, up to the last kind of which one came.
     kinds: Vec<ByNumber<Kept<T>>>,
-    // Places that were given back, each with an idle value.
+    // Places that were given back, each with a value that counts no more.
     spare: Vec<Kept<T>>,
     alloc: Global,
 }
@@ -156,14 +156,13 @@ impl<T> Numbered<T> {
     }
 
     /// Takes back the place of a value that was taken out, to be used again, unless enough wait.
-    /// The value gives way to an idle one, which should hold no memory.
-    pub fn give_back(&mut self, mut kept: Kept<T>, idle: T)
+    /// The value stays there until then, so it should hold next to no memory.
+    pub fn give_back(&mut self, kept: Kept<T>)
     where
         T: Drop,
         ensures { self.new ≡ self.old }
     {
         if self.spare.len() < MAX_SPARE {
-            kept.set(idle);
             // Where memory lacks, the place is let go.
             let _ = self.spare.push(kept);
         }

@@ -135,18 +135,15 @@ impl StreamsState {
         ensures new { self.new ≡ after_next told_bytes result self.old id max }
         ensures lacking { result ≡ Err read_errors.Memory → IsSomeAnd (at self.old.receiving.halves.live id) (λ h. read_may_lack h.arrived max ≡ true) }
     {
-        let Some(half) = self.receiving.get(id) else {
-            return Err(ReadError::Blocked);
-        };
-        if let Some(code) = half.reset_code() {
-            self.recv_done(id);
-            return Err(ReadError::Reset(code));
-        }
         match self.receiving.next(id, max) {
             Ok(Some(chunk)) => Ok(Some(chunk)),
             Ok(None) => {
                 self.recv_done(id);
                 Ok(None)
+            }
+            Err(ReadError::Reset(code)) => {
+                self.recv_done(id);
+                Err(ReadError::Reset(code))
             }
             Err(error) => Err(error),
         }

@@ -238,17 +238,17 @@ impl Receiving {
         self.recv.begin(id, ordered)
     }
 
-    /// Reads on of a half, which is in use. An answer without bytes changes nothing.
+    /// Reads on of a half. An answer without bytes changes nothing.
     ///
     /// # Errors
     ///
     /// - [`ReadError::Reset`]: the peer reset the stream. Nothing changes.
-    /// - [`ReadError::Blocked`]: no byte waits that may be given, and not all up to the final size
-    ///   were read. Nothing changes.
+    /// - [`ReadError::Blocked`]: the half isn't in use, or no byte waits that may be given, and not
+    ///   all up to the final size were read. Nothing changes.
     /// - [`ReadError::Memory`]: an allocation fails. Nothing changes.
     pub fn next(&mut self, id: StreamId, max: usize) -> Result<Option<Chunk>, ReadError>
-        requires { IsSome (at self.old.halves.live id) }
         ensures answer { result ≢ Err read_errors.Memory → IfSome (at self.old.halves.live id) (λ h. result ≡ next_of h max) }
+        ensures none { at self.old.halves.live id ≡ None → result ≡ Err read_errors.Blocked }
         ensures new { self.new ≡ record self.old { halves = changed (λ h. half_after_next result h max) self.old.halves id } }
         ensures lacking { result ≡ Err read_errors.Memory → IfSome (at self.old.halves.live id) (λ h. read_may_lack h.arrived max ≡ true) }
     {
